@@ -1,0 +1,28 @@
+-- The constants of b2_common.rs that the collision code uses, by their bit patterns, and the floats 0, 1/2 and 1. Definitions only.
+use lib.Ieee.{Float, binary32, ofBits}
+
+-- the literals 0.0, 0.5 and 1.0
+abbrev pub zero32 : Float
+zero32 = ofBits binary32 0
+
+abbrev pub half32 : Float
+half32 = ofBits binary32 0x3f00_0000
+
+abbrev pub one32 : Float
+one32 = ofBits binary32 0x3f80_0000
+
+-- (2^24 - 1) * 2^104, the largest finite f32
+abbrev pub b2-max-float : Float
+b2-max-float = ofBits binary32 0x7f7f_ffff
+
+-- 1/2^23
+abbrev pub b2-epsilon : Float
+b2-epsilon = ofBits binary32 0x3400_0000
+
+-- 0.005, rounded: 5368709/2^30
+abbrev pub b2-linear-slop : Float
+b2-linear-slop = ofBits binary32 0x3ba3_d70a
+
+-- twice the slop: 5368709/2^29
+abbrev pub b2-polygon-radius : Float
+b2-polygon-radius = ofBits binary32 0x3c23_d70a

@@ -1,0 +1,5 @@
+pub mod Value
+pub mod Sqrt
+pub mod B2Common
+pub mod B2Math
+pub mod Ranges

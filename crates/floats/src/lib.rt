@@ -1,0 +1,5 @@
+// f32 arithmetic of the collision code: constants, bit patterns, range tests, the square root, vectors, rotations and
+// transforms. Each function equals its definition in specs/ on every input.
+pub mod b2_common;
+pub mod b2_math;
+pub mod b2_settings;
