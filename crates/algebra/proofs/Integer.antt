@@ -1,13 +1,12 @@
 -- Equality and order of signed whole numbers: `≐` is an equivalence that every operation respects but the product (Products has
 -- that one), `≼` and `≺` are orders that respect it, and natural multiples keep them and can be cancelled. Assumes nothing.
-use mathlib.Core.Path.{_≡_, refl, ap, ap₂}
+use mathlib.Core.Path.{_≡_, refl, ap}
 use mathlib.Core.Logic.{_⊎_, inl, inr}
-use mathlib.Core.Bool.{Bool, true, false}
 use Prim.Native.Nat.{ℕ, _+_, _*_, _≤_, _<_}
 use native.Mathlib.Nat.{mul-le-mul-left, le-of-mul-le-mul-right, mul-lt-mul-of-pos-left, lt-of-mul-lt-mul-left, eq-of-mul-eq-mul-left}
 use native.Mathlib.Decide.{decLt}
 use native.Mathlib.Omega.{arith}
-use Rattle.algebra.specs.Integer.{Z, whole, signed, _⊞_, _⊟_, _⊠_, opp, _⊛_, _≐_, _≼_, _≺_}
+use Rattle.algebra.specs.Integer.{Z, whole, _⊞_, _⊟_, _⊠_, opp, _⊛_, _≐_, _≼_, _≺_}
 
 -- ---- the same number
 pub same-refl : (a : Z) → a ≐ a

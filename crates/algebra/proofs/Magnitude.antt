@@ -1,12 +1,12 @@
 -- Sizes, |a| ≤ n: the triangle inequality by an identity, products, perturbed products, scaling and cancelling a natural factor;
 -- and the sign and the size of any number. Assumes nothing.
-use mathlib.Core.Path.{_≡_, refl, ap}
+use mathlib.Core.Path.{_≡_, ap}
 use mathlib.Core.Bool.{Bool, true, false}
 use Prim.Native.Nat.{ℕ, _+_, _-_, _*_, _≤_, _<_}
 use native.Mathlib.Nat.{le-refl, le-trans, le-of-eq, mul-add, mul-le-mul-left, mul-le-mul-right, le-of-mul-le-mul-right}
 use native.Mathlib.Decide.{decLe}
 use native.Mathlib.Omega.{arith}
-use Rattle.algebra.specs.Integer.{Z, whole, signed, _⊞_, _⊟_, _⊠_, opp, _⊛_, _≐_, _≼_, Abs}
+use Rattle.algebra.specs.Integer.{Z, whole, signed, _⊞_, _⊟_, _⊠_, opp, _⊛_, _≐_, Abs}
 
 -- ---- |a| ≤ n
 pub abs-widen : (a : Z) (m n : ℕ) → Abs a m → m ≤ n → Abs a n
