@@ -1,1 +1,9 @@
+pub mod Integer
+pub mod Magnitude
+pub mod Products
+pub mod Squares
+pub mod Ring
+pub mod Plane
+pub mod Lists
 pub mod Buffer
+pub mod Controls

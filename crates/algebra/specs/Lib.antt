@@ -1,3 +1,6 @@
 pub mod Integer
 pub mod Squares
+pub mod Polynomial
+pub mod Plane
+pub mod Lists
 pub mod Buffer
