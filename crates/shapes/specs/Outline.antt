@@ -1,0 +1,122 @@
+-- Document 01, "Outlines": welding, the start, the walk, normals, area and centroid, on lists of points and in the code's order of
+-- operations. Places count from 0. Definitions only.
+use mathlib.Core.Bool.{Bool, true, false, not, cond, _&&_, _||_}
+use mathlib.Core.List.{List, [], _∷_, _++_, map}
+use mathlib.Core.Option.{Option, none, some}
+use Prim.Native.Nat.{ℕ, zero, suc, _-_}
+use lib.Dec.{ltb, eqb}
+use lib.ListN.{length, getD}
+use lib.Ieee.{Float, binary32, ofBits, add, mul, div, lt, eq}
+use Rattle.floats.specs.declared.b2_math.B2vec2.{B2vec2}
+use Rattle.floats.specs.B2Common.{zero32, half32, one32}
+use Rattle.floats.specs.B2Math.{vec2, b2-add, b2-sub, b2-scale, b2-cross, b2-cross-vec-by-scalar, b2-length-squared, b2-distance-vec2-squared, b2-normalize}
+
+abbrev pub origin : B2vec2
+origin = vec2 zero32 zero32
+
+-- the point at a place
+abbrev pub point-at : List B2vec2 → ℕ → B2vec2
+point-at ps i = getD ps i origin
+
+-- ---- welding: a point is dropped when its squared distance to an earlier kept one is strictly below (0.5 * 0.005) * (0.5 * 0.005)
+abbrev pub weld-limit : Float
+weld-limit = ofBits binary32 0x36d1_b717
+
+unfoldable pub near-kept : B2vec2 → List B2vec2 → Bool
+near-kept v [] = false
+near-kept v (p ∷ kept) = lt (b2-distance-vec2-squared v p) weld-limit || near-kept v kept
+
+unfoldable pub weld-onto : List B2vec2 → List B2vec2 → List B2vec2
+weld-onto kept [] = kept
+weld-onto kept (v ∷ vs) = weld-onto (cond (near-kept v kept) kept (kept ++ (v ∷ []))) vs
+
+unfoldable pub weld : List B2vec2 → List B2vec2
+weld points = weld-onto [] points
+
+-- ---- the start: largest x, smallest y among equals; the first such place
+abbrev pub comes-before : B2vec2 → B2vec2 → Bool
+comes-before p best = lt (best .x) (p .x) || eq (p .x) (best .x) && lt (p .y) (best .y)
+
+-- among the places 0 to k
+unfoldable pub start-to : List B2vec2 → ℕ → ℕ
+start-to ps zero = 0
+start-to ps (suc k) = cond (comes-before (point-at ps (suc k)) (point-at ps (start-to ps k))) (suc k) (start-to ps k)
+
+unfoldable pub start : List B2vec2 → ℕ
+start ps = start-to ps (length ps - 1)
+
+-- ---- the next corner: the candidate begins at place 0 and is replaced by j when the cross product is below 0, or equals 0 and j is
+-- farther; a candidate equal to the corner itself is replaced unseen
+abbrev pub replaced-by : B2vec2 → B2vec2 → B2vec2 → Bool
+replaced-by corner candidate p =
+    lt (b2-cross (b2-sub candidate corner) (b2-sub p corner)) zero32
+    || eq (b2-cross (b2-sub candidate corner) (b2-sub p corner)) zero32
+    && lt (b2-length-squared (b2-sub candidate corner)) (b2-length-squared (b2-sub p corner))
+
+-- among the places 0 to k
+unfoldable pub next-to : List B2vec2 → ℕ → ℕ → ℕ
+next-to ps corner zero = 0
+next-to ps corner (suc k) =
+    cond
+    (eqb (next-to ps corner k) corner || replaced-by (point-at ps corner) (point-at ps (next-to ps corner k)) (point-at ps (suc k)))
+    (suc k)
+    (next-to ps corner k)
+
+unfoldable pub next : List B2vec2 → ℕ → ℕ
+next ps corner = next-to ps corner (length ps - 1)
+
+-- ---- the walk, from a corner until the next is the start again: the places of its corners, none where it is not back within so many
+abbrev pub onto : ℕ → Option (List ℕ) → Option (List ℕ)
+onto place none = none
+onto place (some row) = some (place ∷ row)
+
+unfoldable pub walk : List B2vec2 → ℕ → ℕ → ℕ → Option (List ℕ)
+walk ps start zero corner = none
+walk ps start (suc corners) corner =
+    cond (eqb (next ps corner) start) (some (corner ∷ [])) (onto corner (walk ps start corners (next ps corner)))
+
+-- ---- edges and normals: each corner with the next, the first after the last
+abbrev pub edges-from : B2vec2 → B2vec2 → List B2vec2 → List B2vec2
+edges-from first p [] = b2-sub first p ∷ []
+edges-from first p (q ∷ qs) = b2-sub q p ∷ edges-from first q qs
+
+unfoldable pub edges : List B2vec2 → List B2vec2
+edges [] = []
+edges (p ∷ ps) = edges-from p p ps
+
+-- 2^-46, the square of 2^-23
+abbrev pub epsilon-squared : Float
+epsilon-squared = ofBits binary32 0x2880_0000
+
+unfoldable pub long-enough : List B2vec2 → Bool
+long-enough [] = true
+long-enough (e ∷ es) = lt epsilon-squared (b2-length-squared e) && long-enough es
+
+abbrev pub normal-of-edge : B2vec2 → B2vec2
+normal-of-edge e = b2-normalize (b2-cross-vec-by-scalar e one32) .v
+
+-- ---- area and centroid: triangles from the first corner, summed in corner order
+pub record Fan : Type 0 where
+  pub area : Float
+  pub moment : B2vec2
+
+-- 1/3, rounded: 11184811/2^25
+abbrev pub third : Float
+third = ofBits binary32 0x3eaa_aaab
+
+-- the triangle of p1, p2 and p3, all measured from the first corner, added to a sum
+abbrev pub with-triangle : B2vec2 → B2vec2 → B2vec2 → Fan → Fan
+with-triangle p1 p2 p3 sum =
+    let part = mul binary32 half32 (b2-cross (b2-sub p2 p1) (b2-sub p3 p1)) in
+    record { area = add binary32 (sum .area) part; moment = b2-add (sum .moment) (b2-scale (mul binary32 part third) (b2-add (b2-add p1 p2) p3)) }
+
+abbrev pub fan-from : B2vec2 → B2vec2 → List B2vec2 → Fan → Fan
+fan-from s p [] sum = with-triangle (b2-sub s s) (b2-sub p s) (b2-sub s s) sum
+fan-from s p (q ∷ qs) sum = fan-from s q qs (with-triangle (b2-sub s s) (b2-sub p s) (b2-sub q s) sum)
+
+unfoldable pub fan : List B2vec2 → Fan
+fan [] = record { area = zero32; moment = origin }
+fan (s ∷ ps) = fan-from s s ps (record { area = zero32; moment = origin })
+
+abbrev pub centroid-of : B2vec2 → Fan → B2vec2
+centroid-of s sum = b2-add (b2-scale (div binary32 one32 (sum .area)) (sum .moment)) s
