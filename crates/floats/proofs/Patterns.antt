@@ -1,14 +1,14 @@
 -- The values of bit patterns: of positive numbers, normal and subnormal, and of r digits at the scale k. Two values that fit the
 -- format, of the same size and not negative, are one. Assumes nothing.
 use mathlib.Core.Path.{_≡_, refl, sym, ap, _∙_, subst}
-use mathlib.Core.Logic.{_⊎_, inl, inr}
-use mathlib.Core.Bool.{Bool, true, false, not, cond, true≢false}
-use Prim.Native.Nat.{ℕ, zero, suc, _+_, _-_, _*_, _/_, _%_, _^_, _≤_, _<_}
+use mathlib.Core.Logic.{inl, inr}
+use mathlib.Core.Bool.{Bool, true, false, cond, true≢false}
+use Prim.Native.Nat.{ℕ, suc, _+_, _-_, _*_, _/_, _%_, _^_, _≤_, _<_}
 use native.Mathlib.Nat.{not-le-of-lt, mul-div-cancel, mul-one, eq-or-lt-of-le, pow-succ'}
 use native.Mathlib.Omega.{arith}
 use lib.IntN.{ℤ}
 use lib.Dec.{T, leb, eqb, leb→le, eqb→eq, lit<, not-T}
-use lib.Ieee.{Float, nan, inf, fin, Format, binary32, up, down, size, odd, fits, hid, top, ofFields, ofBits, toBits}
+use lib.Ieee.{Float, nan, inf, fin, binary32, up, down, size, odd, fits, ofFields, ofBits, toBits}
 use lib.Ieee.Fits.{down-pos}
 use lib.Ieee.Exact.{HasValue, odd-sign}
 use lib.Ieee.Bits.{ofBits-toBits, is-false, cond-no}
@@ -83,7 +83,8 @@ subnormal-fields t = refl
 -- ---- the values
 pub normal-units : (x t : ℕ) → suc x < 255 → t < 2 ^ 23 → Units (ofBits binary32 (suc x * 2 ^ 23 + t)) ((2 ^ 23 + t) * 2 ^ x)
 normal-units x t x-small t-small =
-    subst (λ (z : Float). Units z ((2 ^ 23 + t) * 2 ^ x)) (sym (pattern-of-fields (suc x) t x-small t-small ∙ normal-fields x t x-small))
+    subst (λ (z : Float). Units z ((2 ^ 23 + t) * 2 ^ x))
+    (sym (pattern-of-fields (suc x) t x-small t-small ∙ normal-fields x t x-small))
     (odd-sign 24 false (2 ^ 23 + t) x 149)
 
 pub subnormal-units : (t : ℕ) → t < 2 ^ 23 → Units (ofBits binary32 t) t

@@ -6,7 +6,7 @@ use Prim.Native.Nat.{ℕ, zero, suc, _+_, _-_, _*_, _/_, _%_, _^_, _≤_, _<_}
 use native.Mathlib.Nat.{le-trans, le-of-eq, le-antisymm, le-dest, lt-of-lt-of-le, lt-of-not-le, not-le-of-lt}
 use native.Mathlib.Nat.{mul-le-mul-right, mul-lt-mul-of-pos-right, le-of-mul-le-mul-right, mul-assoc, one-mul, pow-succ'}
 use native.Mathlib.Omega.{arith}
-use lib.Dec.{T, leb, leb→le, nleb→lt, lit≤}
+use lib.Dec.{T, leb, leb→le, nleb→lt}
 use lib.Pow.{pow-add, pow-mono, pow-pos}
 use lib.Ieee.{binary32, size, ofBits}
 use lib.Ieee.Digits.{size-lt, size-le}
@@ -14,7 +14,7 @@ use lib.Ieee.Bits.{ofBits-fits}
 use Rattle.floats.specs.Sqrt.{rounded-root}
 use Rattle.floats.specs.Root.{NearestRoot}
 use Rattle.floats.proofs.WholeRoot.{four-pow-add, four-pow-pos}
-use Rattle.floats.proofs.RoundedRoot.{HalfUnit, RoundedRoot, rounded-root-is}
+use Rattle.floats.proofs.RoundedRoot.{HalfUnit, rounded-root-is}
 use Rattle.floats.proofs.Patterns.{Units, same-units-equal, digits-units}
 
 -- ---- there is one nearest whole number
@@ -68,7 +68,8 @@ module _ (n k : ℕ) (n-low : 2 ^ 46 ≤ n) (n-high : n < 2 ^ 48) where
       halved : (z : ℕ) → z ≤ 48 + (k + k) → 46 + (k + k) < z → (z + 1) / 2 - 24 ≡ k
       halved z a b = omega arith
 
-  pub rounded-root-pattern : (r : ℕ) → 1 ≤ k → k < 190 → NearestRoot n r → ofBits binary32 (k * 2 ^ 23 + r) ≡ rounded-root binary32 (n * 4 ^ k)
+  pub rounded-root-pattern : (r : ℕ) → 1 ≤ k → k < 190 → NearestRoot n r
+      → ofBits binary32 (k * 2 ^ 23 + r) ≡ rounded-root binary32 (n * 4 ^ k)
   rounded-root-pattern r k-low k-high r-nearest =
       let y = n * 4 ^ k in
       let digits-low : 48 ≤ 46 + (k + k) = omega arith in
@@ -118,7 +119,8 @@ widened-scaled f g h =
     ap (λ (x : ℕ). f * 2 ^ x) (exponent-halved g h)
     ∙ ap (λ (x : ℕ). f * x) (sym (four-pow-add (23 + p) k) ∙ ap (λ (x : ℕ). x * 4 ^ k) (pow-add 2 23 p))
     ∙ sym (mul-assoc f (2 ^ 23 * 2 ^ p) (4 ^ k))
-    ∙ ap (λ (x : ℕ). x * 4 ^ k) (sym (mul-assoc f (2 ^ 23) (2 ^ p)) ∙ ap (λ (x : ℕ). f * 2 ^ 23 * x) (sym (parity-power p (omega arith))))
+    ∙ ap (λ (x : ℕ). x * 4 ^ k)
+    (sym (mul-assoc f (2 ^ 23) (2 ^ p)) ∙ ap (λ (x : ℕ). f * 2 ^ 23 * x) (sym (parity-power p (omega arith))))
 
 pub scaled-root-pattern : (f g r : ℕ) → 2 ^ 23 ≤ f → f < 2 ^ 24 → 4 ≤ g → g < 382 → NearestRoot (widened f g) r
     → ofBits binary32 ((g / 2 - 1) * 2 ^ 23 + r) ≡ rounded-root binary32 (f * 2 ^ (g + 21))

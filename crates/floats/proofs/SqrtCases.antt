@@ -1,23 +1,27 @@
 -- `sqrt binary32` by the kind of its operand: above zero it is the rounded root of the operand's units; a negative number and a NaN
 -- have the root NaN, and zeros and infinity are their own. Assumes nothing.
 use mathlib.Core.Path.{_≡_, refl, sym, ap, _∙_, subst}
-use mathlib.Core.Bool.{Bool, true, false, cond, true≢false}
-use Prim.Native.Nat.{ℕ, zero, suc, _+_, _-_, _*_, _/_, _%_, _^_, _≤_, _<_}
-use native.Mathlib.Nat.{le-of-lt, lt-irrefl, add-comm, zero-add, mul-one, zero-mul, mul-assoc, mul-pos, mul-div-cancel}
+use mathlib.Core.Logic.{inl, inr}
+use mathlib.Core.Bool.{Bool, true, false, not, cond, true≢false}
+use Prim.Native.Nat.{ℕ, zero, suc, _+_, _*_, _/_, _%_, _^_, _≤_, _<_}
+use native.Mathlib.Nat.{le-of-lt, le-antisymm, eq-or-lt-of-le, lt-irrefl, add-comm, zero-add, mul-one, zero-mul, mul-assoc, mul-pos, mul-div-cancel}
 use native.Mathlib.Omega.{arith}
 use lib.Dec.{T, leb, eqb, le→leb}
 use lib.Pow.{pow-add, pow-pos}
 use lib.IntN.{ℤ}
-use lib.Ieee.{Float, nan, inf, fin, binary32, up, down, odd, fits, ofFields, ofBits, toBits}
+use lib.Ieee.{Float, nan, inf, fin, binary32, up, down, odd, fits, isNan, ofFields, ofBits, toBits}
 use lib.Ieee.Fits.{down-pos}
 use lib.Ieee.Exact.{HasValue, odd-sign}
 use lib.Ieee.Bits.{ofBits-toBits, is-true}
 use Rattle.floats.specs.Sqrt.{sqrt, rounded-root}
+use Rattle.floats.proofs.Nan.{pattern-le-infinity}
 use Rattle.floats.proofs.Patterns.{Units, normal-units, subnormal-units, fields-of-pattern}
 
 -- a significand of 0 has no units
 zero-has-none : (e : ℤ) (n : ℕ) → 0 * up e * 2 ^ 149 ≡ n * down e → 0 < n → ⊥
-zero-has-none e n h n-pos = none (0 * up e * 2 ^ 149) (n * down e) (ap (λ (x : ℕ). x * 2 ^ 149) (zero-mul (up e)) ∙ zero-mul (2 ^ 149)) h (mul-pos n-pos (down-pos e))
+zero-has-none e n h n-pos =
+    none (0 * up e * 2 ^ 149) (n * down e)
+    (ap (λ (x : ℕ). x * 2 ^ 149) (zero-mul (up e)) ∙ zero-mul (2 ^ 149)) h (mul-pos n-pos (down-pos e))
   where
     none : (a b : ℕ) → a ≡ 0 → a ≡ b → 0 < b → ⊥
     none a b p q r = omega arith
@@ -100,9 +104,23 @@ unfolding ofBits sqrt
 infinity-own-root = refl
 
 -- from patterns to values
-pub own-root-by-pattern : (x : Float) (b : ℕ) → T (fits binary32 x) → toBits binary32 x ≡ b → ofBits binary32 b ≡ sqrt binary32 (ofBits binary32 b) → x ≡ sqrt binary32 x
+pub own-root-by-pattern : (x : Float) (b : ℕ) → T (fits binary32 x) → toBits binary32 x ≡ b
+    → ofBits binary32 b ≡ sqrt binary32 (ofBits binary32 b) → x ≡ sqrt binary32 x
 own-root-by-pattern x b x-fits e h =
     subst (λ (y : Float). y ≡ sqrt binary32 y) (ap (ofBits binary32) (sym e) ∙ ofBits-toBits binary32 x x-fits) h
 
-pub root-by-pattern : (x r : Float) → T (fits binary32 x) → r ≡ sqrt binary32 (ofBits binary32 (toBits binary32 x)) → r ≡ sqrt binary32 x
+pub root-by-pattern : (x r : Float) → T (fits binary32 x)
+    → r ≡ sqrt binary32 (ofBits binary32 (toBits binary32 x)) → r ≡ sqrt binary32 x
 root-by-pattern x r x-fits h = h ∙ ap (sqrt binary32) (ofBits-toBits binary32 x x-fits)
+
+-- from infinity's pattern to that of -0 there are NaNs only
+pub infinity-to-minus-zero-own-root : (x : Float) → T (fits binary32 x) → T (not (isNan x))
+    → 255 * 2 ^ 23 ≤ toBits binary32 x → toBits binary32 x ≤ 2 ^ 31 → x ≡ sqrt binary32 x
+infinity-to-minus-zero-own-root x x-fits not-nan low high =
+    elim (eq-or-lt-of-le high) [
+      | inl e ↦ own-root-by-pattern x (2 ^ 31) x-fits e minus-zero-own-root
+      | inr h ↦
+          let back : T (not (isNan (ofBits binary32 (toBits binary32 x)))) =
+          subst (λ (y : Float). T (not (isNan y))) (sym (ofBits-toBits binary32 x x-fits)) not-nan in
+          own-root-by-pattern x (255 * 2 ^ 23) x-fits (le-antisymm (pattern-le-infinity (toBits binary32 x) h back) low) infinity-own-root
+    ]

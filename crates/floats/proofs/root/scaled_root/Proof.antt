@@ -1,7 +1,6 @@
 -- `scaled_root` meets its contract: n has 47 or 48 digits, and the pattern made of half of g and the nearest root of n is that of
 -- the rounded root. Assumes nothing.
-use mathlib.Core.Path.{_≡_}
-use Prim.Native.Nat.{_+_, _-_, _*_, _/_, _%_, _^_, _≤_, _<_}
+use Prim.Native.Nat.{_^_, _≤_, _<_}
 use native.Mathlib.Omega.{arith}
 use borrow.Author.Needs.{needs}
 use Rattle.floats.proofs.Nan.{not-nan-pattern}
