@@ -3,3 +3,4 @@
 pub mod b2_common;
 pub mod b2_math;
 pub mod b2_settings;
+mod root;
