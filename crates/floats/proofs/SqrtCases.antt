@@ -4,7 +4,8 @@ use mathlib.Core.Path.{_≡_, refl, sym, ap, _∙_, subst}
 use mathlib.Core.Logic.{inl, inr}
 use mathlib.Core.Bool.{Bool, true, false, not, cond, true≢false}
 use Prim.Native.Nat.{ℕ, zero, suc, _+_, _*_, _/_, _%_, _^_, _≤_, _<_}
-use native.Mathlib.Nat.{le-of-lt, le-antisymm, eq-or-lt-of-le, lt-irrefl, add-comm, zero-add, mul-one, zero-mul, mul-assoc, mul-pos, mul-div-cancel}
+use native.Mathlib.Nat.{le-of-lt, le-antisymm, eq-or-lt-of-le, lt-irrefl}
+use native.Mathlib.Nat.{add-comm, zero-add, mul-one, zero-mul, mul-assoc, mul-pos, mul-div-cancel}
 use native.Mathlib.Omega.{arith}
 use lib.Dec.{T, leb, eqb, le→leb}
 use lib.Pow.{pow-add, pow-pos}
@@ -122,5 +123,6 @@ infinity-to-minus-zero-own-root x x-fits not-nan low high =
       | inr h ↦
           let back : T (not (isNan (ofBits binary32 (toBits binary32 x)))) =
           subst (λ (y : Float). T (not (isNan y))) (sym (ofBits-toBits binary32 x x-fits)) not-nan in
-          own-root-by-pattern x (255 * 2 ^ 23) x-fits (le-antisymm (pattern-le-infinity (toBits binary32 x) h back) low) infinity-own-root
+          let same : toBits binary32 x ≡ 255 * 2 ^ 23 = le-antisymm (pattern-le-infinity (toBits binary32 x) h back) low in
+          own-root-by-pattern x (255 * 2 ^ 23) x-fits same infinity-own-root
     ]
