@@ -1,6 +1,6 @@
 -- Writing words: four stores at the front of a buffer are one `over`, and the words written so far grow by one. Assumes nothing.
 use Prim.Native.Nat.{ℕ, _+_, _-_, _*_, _≤_, _<_}
-use mathlib.Core.Path.{_≡_, refl, sym, _∙_, ap}
+use mathlib.Core.Path.{_≡_, refl, sym, _∙_, ap, subst}
 use mathlib.Core.List.{List, [], _∷_, _++_}
 use native.Mathlib.Omega.{arith}
 use native.Mathlib.Numerals.{add-one}
@@ -10,7 +10,7 @@ use borrow.Author.Tests.{le-leb, lt-leb}
 use borrow.Rule.Slice.PartMut.{putMid, midOf}
 use Rattle.algebra.specs.Buffer.{over}
 use Rattle.algebra.proofs.Buffer.{over-next}
-use Rattle.calls.specs.Words.{bytes-of-word, bytes-of, written, written-count}
+use Rattle.calls.specs.Words.{bytes-of-word, bytes-of, written, written-count, Written}
 
 pub four-stores : (l : List ℕ) (a b c d : ℕ) → 4 ≤ length l
     → set (set (set (set l 0 a) 1 b) 2 c) 3 d ≡ a ∷ b ∷ c ∷ d ∷ drop 4 l
@@ -48,11 +48,26 @@ word-written ws old buffer part i within before-written part-written =
     ∙ ap (λ (bytes : List ℕ). over bytes old) (sym (bytes-next ws i within))
 
 -- room for all the words, and too little room
-pub written-whole : (ws out : List ℕ) → 4 * length ws ≤ length out
-    → (length ws ≡ written-count ws out) × (over (bytes-of (take (length ws) ws)) out ≡ written ws out)
+pub written-whole : (ws out buffer : List ℕ) (i : ℕ) → i ≡ length ws → 4 * length ws ≤ length out
+    → buffer ≡ over (bytes-of (take i ws)) out → Written ws out (length ws) buffer
 unfolding written written-count
-written-whole ws out room = (simp (le-leb _ _ room), simp (le-leb _ _ room, take-length ws))
+written-whole ws out buffer i all room so-far = record {
+  count = simp (le-leb _ _ room);
+  left = so-far ∙ ap (λ (n : ℕ). over (bytes-of (take n ws)) out) all ∙ simp (le-leb _ _ room, take-length ws);
+}
 
-pub written-none : (ws out : List ℕ) → length out < 4 * length ws → (0 ≡ written-count ws out) × (out ≡ written ws out)
+pub written-none : (ws out : List ℕ) → length out < 4 * length ws → Written ws out 0 out
 unfolding written written-count
-written-none ws out short = (simp (lt-leb _ _ short), simp (lt-leb _ _ short))
+written-none ws out short = record { count = simp (lt-leb _ _ short); left = simp (lt-leb _ _ short) }
+
+-- no words: the answer to a malformed request
+pub nothing-written : (ws out : List ℕ) → ws ≡ [] → Written ws out 0 out
+unfolding written written-count bytes-of
+nothing-written ws out none =
+    let room : 4 * 0 ≤ length out = omega arith in
+    subst (λ (l : List ℕ). Written l out 0 out) (sym none)
+    (record { count = simp (le-leb (4 * 0) (length out) room); left = simp (le-leb (4 * 0) (length out) room) })
+
+-- the words written are those of the definition
+pub written-as : (ws answer out : List ℕ) (r : ℕ) (after : List ℕ) → ws ≡ answer → Written ws out r after → Written answer out r after
+written-as ws answer out r after same h = subst (λ (l : List ℕ). Written l out r after) same h

@@ -1,5 +1,6 @@
 -- Requests and answers as words of four bytes, highest first. Definitions only.
 use Prim.Native.Nat.{ℕ, _+_, _*_, _/_, _%_}
+use mathlib.Core.Path.{_≡_}
 use mathlib.Core.Bool.{cond}
 use mathlib.Core.List.{List, [], _∷_}
 use lib.Dec.{leb}
@@ -24,3 +25,8 @@ written words out = cond (leb (4 * length words) (length out)) (over (bytes-of w
 
 unfoldable pub written-count : List ℕ → List ℕ → ℕ
 written-count words out = cond (leb (4 * length words) (length out)) (length words) 0
+
+-- a call that writes these words to out returned r and left after
+pub record Written (words out : List ℕ) (r : ℕ) (after : List ℕ) : Type 0 where
+  pub count : r ≡ written-count words out
+  pub left : after ≡ written words out

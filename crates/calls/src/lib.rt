@@ -1,6 +1,5 @@
 // The door for tests and benchmarks: every entry point behind a number, on byte slices.
-ghost use mathlib.Core.Path.{_≡_};
-ghost use Rattle.calls.specs.Words.{written, written-count};
+ghost use Rattle.calls.specs.Words.{Written};
 ghost use Rattle.calls.specs.Entries.{root-answer, normalize-answer, answer};
 use floats::b2_math;
 use floats::b2_math::B2vec2;
@@ -10,7 +9,7 @@ mod words;
 
 // 15, x: the root.
 fn root(input: &[u8], out: &mut [u8]) -> u32
-    ensures { λ r. ⌜ (r ≡ written-count (root-answer (now (input .entry))) (now (out .entry))) × (now (out .exit) ≡ written (root-answer (now (input .entry))) (now (out .entry))) ⌝ }
+    ensures { λ r. ⌜ Written (root-answer (now (input .entry))) (now (out .entry)) r (now (out .exit)) ⌝ }
 {
     if input.len() != 8 {
         return 0;
@@ -22,7 +21,7 @@ fn root(input: &[u8], out: &mut [u8]) -> u32
 
 // 16, x, y: the length that was found, and the vector made unit.
 fn normalize(input: &[u8], out: &mut [u8]) -> u32
-    ensures { λ r. ⌜ (r ≡ written-count (normalize-answer (now (input .entry))) (now (out .entry))) × (now (out .exit) ≡ written (normalize-answer (now (input .entry))) (now (out .entry))) ⌝ }
+    ensures { λ r. ⌜ Written (normalize-answer (now (input .entry))) (now (out .entry)) r (now (out .exit)) ⌝ }
 {
     if input.len() != 12 {
         return 0;
@@ -42,7 +41,7 @@ fn normalize(input: &[u8], out: &mut [u8]) -> u32
 // The number of words written: 0, and the output as it was, for a malformed request or an output too short for the answer.
 #[no_mangle]
 pub extern "C" fn calls(input: &[u8], out: &mut [u8]) -> u32
-    ensures { λ r. ⌜ (r ≡ written-count (answer (now (input .entry))) (now (out .entry))) × (now (out .exit) ≡ written (answer (now (input .entry))) (now (out .entry))) ⌝ }
+    ensures { λ r. ⌜ Written (answer (now (input .entry))) (now (out .entry)) r (now (out .exit)) ⌝ }
 {
     if input.len() < 4 {
         return 0;

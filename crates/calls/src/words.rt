@@ -3,7 +3,7 @@ ghost use mathlib.Core.Path.{_≡_};
 ghost use Prim.Native.Nat.{_+_, _*_, _<_, _≤_};
 ghost use lib.ListN.{length};
 ghost use Rattle.algebra.specs.Buffer.{over};
-ghost use Rattle.calls.specs.Words.{word-at, bytes-of-word, written, written-count};
+ghost use Rattle.calls.specs.Words.{word-at, bytes-of-word, Written};
 
 fn wide(b: u8) -> u32
     ensures { λ r. ⌜ (r ≡ b) × (r < 256) ⌝ }
@@ -38,7 +38,7 @@ fn put_word(out: &mut [u8], w: u32)
 // All the words at the front of an output with room for them, and their number; else 0, and the output as it was.
 pub fn put_words(out: &mut [u8], words: &[u32]) -> u32
     requires { ⌜ length (now words) ≤ 64 ⌝ }
-    ensures { λ r. ⌜ (r ≡ written-count (now (words .entry)) (now (out .entry))) × (now (out .exit) ≡ written (now (words .entry)) (now (out .entry))) ⌝ }
+    ensures { λ r. ⌜ Written (now (words .entry)) (now (out .entry)) r (now (out .exit)) ⌝ }
 {
     let n = words.len();
     if out.len() < 4 * n {

@@ -80,9 +80,8 @@ same-length c = search needs
 returns-2 : tie.Need-returns-2 Inv-loop μ-loop
 returns-2 c =
     let start = c .before .before .before .before .before in
-    let whole = written-whole (start .args .words .now) (start .args .out .now) (c .before .loop .inv .2) in
-    let all : c .before .loop .i ≡ length (start .args .words .now) = omega arith in
-    (whole .0, c .before .loop .inv .4 ∙ ap (λ n. over (bytes-of (take n (start .args .words .now))) (start .args .out .now)) all ∙ whole .1)
+    let loop = c .before .loop in
+    written-whole (start .args .words .now) (start .args .out .now) (loop .out) (loop .i) (omega arith) (loop .inv .2) (loop .inv .4)
 
 pub put-words-spec : {M : Type 1} → statement M
 put-words-spec =
