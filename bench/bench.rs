@@ -11,16 +11,25 @@ extern "C" {
 
 const OPERANDS: usize = 4096;
 
-fn normalize_ours(v: B2vec2) -> f32 {
-    let mut pair = [v.x, v.y];
-    let length = unsafe { direct_normalize(pair.as_mut_ptr(), 2) };
-    length + pair[0] + pair[1]
+fn normalize_ours(v: &mut B2vec2) -> f32 {
+    unsafe { direct_normalize(&mut v.x, 2) }
 }
 
 #[inline(never)]
-fn normalize_rust(mut v: B2vec2) -> f32 {
-    let length = v.normalize();
-    length + v.x + v.y
+fn normalize_rust(v: &mut B2vec2) -> f32 {
+    v.normalize()
+}
+
+/// The same formula written out, for the compiler to inline.
+fn normalize_inline(v: &mut B2vec2) -> f32 {
+    let length = (v.x * v.x + v.y * v.y).sqrt();
+    if length < f32::EPSILON {
+        return 0.0;
+    }
+    let inverse = 1.0 / length;
+    v.x *= inverse;
+    v.y *= inverse;
+    length
 }
 
 #[inline(never)]
@@ -39,10 +48,11 @@ fn pass(call: &dyn Fn(usize) -> f32, calls: usize) -> f64 {
     start.elapsed().as_nanos() as f64 / calls as f64
 }
 
-fn compare(name: &str, rounds: usize, contestants: &[(&str, &dyn Fn(usize) -> f32)]) {
+fn compare(name: &str, rounds: usize, before: &dyn Fn(), contestants: &[(&str, &dyn Fn(usize) -> f32)]) {
     let mut best = vec![f64::INFINITY; contestants.len()];
     for _ in 0..rounds {
         for (least, (_, call)) in best.iter_mut().zip(contestants) {
+            before();
             *least = least.min(pass(*call, 16 * OPERANDS));
         }
     }
@@ -63,15 +73,18 @@ fn main() {
         .map(|_| f32::from_bits(0x2000_0000 + (any().to_bits().wrapping_mul(2654435761) & 0x3f7f_ffff)))
         .collect();
     let at = |list: &Vec<f32>, i: usize| list[i % OPERANDS];
-    let vec = |i: usize| B2vec2::new(grid[i % OPERANDS], grid[(i + 1) % OPERANDS] - 2.0);
+    // vectors are made unit in place: each operand stands in memory of its own, and is new at each pass
+    let vectors: Vec<B2vec2> = (0..16 * OPERANDS).map(|i| B2vec2::new(at(&grid, i), at(&grid, i + 1) - 2.0)).collect();
+    let work = std::cell::RefCell::new(vectors.clone());
+    let in_place = |call: &dyn Fn(&mut B2vec2) -> f32, i: usize| call(&mut work.borrow_mut()[i]);
 
     // throughput: independent calls
-    compare("root, grid numbers", rounds, &[
+    compare("root, grid numbers", rounds, &|| (), &[
         ("ours", &|i| unsafe { direct_root(at(&grid, i)) }),
         ("Rust", &|i| root_rust(at(&grid, i))),
         ("hardware", &|i| at(&grid, i).sqrt()),
     ]);
-    compare("root, mixed exponents", rounds, &[
+    compare("root, mixed exponents", rounds, &|| (), &[
         ("ours", &|i| unsafe { direct_root(at(&mixed, i)) }),
         ("Rust", &|i| root_rust(at(&mixed, i))),
         ("hardware", &|i| at(&mixed, i).sqrt()),
@@ -83,19 +96,14 @@ fn main() {
         last.set(r);
         r
     };
-    compare("root, each after the last", rounds, &[
+    compare("root, each after the last", rounds, &|| (), &[
         ("ours", &|i| chained(&|x| unsafe { direct_root(x) }, i)),
         ("Rust", &|i| chained(&root_rust, i)),
         ("hardware", &|i| chained(&|x| x.sqrt(), i)),
     ]);
-    compare("normalise, grid numbers", rounds, &[
-        ("ours", &|i| normalize_ours(vec(i))),
-        ("Rust", &|i| normalize_rust(vec(i))),
-        ("hardware", &|i| {
-            let v = vec(i);
-            let length = (v.x * v.x + v.y * v.y).sqrt();
-            let inverse = 1.0 / length;
-            length + v.x * inverse + v.y * inverse
-        }),
+    compare("normalise, grid numbers", rounds, &|| work.borrow_mut().copy_from_slice(&vectors), &[
+        ("ours", &|i| in_place(&normalize_ours, i)),
+        ("Rust", &|i| in_place(&normalize_rust, i)),
+        ("hardware", &|i| in_place(&normalize_inline, i)),
     ]);
 }
