@@ -1,0 +1,55 @@
+-- `calls` answers what the entry named by the first word answers, and nothing to any other request. Assumes nothing.
+use mathlib.Core.Path.{_≡_, sym, _∙_}
+use Rattle.calls.proofs.Bytes.{nothing-written, written-as}
+use Rattle.calls.proofs.Answers.{no-entry, root-entry, normalize-entry, other-entry}
+use borrow.Author.Needs.{needs}
+use Rattle.calls.proofs.calls.Statement.{statement}
+use Rattle.calls.proofs.calls.Tie as tie
+
+returns : tie.Need-returns
+returns c = nothing-written _ _ (no-entry _ (c .if1 .taken))
+
+word-requires : tie.Need-word-requires
+word-requires c κs = search needs
+
+root-requires : tie.Need-root-requires
+root-requires c κs = search needs
+
+same-length : tie.Need-same-length
+same-length c = search needs
+
+returns-2 : tie.Need-returns-2
+returns-2 c =
+    let word = c .before .before .before .before .before in
+    written-as _ _ _ _ _ (root-entry _ _ (word .before .if1 .left) (word .word .ensures) (c .before .before .before .before .if2 .taken)) (c .before .before .root .ensures)
+
+normalize-requires : tie.Need-normalize-requires
+normalize-requires c κs = search needs
+
+same-length-2 : tie.Need-same-length-2
+same-length-2 c = search needs
+
+returns-3 : tie.Need-returns-3
+returns-3 c =
+    let third = c .before .before .before .before in
+    let word = third .before .before in
+    written-as _ _ _ _ _ (normalize-entry _ _ (word .before .if1 .left) (word .word .ensures) (third .if3 .taken)) (c .before .before .normalize .ensures)
+
+returns-4 : tie.Need-returns-4
+returns-4 c =
+    let word = c .before .before in
+    nothing-written _ _ (other-entry _ _ (word .before .if1 .left) (word .word .ensures) (c .before .if2 .left) (c .if3 .left))
+
+pub calls-spec : {M : Type 1} → statement M
+calls-spec =
+    tie.close
+    (tie.spec
+    returns
+    word-requires
+    root-requires
+    same-length
+    returns-2
+    normalize-requires
+    same-length-2
+    returns-3
+    returns-4)

@@ -1,0 +1,36 @@
+-- What `calls` answers: the entry's number is the first word of a request, floats are their bits, and the answer is the refusal (0 for
+-- accepted) and then the complete record after the call. The answer to a malformed request is no word at all. Definitions only.
+use Prim.Native.Nat.{ℕ}
+use mathlib.Core.Bool.{cond}
+use mathlib.Core.List.{List, [], _∷_}
+use lib.Dec.{ltb, eqb}
+use lib.ListN.{length}
+use lib.Ieee.{Float, binary32, ofBits, toBits}
+use Rattle.floats.specs.declared.b2_math.Normalized.{Normalized}
+use Rattle.floats.specs.B2Math.{vec2, b2-sqrt, b2-normalize}
+use Rattle.calls.specs.Words.{word-at}
+
+abbrev pub float-at : List ℕ → ℕ → Float
+float-at request i = ofBits binary32 (word-at request i)
+
+abbrev pub bits : Float → ℕ
+bits x = toBits binary32 x
+
+-- 15, x: the root
+unfoldable pub root-answer : List ℕ → List ℕ
+root-answer request = cond (eqb (length request) 8) (0 ∷ bits (b2-sqrt (float-at request 1)) ∷ []) []
+
+-- 16, x, y: the length that was found, and the vector made unit
+abbrev pub normalized-words : Normalized → List ℕ
+normalized-words n = 0 ∷ bits (n .length) ∷ bits (n .v .x) ∷ bits (n .v .y) ∷ []
+
+unfoldable pub normalize-answer : List ℕ → List ℕ
+normalize-answer request =
+    cond (eqb (length request) 12) (normalized-words (b2-normalize (vec2 (float-at request 1) (float-at request 2)))) []
+
+unfoldable pub answer : List ℕ → List ℕ
+answer request =
+    cond (ltb (length request) 4) []
+    (cond (eqb (word-at request 0) 15) (root-answer request)
+    (cond (eqb (word-at request 0) 16) (normalize-answer request)
+    []))

@@ -1,0 +1,180 @@
+// Box2D 2.4.1 behind the request numbers of `calls`, on words: box2d_answer writes the refusal and the record after the call.
+// The library's asserts become refusals: this file defines __assert_fail and comes before the C library in the search order. It defines
+// the sine and cosine functions too, so that the four-argument box takes any sine and cosine. Built as a shared library by build_box2d.
+#include <box2d/box2d.h>
+#include <csetjmp>
+#include <cstdint>
+#include <cstring>
+
+static jmp_buf back;
+static bool asserting = false;
+static const char *assertion;
+static unsigned assertion_line;
+static float given_sine, given_cosine;
+
+extern "C" void __assert_fail(const char *text, const char *, unsigned line, const char *) noexcept {
+    if (!asserting) __builtin_trap();
+    assertion = text;
+    assertion_line = line;
+    longjmp(back, 1);
+}
+extern "C" float sinf(float) noexcept { return given_sine; }
+extern "C" float cosf(float) noexcept { return given_cosine; }
+extern "C" void sincosf(float, float *s, float *c) noexcept {
+    *s = given_sine;
+    *c = given_cosine;
+}
+
+namespace {
+
+struct Reader {
+    const uint32_t *at;
+    uint32_t word() { return *at++; }
+    float number() {
+        float x;
+        std::memcpy(&x, at++, 4);
+        return x;
+    }
+    b2Vec2 vec() {
+        float x = number();
+        return b2Vec2(x, number());
+    }
+    b2PolygonShape polygon() {
+        b2PolygonShape p;
+        p.m_radius = number();
+        p.m_centroid = vec();
+        p.m_count = (int32)word();
+        for (auto &v : p.m_vertices) v = vec();
+        for (auto &v : p.m_normals) v = vec();
+        return p;
+    }
+    b2EdgeShape edge() {
+        b2EdgeShape e;
+        e.m_radius = number();
+        e.m_oneSided = word() != 0;
+        e.m_vertex0 = vec();
+        e.m_vertex1 = vec();
+        e.m_vertex2 = vec();
+        e.m_vertex3 = vec();
+        return e;
+    }
+};
+
+struct Writer {
+    uint32_t *at;
+    void word(uint32_t w) { *at++ = w; }
+    void number(float x) {
+        uint32_t w;
+        std::memcpy(&w, &x, 4);
+        word(w);
+    }
+    void vec(b2Vec2 v) {
+        number(v.x);
+        number(v.y);
+    }
+    void polygon(const b2PolygonShape &p) {
+        number(p.m_radius);
+        vec(p.m_centroid);
+        word((uint32_t)p.m_count);
+        for (auto &v : p.m_vertices) vec(v);
+        for (auto &v : p.m_normals) vec(v);
+    }
+    void edge(const b2EdgeShape &e) {
+        number(e.m_radius);
+        word(e.m_oneSided);
+        vec(e.m_vertex0);
+        vec(e.m_vertex1);
+        vec(e.m_vertex2);
+        vec(e.m_vertex3);
+    }
+};
+
+// Document 01's number for an assert of b2PolygonShape::Set. Both "degenerate" asserts read `false`: the first in the file is the one after
+// welding, so the lower line is 3 and the higher one 4.
+unsigned lower_false = ~0u;
+uint32_t refusal() {
+    if (std::strstr(assertion, "count")) return 1;
+    if (std::strstr(assertion, "b2_maxPolygonVertices")) return 4;
+    if (std::strcmp(assertion, "false") == 0) return assertion_line <= lower_false ? 3 : 4;
+    return 5;
+}
+
+// Learns the line of the assert after welding: three points at one place.
+void learn() {
+    static bool learnt = false;
+    if (learnt) return;
+    learnt = true;
+    b2Vec2 same[3] = {b2Vec2(0, 0), b2Vec2(0, 0), b2Vec2(0, 0)};
+    b2PolygonShape p;
+    asserting = true;
+    if (setjmp(back) == 0) p.Set(same, 3);
+    lower_false = assertion_line;
+}
+
+} // namespace
+
+extern "C" size_t box2d_answer(const uint32_t *request, uint32_t *out) {
+    learn();
+    Reader in{request};
+    Writer to{out + 1};
+    asserting = true;
+    out[0] = 0;
+    switch (in.word()) {
+    case 1: {
+        b2PolygonShape old = in.polygon();
+        static b2PolygonShape p;
+        p = old;
+        int32 n = (int32)in.word();
+        static b2Vec2 points[64];
+        for (int32 i = 0; i < n && i < 64; i++) points[i] = in.vec();
+        if (setjmp(back) == 0) {
+            p.Set(points, n);
+        } else {
+            out[0] = refusal();
+            Reader again{request + 1};
+            p = again.polygon();
+        }
+        to.polygon(p);
+        break;
+    }
+    case 2: {
+        b2PolygonShape p = in.polygon();
+        float hx = in.number();
+        p.SetAsBox(hx, in.number());
+        to.polygon(p);
+        break;
+    }
+    case 3: {
+        b2PolygonShape p = in.polygon();
+        float hx = in.number(), hy = in.number();
+        b2Vec2 center = in.vec();
+        given_sine = in.number();
+        given_cosine = in.number();
+        p.SetAsBox(hx, hy, center, 0.5f);
+        to.polygon(p);
+        break;
+    }
+    case 4: {
+        b2PolygonShape p = in.polygon();
+        to.word(p.Validate());
+        break;
+    }
+    case 5: {
+        b2EdgeShape e = in.edge();
+        b2Vec2 v0 = in.vec(), v1 = in.vec(), v2 = in.vec();
+        e.SetOneSided(v0, v1, v2, in.vec());
+        to.edge(e);
+        break;
+    }
+    case 6: {
+        b2EdgeShape e = in.edge();
+        b2Vec2 v1 = in.vec();
+        e.SetTwoSided(v1, in.vec());
+        to.edge(e);
+        break;
+    }
+    default: return 0;
+    }
+    asserting = false;
+    return (size_t)(to.at - out);
+}
