@@ -1,0 +1,16 @@
+pub mod Points
+pub mod Directions
+pub mod Sides
+pub mod Search
+pub mod Weld
+pub mod Walk
+pub mod Corners
+pub mod Next
+pub mod Start
+pub mod Line
+pub mod Wrap
+pub mod Unique
+pub mod Area
+pub mod Outcome
+pub mod Theorem
+pub mod Controls

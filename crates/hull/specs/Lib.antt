@@ -1,0 +1,3 @@
+pub mod Hull
+pub mod Loops
+pub mod Outline
