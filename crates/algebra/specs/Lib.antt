@@ -3,4 +3,5 @@ pub mod Squares
 pub mod Polynomial
 pub mod Plane
 pub mod Lists
+pub mod Loops
 pub mod Buffer

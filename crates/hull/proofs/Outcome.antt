@@ -13,7 +13,7 @@ use Rattle.algebra.specs.Plane.{Point, orient}
 use Rattle.algebra.specs.Lists.{Once}
 use Rattle.algebra.proofs.Lists.{pigeonhole}
 use Rattle.hull.specs.Hull.{ReducedPoint, AllReduced, Edge, Linked, IsHull, OnLine, ThreeDifferent}
-use Rattle.hull.specs.Loops.{weld}
+use Rattle.algebra.specs.Loops.{weld}
 use Rattle.hull.specs.Outline.{same-point, corners, refusal, closed, wrapped, outline-within, AcceptedWithin, TurnedDownWithin}
 use Rattle.hull.proofs.Points.{same-point-eq, same-point-own, point-discrete}
 use Rattle.hull.proofs.Line.{orient-begin, orient-end, orient-flat}

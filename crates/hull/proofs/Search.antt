@@ -6,7 +6,7 @@ use mathlib.Core.List as L
 use mathlib.Core.Logic.{_⊎_, inl, inr}
 use mathlib.Core.Bool.{Bool, true, false, not}
 use lib.Dec.{T}
-use Rattle.hull.specs.Loops.{either, search}
+use Rattle.algebra.specs.Loops.{either, search}
 
 module _ {A : Type 0} (replaces : A → A → Bool) where
   pub search-mem : (js : List A) (e : A) → List·Memᴰ (search replaces e js) (e ∷ js)

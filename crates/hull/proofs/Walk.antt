@@ -13,7 +13,7 @@ use lib.ListN.{length}
 use Rattle.algebra.specs.Lists.{Once}
 use Rattle.algebra.proofs.Lists.{pigeonhole}
 use Rattle.hull.specs.Hull.{Linked}
-use Rattle.hull.specs.Loops.{walk}
+use Rattle.algebra.specs.Loops.{walk}
 
 module _ {A : Type 0} (same : A → A → Bool) (next : A → A) (start : A) where
   -- the walk from p after the corners `passed` gives a row p ∷ rest, linked and back at the start, none twice, none passed before

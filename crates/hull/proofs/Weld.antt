@@ -23,7 +23,7 @@ use lib.ListN.{length, length-append}
 use mir.Facts.{or-yes}
 use Rattle.algebra.specs.Lists.{Once}
 use Rattle.algebra.proofs.Lists.{once-snoc}
-use Rattle.hull.specs.Loops.{near-any, keep-unless, weld}
+use Rattle.algebra.specs.Loops.{near-any, keep-unless, weld}
 
 or-left : (a b : Bool) → T a → T (a || b)
 or-left true b t = tt

@@ -1,3 +1,2 @@
 pub mod Hull
-pub mod Loops
 pub mod Outline

@@ -9,7 +9,7 @@ use Prim.Native.Nat.{ℕ}
 use Rattle.algebra.specs.Integer.{whole, _≐?_, _≺?_}
 use Rattle.algebra.specs.Plane.{Point, from-to, dot, orient}
 use Rattle.hull.specs.Hull.{IsHull, ThreeDifferent}
-use Rattle.hull.specs.Loops.{weld, search, walk}
+use Rattle.algebra.specs.Loops.{weld, search, walk}
 
 -- equal by value
 abbrev pub same-point : Point → Point → Bool

@@ -1,12 +1,13 @@
 -- Document 01, "Outlines": welding, the start, the walk, normals, area and centroid, on lists of points and in the code's order of
 -- operations. Places count from 0. Definitions only.
-use mathlib.Core.Bool.{Bool, true, false, not, cond, _&&_, _||_}
-use mathlib.Core.List.{List, [], _∷_, _++_, map}
-use mathlib.Core.Option.{Option, none, some}
+use mathlib.Core.Bool.{Bool, true, _&&_, _||_}
+use mathlib.Core.List.{List, [], _∷_}
+use mathlib.Core.Option.{Option}
 use Prim.Native.Nat.{ℕ, zero, suc, _-_}
-use lib.Dec.{ltb, eqb}
+use lib.Dec.{eqb}
 use lib.ListN.{length, getD}
 use lib.Ieee.{Float, binary32, ofBits, add, mul, div, lt, eq}
+use Rattle.algebra.specs.Loops.{weld, search, walk}
 use Rattle.floats.specs.declared.b2_math.B2vec2.{B2vec2}
 use Rattle.floats.specs.B2Common.{zero32, half32, one32}
 use Rattle.floats.specs.B2Math.{vec2, b2-add, b2-sub, b2-scale, b2-cross, b2-cross-vec-by-scalar, b2-length-squared, b2-distance-vec2-squared, b2-normalize}
@@ -18,62 +19,47 @@ origin = vec2 zero32 zero32
 abbrev pub point-at : List B2vec2 → ℕ → B2vec2
 point-at ps i = getD ps i origin
 
+-- the places i, i + 1, .., so many of them
+unfoldable pub places : ℕ → ℕ → List ℕ
+places i zero = []
+places i (suc k) = i ∷ places (suc i) k
+
+-- the places after 0
+abbrev pub later-places : List B2vec2 → List ℕ
+later-places ps = places 1 (length ps - 1)
+
 -- ---- welding: a point is dropped when its squared distance to an earlier kept one is strictly below (0.5 * 0.005) * (0.5 * 0.005)
 abbrev pub weld-limit : Float
 weld-limit = ofBits binary32 0x36d1_b717
 
-unfoldable pub near-kept : B2vec2 → List B2vec2 → Bool
-near-kept v [] = false
-near-kept v (p ∷ kept) = lt (b2-distance-vec2-squared v p) weld-limit || near-kept v kept
+unfoldable pub too-near : B2vec2 → B2vec2 → Bool
+too-near v kept = lt (b2-distance-vec2-squared v kept) weld-limit
 
-unfoldable pub weld-onto : List B2vec2 → List B2vec2 → List B2vec2
-weld-onto kept [] = kept
-weld-onto kept (v ∷ vs) = weld-onto (cond (near-kept v kept) kept (kept ++ (v ∷ []))) vs
+unfoldable pub welded : List B2vec2 → List B2vec2
+welded points = weld too-near [] points
 
-unfoldable pub weld : List B2vec2 → List B2vec2
-weld points = weld-onto [] points
-
--- ---- the start: largest x, smallest y among equals; the first such place
-abbrev pub comes-before : B2vec2 → B2vec2 → Bool
-comes-before p best = lt (best .x) (p .x) || eq (p .x) (best .x) && lt (p .y) (best .y)
-
--- among the places 0 to k
-unfoldable pub start-to : List B2vec2 → ℕ → ℕ
-start-to ps zero = 0
-start-to ps (suc k) = cond (comes-before (point-at ps (suc k)) (point-at ps (start-to ps k))) (suc k) (start-to ps k)
+-- ---- the start: largest x, smallest y among equals
+unfoldable pub comes-before : B2vec2 → B2vec2 → Bool
+comes-before best p = lt (best .x) (p .x) || eq (p .x) (best .x) && lt (p .y) (best .y)
 
 unfoldable pub start : List B2vec2 → ℕ
-start ps = start-to ps (length ps - 1)
+start ps = search (λ best j. comes-before (point-at ps best) (point-at ps j)) 0 (later-places ps)
 
 -- ---- the next corner: the candidate begins at place 0 and is replaced by j when the cross product is below 0, or equals 0 and j is
 -- farther; a candidate equal to the corner itself is replaced unseen
-abbrev pub replaced-by : B2vec2 → B2vec2 → B2vec2 → Bool
-replaced-by corner candidate p =
-    lt (b2-cross (b2-sub candidate corner) (b2-sub p corner)) zero32
-    || eq (b2-cross (b2-sub candidate corner) (b2-sub p corner)) zero32
-    && lt (b2-length-squared (b2-sub candidate corner)) (b2-length-squared (b2-sub p corner))
+abbrev pub turns-closer : B2vec2 → B2vec2 → Bool
+turns-closer r v = lt (b2-cross r v) zero32 || eq (b2-cross r v) zero32 && lt (b2-length-squared r) (b2-length-squared v)
 
--- among the places 0 to k
-unfoldable pub next-to : List B2vec2 → ℕ → ℕ → ℕ
-next-to ps corner zero = 0
-next-to ps corner (suc k) =
-    cond
-    (eqb (next-to ps corner k) corner || replaced-by (point-at ps corner) (point-at ps (next-to ps corner k)) (point-at ps (suc k)))
-    (suc k)
-    (next-to ps corner k)
+unfoldable pub closer : B2vec2 → B2vec2 → B2vec2 → Bool
+closer corner candidate p = turns-closer (b2-sub candidate corner) (b2-sub p corner)
 
 unfoldable pub next : List B2vec2 → ℕ → ℕ
-next ps corner = next-to ps corner (length ps - 1)
+next ps corner =
+    search (λ candidate j. eqb candidate corner || closer (point-at ps corner) (point-at ps candidate) (point-at ps j)) 0 (later-places ps)
 
--- ---- the walk, from a corner until the next is the start again: the places of its corners, none where it is not back within so many
-abbrev pub onto : ℕ → Option (List ℕ) → Option (List ℕ)
-onto place none = none
-onto place (some row) = some (place ∷ row)
-
-unfoldable pub walk : List B2vec2 → ℕ → ℕ → ℕ → Option (List ℕ)
-walk ps start zero corner = none
-walk ps start (suc corners) corner =
-    cond (eqb (next ps corner) start) (some (corner ∷ [])) (onto corner (walk ps start corners (next ps corner)))
+-- ---- the walk from the start until it comes again: the places of its corners, or none where it is not back after eight
+unfoldable pub row : List B2vec2 → Option (List ℕ)
+row ps = walk eqb (next ps) (start ps) 8 (start ps)
 
 -- ---- edges and normals: each corner with the next, the first after the last
 abbrev pub edges-from : B2vec2 → B2vec2 → List B2vec2 → List B2vec2

@@ -13,7 +13,7 @@ use Rattle.floats.specs.Ranges.{point-in-range}
 use Rattle.shapes.specs.declared.b2_polygon_shape.B2polygonShape.{B2polygonShape}
 use Rattle.shapes.specs.declared.b2_polygon_shape.PolygonAnswer.{PolygonAnswer}
 use Rattle.shapes.specs.Refusal.{accepted, wrong-number-of-points, shape-out-of-range, too-few-after-welding, walk-not-closed, edge-or-area-too-small}
-use Rattle.shapes.specs.Outline.{point-at, weld, start, walk, edges, long-enough, normal-of-edge, Fan, fan, centroid-of}
+use Rattle.shapes.specs.Outline.{point-at, welded, row, edges, long-enough, normal-of-edge, Fan, fan, centroid-of}
 
 abbrev pub refused : ℕ → B2polygonShape → PolygonAnswer
 refused number old = record { refusal = number; shape = old }
@@ -45,14 +45,15 @@ outline-of-corners old corners =
 
 abbrev pub outline-of-row : B2polygonShape → List B2vec2 → Option (List ℕ) → PolygonAnswer
 outline-of-row old ps none = refused walk-not-closed old
-outline-of-row old ps (some row) = cond (ltb (length row) 3) (refused walk-not-closed old) (outline-of-corners old (map (point-at ps) row))
+outline-of-row old ps (some places) =
+    cond (ltb (length places) 3) (refused walk-not-closed old) (outline-of-corners old (map (point-at ps) places))
 
 unfoldable pub outline-of-welded : B2polygonShape → List B2vec2 → PolygonAnswer
 outline-of-welded old ps =
-    cond (ltb (length ps) 3) (refused too-few-after-welding old) (outline-of-row old ps (walk ps (start ps) 8 (start ps)))
+    cond (ltb (length ps) 3) (refused too-few-after-welding old) (outline-of-row old ps (row ps))
 
 unfoldable pub b2-polygon-shape-set : B2polygonShape → List B2vec2 → PolygonAnswer
 b2-polygon-shape-set old points =
     cond (ltb (length points) 3 || ltb 8 (length points)) (refused wrong-number-of-points old)
     (cond (not (all-points point-in-range points)) (refused shape-out-of-range old)
-    (outline-of-welded old (weld points)))
+    (outline-of-welded old (welded points)))
