@@ -5,5 +5,6 @@ pub mod Squares
 pub mod Ring
 pub mod Plane
 pub mod Lists
+pub mod Loops
 pub mod Buffer
 pub mod Controls
