@@ -5,6 +5,7 @@ use mathlib.Core.Path.{_≡_, refl}
 use mathlib.Core.List.{List, [], _∷_}
 use mathlib.Core.Logic.{_⊎_, inl, inr}
 use mathlib.Core.Bool.{true}
+use mathlib.Core.Option.{some}
 use Prim.Native.Nat.{ℕ}
 use lib.Dec.{lit≤}
 use native.Mathlib.Omega.{arith}
@@ -12,6 +13,7 @@ use Rattle.algebra.specs.Integer.{whole, signed, _≐_}
 use Rattle.algebra.specs.Plane.{Point}
 use Rattle.hull.specs.Hull.{AllReduced, IsHull, OnLine, fan-area}
 use Rattle.hull.specs.Outline.{Accepted, TurnedDown, outline, refusal, corners}
+use Rattle.hull.specs.Places.{wrap-places}
 use Rattle.hull.proofs.Points.{reduced-nil, reduced-cons}
 use Rattle.hull.proofs.Theorem.{outcome, built-hull}
 
@@ -40,6 +42,10 @@ square-hull = built-hull square square-reduced (lit≤ tt) (at 256 0) (at 256 25
 
 square-area : fan-area (at 256 0) (at 256 256 ∷ at 0 256 ∷ at 0 0 ∷ []) ≐ whole 131072
 square-area = refl
+
+-- its welded points, walked by places: 1, 2, 3, 0
+square-places : wrap-places 8 (at 0 0) (at 256 0 ∷ at 256 256 ∷ at 0 256 ∷ at 128 0 ∷ []) ≡ some (1 ∷ 2 ∷ 3 ∷ 0 ∷ [])
+square-places = refl
 
 -- ---- (0, 0), (1, 0), (2, 0)
 abbrev row-of-three : List Point

@@ -6,9 +6,10 @@ use mathlib.Core.Logic.{_⊎_, inl, inr}
 use mathlib.Core.Bool.{true}
 use Prim.Native.Nat.{ℕ, suc, _+_, _≤_, _<_}
 use native.Mathlib.Omega.{arith}
-use Rattle.algebra.specs.Integer.{Z, whole, signed, _⊞_, _≐_, _≺_}
+use Rattle.algebra.specs.Integer.{whole, signed, _⊞_, _≐_, _≺_}
 use Rattle.algebra.specs.Polynomial.{num, _:+_}
 use Rattle.algebra.specs.Plane.{Point, from-to, dot}
+use Rattle.algebra.proofs.Signs.{negative-of-sum}
 use Rattle.algebra.proofs.Ring.{ring}
 use Rattle.algebra.proofs.Plane.{point₀, point₁, from-to-expr, dot-expr, coordinates}
 use Rattle.hull.specs.Hull.{Edge, First, Left, Between}
@@ -99,9 +100,6 @@ back-along : (p q : Point) → dot (from-to p q) (from-to q p) ⊞ dot (from-to 
 back-along p q =
     ring (dot-expr (from-to-expr point₀ point₁) (from-to-expr point₁ point₀) :+ dot-expr (from-to-expr point₀ point₁) (from-to-expr point₀ point₁))
     (num 0) (coordinates (p ∷ q ∷ [])) tt
-
-negative-of-sum : (a b : Z) → a ⊞ b ≐ whole 0 → whole 0 ≺ b → a ≺ whole 0
-negative-of-sum a b e h = omega arith
 
 pub corner-of-side : (s : List Point) (p q : Point) → Corner s p → Side s p q → Corner s q
 corner-of-side s p q c side = corner-of-ahead s q (quarter-left u) u (side .mem) (λ r r-in. go r (side .edge r r-in))

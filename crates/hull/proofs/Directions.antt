@@ -3,10 +3,18 @@
 use mathlib.Core.Logic.{_⊎_, inl, inr}
 use mathlib.Core.List.{[], _∷_}
 use native.Mathlib.Omega.{arith}
-use Rattle.algebra.specs.Integer.{Z, whole, _⊞_, _⊟_, _⊠_, opp, _≐_, _≼_, _≺_}
+use Rattle.algebra.specs.Integer.{Z, whole, _⊞_, _⊟_, _⊠_, _≐_, _≼_, _≺_}
 use Rattle.algebra.specs.Polynomial.{_:+_}
 use Rattle.algebra.specs.Plane.{Point, from-to, cross, dot}
-use Rattle.algebra.proofs.Integer.{sign-cases}
+use Rattle.algebra.proofs.Integer.{lt-trans, sign-cases, compare-cases}
+use Rattle.algebra.proofs.Signs.{
+  positive-weaken,
+  zero-weaken,
+  positive-of-opposite,
+  zero-of-opposite,
+  sum-not-negative,
+  same-of-zero-difference,
+}
 use Rattle.algebra.proofs.Products.{
   product-not-negative,
   product-positive,
@@ -54,21 +62,9 @@ weighed-right a b c x y z e a-pos b-pos c-pos x-nn z-pos =
 pub weighed-zero : (a b c x y z : Z) → b ⊠ y ≐ c ⊠ x ⊞ a ⊠ z → whole 0 ≺ b → x ≐ whole 0 → z ≐ whole 0 → y ≐ whole 0
 weighed-zero a b c x y z e b-pos x-zero z-zero = factor-zero b y b-pos (omega (arith, product-zero x c x-zero, product-zero z a z-zero))
 
-lt-chain : (a b c : Z) → b ≺ a → c ≺ b → c ≺ a
-lt-chain a b c h k = omega arith
-
-not-negative-of-positive : (a : Z) → whole 0 ≺ a → whole 0 ≼ a
-not-negative-of-positive a h = omega arith
-
-not-negative-of-zero : (a : Z) → a ≐ whole 0 → whole 0 ≼ a
-not-negative-of-zero a h = omega arith
-
 -- f f + c c = n s with f above 0: s is above 0
 other-factor-positive : (f s n c : Z) → f ⊠ f ⊞ c ⊠ c ≐ n ⊠ s → whole 0 ≺ f → whole 0 ≼ n → whole 0 ≺ s
 other-factor-positive f s n c e f-pos n-nn = factor-positive n s n-nn (omega (arith, product-positive f f f-pos f-pos, square-not-negative c))
-
-sum-not-negative : (a b : Z) → whole 0 ≼ a → whole 0 ≼ b → whole 0 ≼ a ⊞ b
-sum-not-negative a b h k = omega arith
 
 aligned : (a b s t c e : Z) → a ⊠ t ≐ b ⊠ s ⊞ c ⊠ e → whole 0 ≺ a → whole 0 ≺ b → whole 0 ≺ s → c ≐ whole 0 → whole 0 ≺ t
 aligned a b s t c e h a-pos b-pos s-pos c-zero =
@@ -93,9 +89,6 @@ first-part-zero a b h = square-zero a (omega (arith, square-not-negative b))
 second-part-zero : (a b : Z) → a ⊠ a ⊞ b ⊠ b ≐ whole 0 → b ≐ whole 0
 second-part-zero a b h = square-zero b (omega (arith, square-not-negative a))
 
-same-of-zero-difference : (a b : Z) → b ⊟ a ≐ whole 0 → a ≐ b
-same-of-zero-difference a b h = omega arith
-
 -- |v - u|² + 2 u · v = |u|² + |v|²
 gap-squared : (u v : Point) → dot (from-to u v) (from-to u v) ⊞ (dot u v ⊞ dot u v) ≐ dot u u ⊞ dot v v
 gap-squared u v =
@@ -110,16 +103,16 @@ module _ (d : Point) where
   pub beats-trans : (u v w : Point) → whole 0 ≺ dot d u → whole 0 ≺ dot d v → whole 0 ≺ dot d w → Beats u v → Beats v w → Beats u w
   beats-trans u v w du dv dw (inl h) (inl k) =
       inl (weighed-left (dot d u) (dot d v) (dot d w) (cross u v) (cross u w) (cross v w) (three-crosses d u v w) du dv dw h
-      (not-negative-of-positive (cross v w) k))
+      (positive-weaken (cross v w) k))
   beats-trans u v w du dv dw (inl h) (inr k) =
       inl (weighed-left (dot d u) (dot d v) (dot d w) (cross u v) (cross u w) (cross v w) (three-crosses d u v w) du dv dw h
-      (not-negative-of-zero (cross v w) (k .0)))
+      (zero-weaken (cross v w) (k .0)))
   beats-trans u v w du dv dw (inr h) (inl k) =
       inl (weighed-right (dot d u) (dot d v) (dot d w) (cross u v) (cross u w) (cross v w) (three-crosses d u v w) du dv dw
-      (not-negative-of-zero (cross u v) (h .0)) k)
+      (zero-weaken (cross u v) (h .0)) k)
   beats-trans u v w du dv dw (inr h) (inr k) = inr (
     weighed-zero (dot d u) (dot d v) (dot d w) (cross u v) (cross u w) (cross v w) (three-crosses d u v w) dv (h .0) (k .0),
-    lt-chain (dot u u) (dot v v) (dot w w) (h .1) (k .1),
+    lt-trans (dot w w) (dot v v) (dot u u) (k .1) (h .1),
   )
 
 module _ (d u v : Point) (du : whole 0 ≺ dot d u) (dv : whole 0 ≺ dot d v) where
@@ -143,30 +136,14 @@ module _ (d u v : Point) (du : whole 0 ≺ dot d u) (dv : whole 0 ≺ dot d v) w
         same-of-zero-difference (u .y) (v .y) (second-part-zero (v .x ⊟ u .x) (v .y ⊟ u .y) gap),
       )
 
-  turned-positive : (a b : Z) → a ≐ opp b → a ≺ whole 0 → whole 0 ≺ b
-  turned-positive a b e h = omega arith
-
-  turned-zero : (a b : Z) → a ≐ opp b → a ≐ whole 0 → b ≐ whole 0
-  turned-zero a b e h = omega arith
-
-  longer : (a b : Z) → whole 0 ≺ a ⊟ b → b ≺ a
-  longer a b h = omega arith
-
-  as-long : (a b : Z) → a ⊟ b ≐ whole 0 → a ≐ b
-  as-long a b h = omega arith
-
-  shorter : (a b : Z) → a ⊟ b ≺ whole 0 → a ≺ b
-  shorter a b h = omega arith
-
   pub beats-total : Beats u v ⊎ (Beats v u ⊎ SameVector u v)
-  beats-total = by-cases (sign-cases (cross u v)) (sign-cases (dot u u ⊟ dot v v))
+  beats-total = by-cases (sign-cases (cross u v)) (compare-cases (dot u u) (dot v v))
     where
       by-cases : (whole 0 ≺ cross u v) ⊎ ((cross u v ≐ whole 0) ⊎ (cross u v ≺ whole 0))
-          → (whole 0 ≺ dot u u ⊟ dot v v) ⊎ ((dot u u ⊟ dot v v ≐ whole 0) ⊎ (dot u u ⊟ dot v v ≺ whole 0))
+          → (dot u u ≺ dot v v) ⊎ ((dot u u ≐ dot v v) ⊎ (dot v v ≺ dot u u))
           → Beats u v ⊎ (Beats v u ⊎ SameVector u v)
       by-cases (inl left) l = inl (inl left)
-      by-cases (inr (inr right)) l = inr (inl (inl (turned-positive (cross u v) (cross v u) (cross-antisymmetric u v) right)))
-      by-cases (inr (inl on)) (inl l) = inl (inr (on, longer (dot u u) (dot v v) l))
-      by-cases (inr (inl on)) (inr (inl l)) = inr (inr (equal-length on (as-long (dot u u) (dot v v) l)))
-      by-cases (inr (inl on)) (inr (inr l)) =
-          inr (inl (inr (turned-zero (cross u v) (cross v u) (cross-antisymmetric u v) on, shorter (dot u u) (dot v v) l)))
+      by-cases (inr (inr right)) l = inr (inl (inl (positive-of-opposite (cross u v) (cross v u) (cross-antisymmetric u v) right)))
+      by-cases (inr (inl on)) (inl shorter) = inr (inl (inr (zero-of-opposite (cross u v) (cross v u) (cross-antisymmetric u v) on, shorter)))
+      by-cases (inr (inl on)) (inr (inl as-long)) = inr (inr (equal-length on as-long))
+      by-cases (inr (inl on)) (inr (inr longer)) = inl (inr (on, longer))

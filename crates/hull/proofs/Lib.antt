@@ -12,5 +12,7 @@ pub mod Wrap
 pub mod Unique
 pub mod Area
 pub mod Outcome
+pub mod Naming
+pub mod Places
 pub mod Theorem
 pub mod Controls

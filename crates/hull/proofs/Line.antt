@@ -4,8 +4,9 @@ use mathlib.Core.List.{List, [], _∷_, List·Memᴰ}
 use mathlib.Core.Logic.{_⊎_, inl, inr}
 use native.Mathlib.Omega.{arith}
 use Rattle.algebra.specs.Integer.{Z, whole, _⊞_, _⊟_, opp, _≐_, _≼_, _≺_}
-use Rattle.algebra.specs.Polynomial.{neg, _:+_, _:-_}
+use Rattle.algebra.specs.Polynomial.{_:+_, _:-_}
 use Rattle.algebra.specs.Plane.{Point, from-to, cross, dot, orient}
+use Rattle.algebra.proofs.Signs.{positive-weaken, zero-weaken, not-zero-positive, zero-of-opposite, difference-zero}
 use Rattle.algebra.proofs.Ring.{ring}
 use Rattle.algebra.proofs.Plane.{
   point₀,
@@ -15,10 +16,12 @@ use Rattle.algebra.proofs.Plane.{
   from-to-expr,
   cross-expr,
   dot-expr,
-  orient-expr,
   coordinates,
   three-crosses,
   cross-antisymmetric,
+  orientation-back,
+  orient-begin,
+  orient-end,
 }
 use Rattle.hull.specs.Hull.{Left, Between, OnLine}
 use Rattle.hull.proofs.Directions.{Beside, weighed-zero, length-not-negative}
@@ -26,34 +29,16 @@ use Rattle.hull.proofs.Sides.{beside-of-words}
 use Rattle.hull.proofs.Corners.{Corner, Side, side-long}
 
 -- ---- no point lies right of a side
-not-negative-left : (a : Z) → whole 0 ≺ a → whole 0 ≼ a
-not-negative-left a h = omega arith
-
-not-negative-on : (a : Z) → a ≐ whole 0 → whole 0 ≼ a
-not-negative-on a h = omega arith
-
-pub orient-begin : (p q : Point) → orient p q p ≐ whole 0
-orient-begin p q = omega arith
-
-pub orient-end : (p q : Point) → orient p q q ≐ whole 0
-orient-end p q = omega arith
-
-pub orient-flat : (p r : Point) → orient p p r ≐ whole 0
-orient-flat p r = omega arith
-
 pub not-right : (s : List Point) (p q r : Point) → Side s p q → List·Memᴰ r s → whole 0 ≼ orient p q r
 not-right s p q r side r-in = go (side .edge r r-in)
   where
     go : (r ≡ p) ⊎ ((r ≡ q) ⊎ (Left p q r ⊎ Between p q r)) → whole 0 ≼ orient p q r
-    go (inl e) = subst (λ (a : Point). whole 0 ≼ orient p q a) (sym e) (not-negative-on (orient p q p) (orient-begin p q))
-    go (inr (inl e)) = subst (λ (a : Point). whole 0 ≼ orient p q a) (sym e) (not-negative-on (orient p q q) (orient-end p q))
-    go (inr (inr (inl h))) = not-negative-left (orient p q r) h
-    go (inr (inr (inr h))) = not-negative-on (orient p q r) (h .0)
+    go (inl e) = subst (λ (a : Point). whole 0 ≼ orient p q a) (sym e) (zero-weaken (orient p q p) (orient-begin p q))
+    go (inr (inl e)) = subst (λ (a : Point). whole 0 ≼ orient p q a) (sym e) (zero-weaken (orient p q q) (orient-end p q))
+    go (inr (inr (inl h))) = positive-weaken (orient p q r) h
+    go (inr (inr (inr h))) = zero-weaken (orient p q r) (h .0)
 
 -- ---- there and back
-orientation-back : (p q r : Point) → orient q p r ≐ opp (orient p q r)
-orientation-back p q r = ring (orient-expr point₁ point₀ point₂) (neg (orient-expr point₀ point₁ point₂)) (coordinates (p ∷ q ∷ r ∷ [])) tt
-
 squeezed : (a b : Z) → a ≐ opp b → whole 0 ≼ a → whole 0 ≼ b → b ≐ whole 0
 squeezed a b e h k = omega arith
 
@@ -62,19 +47,13 @@ cross-shift p u a b =
     ring (cross-expr point₁ (from-to-expr point₂ point₃)) (cross-expr point₁ (from-to-expr point₀ point₃) :- cross-expr point₁ (from-to-expr point₀ point₂))
     (coordinates (p ∷ u ∷ a ∷ b ∷ [])) tt
 
-difference-zero : (a b c : Z) → a ≐ b ⊟ c → b ≐ whole 0 → c ≐ whole 0 → a ≐ whole 0
-difference-zero a b c e h k = omega arith
-
-opposite-zero : (a b : Z) → a ≐ opp b → a ≐ whole 0 → b ≐ whole 0
-opposite-zero a b e h = omega arith
-
 -- three points on the line through p along u
 on-one-line : (p u a b c : Point) → whole 0 ≺ dot u u → cross u (from-to p a) ≐ whole 0 → cross u (from-to p b) ≐ whole 0 → cross u (from-to p c) ≐ whole 0
     → orient a b c ≐ whole 0
 on-one-line p u a b c u-long a-on b-on c-on =
     weighed-zero (dot u (from-to a b)) (dot u u) (dot u (from-to a c)) (cross (from-to a b) u) (orient a b c) (cross u (from-to a c))
     (three-crosses u (from-to a b) u (from-to a c)) u-long
-    (opposite-zero (cross u (from-to a b)) (cross (from-to a b) u) (cross-antisymmetric u (from-to a b)) (along a b a-on b-on))
+    (zero-of-opposite (cross u (from-to a b)) (cross (from-to a b) u) (cross-antisymmetric u (from-to a b)) (along a b a-on b-on))
     (along a c a-on c-on)
   where
     along : (a b : Point) → cross u (from-to p a) ≐ whole 0 → cross u (from-to p b) ≐ whole 0 → cross u (from-to a b) ≐ whole 0
@@ -96,12 +75,9 @@ dots-around p q r =
 not-around : (s t a b : Z) → s ⊞ t ≐ a → whole 0 ≼ b → a ≺ s → b ≺ t → ⊥
 not-around s t a b e h k l = omega arith
 
-not-zero-and-positive : (a : Z) → a ≐ whole 0 → whole 0 ≺ a → ⊥
-not-zero-and-positive a h k = omega arith
-
 no-line-around : (p q r : Point) → orient q r p ≐ whole 0 → orient p q r ≐ whole 0 → Beside (from-to q r) (from-to q p) → Beside (from-to p q) (from-to p r) → ⊥
-no-line-around p q r h k (inl left) right = not-zero-and-positive (orient q r p) h left
-no-line-around p q r h k (inr on) (inl left) = not-zero-and-positive (orient p q r) k left
+no-line-around p q r h k (inl left) right = not-zero-positive (orient q r p) h left
+no-line-around p q r h k (inr on) (inl left) = not-zero-positive (orient p q r) k left
 no-line-around p q r h k (inr on) (inr on') =
     not-around (dot (from-to q r) (from-to q p)) (dot (from-to p q) (from-to p r)) (dot (from-to q p) (from-to q p)) (dot (from-to p r) (from-to p r))
     (dots-around p q r) (length-not-negative (from-to p r)) (on .1) (on' .1)

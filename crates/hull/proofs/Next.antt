@@ -7,10 +7,11 @@ use mathlib.Core.Bool.{not, _&&_}
 use native.Mathlib.Omega.{arith}
 use lib.Dec.{T, T-not}
 use mir.Facts.{or-yes, or-no, and-yes, yes-and}
-use Rattle.algebra.specs.Integer.{Z, whole, _⊟_, opp, _≐_, _≼_, _≺_, _≐?_, _≺?_}
+use Rattle.algebra.specs.Integer.{Z, whole, _≐_, _≼_, _≺_, _≐?_, _≺?_}
 use Rattle.algebra.specs.Plane.{Point, from-to, cross, dot, orient}
 use Rattle.algebra.proofs.Integer.{same-of-test, test-of-same, lt-of-test, test-of-lt}
-use Rattle.algebra.proofs.Plane.{orientation-reversed}
+use Rattle.algebra.proofs.Signs.{positive-of-opposite, opposite-negative, zero-of-opposite, opposite-zero, same-of-same-difference}
+use Rattle.algebra.proofs.Plane.{orientation-reversed, orient-first-twice}
 use Rattle.hull.specs.Hull.{AllReduced, Left, Between}
 use Rattle.hull.specs.Outline.{same-point, farther, wraps-closer, replaces, next-corner}
 use Rattle.hull.proofs.Points.{value-eq, same-point-eq, not-same-point}
@@ -20,18 +21,6 @@ use Rattle.hull.proofs.Search.{search-mem, search-best}
 use Rattle.hull.proofs.Corners.{Corner, Side}
 
 -- ---- the test says that j beats e, as seen from p
-opposite-of-negative : (a b : Z) → a ≐ opp b → a ≺ whole 0 → whole 0 ≺ b
-opposite-of-negative a b e h = omega arith
-
-negative-of-opposite : (a b : Z) → a ≐ opp b → whole 0 ≺ b → a ≺ whole 0
-negative-of-opposite a b e h = omega arith
-
-opposite-of-zero : (a b : Z) → a ≐ opp b → a ≐ whole 0 → b ≐ whole 0
-opposite-of-zero a b e h = omega arith
-
-zero-of-opposite : (a b : Z) → a ≐ opp b → b ≐ whole 0 → a ≐ whole 0
-zero-of-opposite a b e h = omega arith
-
 module _ (p e j : Point) where
   abbrev to-e : Point
   to-e = from-to p e
@@ -43,11 +32,11 @@ module _ (p e j : Point) where
   beats-of-test t = go (or-yes (orient p e j ≺? whole 0) ((orient p e j ≐? whole 0) && farther p e j) t)
     where
       go : T (orient p e j ≺? whole 0) ⊎ T ((orient p e j ≐? whole 0) && farther p e j) → Beats to-j to-e
-      go (inl h) = inl (opposite-of-negative (orient p e j) (orient p j e) (orientation-reversed p e j) (lt-of-test (orient p e j) (whole 0) h))
+      go (inl h) = inl (positive-of-opposite (orient p e j) (orient p j e) (orientation-reversed p e j) (lt-of-test (orient p e j) (whole 0) h))
       go (inr h) =
           let parts = and-yes (orient p e j ≐? whole 0) (farther p e j) h in
           inr (
-            opposite-of-zero (orient p e j) (orient p j e) (orientation-reversed p e j) (same-of-test (orient p e j) (whole 0) (parts .0)),
+            zero-of-opposite (orient p e j) (orient p j e) (orientation-reversed p e j) (same-of-test (orient p e j) (whole 0) (parts .0)),
             lt-of-test (dot to-e to-e) (dot to-j to-j) (parts .1),
           )
 
@@ -57,17 +46,14 @@ module _ (p e j : Point) where
       go : T (not (orient p e j ≺? whole 0)) × T (not ((orient p e j ≐? whole 0) && farther p e j)) → ¬ Beats to-j to-e
       go fails (inl h) =
           T-not (orient p e j ≺? whole 0) (fails .0)
-          (test-of-lt (orient p e j) (whole 0) (negative-of-opposite (orient p e j) (orient p j e) (orientation-reversed p e j) h))
+          (test-of-lt (orient p e j) (whole 0) (opposite-negative (orient p e j) (orient p j e) (orientation-reversed p e j) h))
       go fails (inr h) =
           T-not ((orient p e j ≐? whole 0) && farther p e j) (fails .1)
           (yes-and (orient p e j ≐? whole 0) (farther p e j)
-          (test-of-same (orient p e j) (whole 0) (zero-of-opposite (orient p e j) (orient p j e) (orientation-reversed p e j) (h .0)))
+          (test-of-same (orient p e j) (whole 0) (opposite-zero (orient p e j) (orient p j e) (orientation-reversed p e j) (h .0)))
           (test-of-lt (dot to-e to-e) (dot to-j to-j) (h .1)))
 
 -- p itself beats nothing
-own-cross : (p e : Point) → cross (from-to p p) (from-to p e) ≐ whole 0
-own-cross p e = omega arith
-
 own-length : (p : Point) → dot (from-to p p) (from-to p p) ≐ whole 0
 own-length p = omega arith
 
@@ -78,10 +64,7 @@ no-beat c l m c-zero l-zero m-nn (inr h) = omega arith
 not-beaten-by-own : (p e : Point) → ¬ Beats (from-to p p) (from-to p e)
 not-beaten-by-own p e b =
     no-beat (cross (from-to p p) (from-to p e)) (dot (from-to p p) (from-to p p)) (dot (from-to p e) (from-to p e))
-    (own-cross p e) (own-length p) (length-not-negative (from-to p e)) b
-
-same-shifted : (a b c : Z) → a ⊟ c ≐ b ⊟ c → a ≐ b
-same-shifted a b c h = omega arith
+    (orient-first-twice p e) (own-length p) (length-not-negative (from-to p e)) b
 
 -- ---- the search at a corner
 module _ (e₀ : Point) (js : List Point) (reduced : AllReduced (e₀ ∷ js)) (p : Point) (c : Corner (e₀ ∷ js) p) where
@@ -96,7 +79,7 @@ module _ (e₀ : Point) (js : List Point) (reduced : AllReduced (e₀ ∷ js)) (
 
   one-point : (a b : Point) → Good a → Good b → SameVector (from-to p a) (from-to p b) → a ≡ b
   one-point a b a-in b-in h =
-      value-eq a b (reduced a a-in) (reduced b b-in) (same-shifted (a .x) (b .x) (p .x) (h .0)) (same-shifted (a .y) (b .y) (p .y) (h .1))
+      value-eq a b (reduced a a-in) (reduced b b-in) (same-of-same-difference (a .x) (b .x) (p .x) (h .0)) (same-of-same-difference (a .y) (b .y) (p .y) (h .1))
 
   kept : (e j : Point) → Good e → Good j → T (not (replaces p e j)) → Better e j
   kept e j e-in j-in t = go (or-no (same-point e p) (wraps-closer p e j) t) (c .ahead e e-in) (c .ahead j j-in)

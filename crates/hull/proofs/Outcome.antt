@@ -11,12 +11,12 @@ use lib.ListN.{length}
 use Rattle.algebra.specs.Integer.{whole, _≐_}
 use Rattle.algebra.specs.Plane.{Point, orient}
 use Rattle.algebra.specs.Lists.{Once}
+use Rattle.algebra.proofs.Plane.{orient-first-twice, orient-begin, orient-end}
 use Rattle.algebra.proofs.Lists.{pigeonhole}
 use Rattle.hull.specs.Hull.{ReducedPoint, AllReduced, Edge, Linked, IsHull, OnLine, ThreeDifferent}
 use Rattle.algebra.specs.Loops.{weld}
 use Rattle.hull.specs.Outline.{same-point, corners, refusal, closed, wrapped, outline-within, AcceptedWithin, TurnedDownWithin}
 use Rattle.hull.proofs.Points.{same-point-eq, same-point-own, point-discrete}
-use Rattle.hull.proofs.Line.{orient-begin, orient-end, orient-flat}
 use Rattle.hull.proofs.Weld.{weld-length, weld-within, weld-once, weld-all}
 use Rattle.hull.proofs.Wrap.{Wrapped, Folded, wrap-outcome}
 
@@ -93,7 +93,7 @@ line-of-not-three : (s : List Point) → ¬ ThreeDifferent s → OnLine s
 line-of-not-three s none a b c a-in b-in c-in = go (point-discrete b a) (point-discrete c a) (point-discrete c b)
   where
     go : Dec (b ≡ a) → Dec (c ≡ a) → Dec (c ≡ b) → orient a b c ≐ whole 0
-    go (yes e) k l = rw e (orient-flat a c)
+    go (yes e) k l = rw e (orient-first-twice a c)
     go (no n) (yes e) l = rw e (orient-begin a b)
     go (no n) (no k) (yes e) = rw e (orient-end a b)
     go (no n) (no k) (no l) = absurd (none (record {

@@ -1,5 +1,5 @@
 -- Three points and the sides between them: `Left` or `Between` is `Beside` of the vectors, no two sides end in one point nor begin in
--- one, a walk along a line cannot go on, and the end of a side sees all other points in an open half plane. Assumes nothing.
+-- one, and the end of a side sees all other points in an open half plane. Assumes nothing.
 use mathlib.Core.List.{List, [], _∷_}
 use mathlib.Core.Logic.{_⊎_, inl, inr}
 use Prim.Native.Nat.{ℕ, _<_}
@@ -8,6 +8,14 @@ use native.Mathlib.Omega.{arith}
 use Rattle.algebra.specs.Integer.{Z, whole, _⊞_, _⊟_, _⊠_, opp, _≐_, _≼_, _≺_}
 use Rattle.algebra.specs.Polynomial.{var, neg, _:+_, _:-_, _:*_}
 use Rattle.algebra.specs.Plane.{Point, from-to, dot, orient}
+use Rattle.algebra.proofs.Signs.{
+  positive-above,
+  positive-same,
+  zero-same,
+  lt-same-right,
+  difference-negative,
+  lt-of-difference-negative,
+}
 use Rattle.algebra.proofs.Products.{product-zero, mean-below}
 use Rattle.algebra.proofs.Ring.{ring}
 use Rattle.algebra.proofs.Plane.{
@@ -20,6 +28,7 @@ use Rattle.algebra.proofs.Plane.{
   coordinates,
   orientation-reversed,
   dot-symmetric,
+  orientation-swapped,
 }
 use Rattle.hull.specs.Hull.{Left, Between}
 use Rattle.hull.proofs.Directions.{Beside, length-not-negative, flat-lagrange}
@@ -40,9 +49,6 @@ module _ (p q r : Point) where
       ring (dot-expr (from-to-expr point₀ point₁) (from-to-expr point₀ point₂))
       (dot-expr (from-to-expr point₀ point₁) (from-to-expr point₁ point₂) :+ dot-expr (from-to-expr point₀ point₁) (from-to-expr point₀ point₁))
       three tt
-
-  orientation-swapped : orient r q p ≐ opp (orient p q r)
-  orientation-swapped = ring (orient-expr point₂ point₁ point₀) (neg (orient-expr point₀ point₁ point₂)) three tt
 
   -- the two parts of a side, as seen from its ends
   dots-add-up : dot (from-to p q) (from-to p r) ⊞ dot (from-to r q) (from-to r p) ≐ dot (from-to p r) (from-to p r)
@@ -79,24 +85,6 @@ not-both-beyond s t a b e f a-nn h k = omega arith
 not-both-shorter : (g s a b : Z) → g ⊞ (s ⊞ s) ≐ a ⊞ b → whole 0 ≼ g → b ≺ s → a ≺ s → ⊥
 not-both-shorter g s a b e g-nn h k = omega arith
 
-pub carry-positive : (a b : Z) → a ≐ b → whole 0 ≺ a → whole 0 ≺ b
-carry-positive a b e h = omega arith
-
-pub carry-zero : (a b : Z) → a ≐ b → a ≐ whole 0 → b ≐ whole 0
-carry-zero a b e h = omega arith
-
-carry-below : (a b c : Z) → b ≐ c → a ≺ b → a ≺ c
-carry-below a b c e h = omega arith
-
-difference-negative : (a s t : Z) → a ≐ s ⊟ t → s ≺ t → a ≺ whole 0
-difference-negative a s t e h = omega arith
-
-of-difference-negative : (a s t : Z) → a ≐ s ⊟ t → a ≺ whole 0 → s ≺ t
-of-difference-negative a s t e h = omega arith
-
-positive-beyond : (a b : Z) → whole 0 ≼ b → b ≺ a → whole 0 ≺ a
-positive-beyond a b h k = omega arith
-
 part-negative : (s t a : Z) → s ≐ t ⊞ a → s ≺ a → t ≺ whole 0
 part-negative s t a e h = omega arith
 
@@ -113,7 +101,8 @@ module _ (p q r : Point) where
   beside-of-words (inl h) = inl h
   beside-of-words (inr h) = inr (
     h .0,
-    of-difference-negative (dot (from-to r p) (from-to r q)) (dot (from-to p r) (from-to p r)) (dot (from-to p q) (from-to p r)) (dot-from-third p q r) (h .1),
+    lt-of-difference-negative (dot (from-to r p) (from-to r q)) (dot (from-to p r) (from-to p r)) (dot (from-to p q) (from-to p r))
+        (dot-from-third p q r) (h .1),
   )
 
   -- ---- two sides that end in q begin in one point
@@ -133,7 +122,7 @@ module _ (p q r : Point) where
   one-side-out (inr h) (inr k) =
       not-both-shorter (dot (from-to q r) (from-to q r)) (dot (from-to p q) (from-to p r)) (dot (from-to p q) (from-to p q)) (dot (from-to p r) (from-to p r))
       (third-side p q r) (length-not-negative (from-to q r)) (h .1)
-      (carry-below (dot (from-to p q) (from-to p q)) (dot (from-to p r) (from-to p q)) (dot (from-to p q) (from-to p r))
+      (lt-same-right (dot (from-to p q) (from-to p q)) (dot (from-to p r) (from-to p q)) (dot (from-to p q) (from-to p r))
       (dot-symmetric (from-to p r) (from-to p q)) (k .1))
 
 -- ---- an open half plane: ahead of a line with normal m, or on that line and against u, is ahead of k m - u for a large k
@@ -171,11 +160,11 @@ orient-normal p q r =
 
 -- the end q of a side from p sees the others ahead of the side's normal, or back along the side
 pub side-end-ahead : (p q r : Point) → Beside (from-to p q) (from-to p r) → Ahead (quarter-left (from-to p q)) (from-to p q) (from-to q r)
-side-end-ahead p q r (inl h) = inl (carry-positive (orient p q r) (dot (quarter-left (from-to p q)) (from-to q r)) (orient-normal p q r) h)
+side-end-ahead p q r (inl h) = inl (positive-same (orient p q r) (dot (quarter-left (from-to p q)) (from-to q r)) (orient-normal p q r) h)
 side-end-ahead p q r (inr h) = inr (
-  carry-zero (orient p q r) (dot (quarter-left (from-to p q)) (from-to q r)) (orient-normal p q r) (h .0),
+  zero-same (orient p q r) (dot (quarter-left (from-to p q)) (from-to q r)) (orient-normal p q r) (h .0),
   part-negative (dot u w) (dot u (from-to q r)) (dot u u) (dot-from-end p q r)
-      (mean-below (dot u w) (dot u u) (dot w w) (flat-lagrange u w (h .0)) (positive-beyond (dot u w) (dot w w) (length-not-negative w) (h .1))
+      (mean-below (dot u w) (dot u u) (dot w w) (flat-lagrange u w (h .0)) (positive-above (dot u w) (dot w w) (length-not-negative w) (h .1))
       (length-not-negative w) (h .1)),
 )
   where

@@ -1,2 +1,3 @@
 pub mod Hull
 pub mod Outline
+pub mod Places
