@@ -6,6 +6,11 @@ use mathlib.Core.Bool.{Bool, true, false, _||_}
 use mathlib.Core.Option.{Option, none, some}
 use Prim.Native.Nat.{ℕ, zero, suc}
 
+-- the places i, i + 1, .. of an array: n of them
+abbrev pub places : ℕ → ℕ → List ℕ
+places i zero = []
+places i (suc n) = i ∷ places (suc i) n
+
 module _ {A : Type 0} where
   abbrev pub either : Bool → A → A → A
   either true a b = a

@@ -7,7 +7,7 @@ use mathlib.Core.Logic.{_⊎_, inl, inr}
 use mathlib.Core.Bool.{Bool, true, false, _||_}
 use mathlib.Core.Option.{Option, none, some, Option·map}
 use Prim.Native.Nat.{ℕ, zero, suc}
-use Rattle.hull.specs.Loops.{either, near-any, keep-unless, weld, search, stop-or, walk}
+use Rattle.algebra.specs.Loops.{either, near-any, keep-unless, weld, search, stop-or, walk}
 
 module _ {A B : Type 0} (g : A → B) where
   either-map : (t : Bool) (a b : A) → either t (g a) (g b) ≡ g (either t a b)

@@ -12,9 +12,9 @@ use Rattle.algebra.specs.Plane.{Point}
 use Rattle.algebra.specs.Lists.{Once}
 use Rattle.algebra.proofs.Lists.{getD-mem, once-place}
 use Rattle.hull.specs.Hull.{AllReduced}
-use Rattle.hull.specs.Loops.{search, walk}
+use Rattle.algebra.specs.Loops.{places, search, walk}
 use Rattle.hull.specs.Outline.{same-point, starts-before, wraps-closer, replaces, next-corner, start, wrap}
-use Rattle.hull.specs.Places.{places, point-at, replaces-place, next-place, start-place, wrap-places}
+use Rattle.hull.specs.Places.{point-at, replaces-place, next-place, start-place, wrap-places}
 use Rattle.hull.proofs.Points.{same-point-eq, same-point-own}
 use Rattle.hull.proofs.Search.{search-mem}
 use Rattle.hull.proofs.Naming.{search-map, walk-map}

@@ -1,19 +1,14 @@
 -- The walk by places in the array of welded points e ∷ js, as the code has it: a candidate is a place, and "the corner itself" is the
 -- same place. proofs/Places shows that it gives the points of `wrap`. Definitions only.
-use mathlib.Core.List.{List, [], _∷_}
+use mathlib.Core.List.{List, _∷_}
 use mathlib.Core.Bool.{Bool, _||_}
 use mathlib.Core.Option.{Option}
-use Prim.Native.Nat.{ℕ, zero, suc}
+use Prim.Native.Nat.{ℕ}
 use lib.Dec.{eqb}
 use lib.ListN.{length, getD}
 use Rattle.algebra.specs.Plane.{Point}
-use Rattle.hull.specs.Loops.{search, walk}
+use Rattle.algebra.specs.Loops.{places, search, walk}
 use Rattle.hull.specs.Outline.{starts-before, wraps-closer}
-
--- i, i + 1, ..: n places
-abbrev pub places : ℕ → ℕ → List ℕ
-places i zero = []
-places i (suc n) = i ∷ places (suc i) n
 
 abbrev pub point-at : Point → List Point → ℕ → Point
 point-at e js i = getD (e ∷ js) i e

@@ -3,11 +3,11 @@
 use mathlib.Core.Bool.{Bool, true, _&&_, _||_}
 use mathlib.Core.List.{List, [], _∷_}
 use mathlib.Core.Option.{Option}
-use Prim.Native.Nat.{ℕ, zero, suc, _-_}
+use Prim.Native.Nat.{ℕ, _-_}
 use lib.Dec.{eqb}
 use lib.ListN.{length, getD}
 use lib.Ieee.{Float, binary32, ofBits, add, mul, div, lt, eq}
-use Rattle.algebra.specs.Loops.{weld, search, walk}
+use Rattle.algebra.specs.Loops.{places, weld, search, walk}
 use Rattle.floats.specs.declared.b2_math.B2vec2.{B2vec2}
 use Rattle.floats.specs.B2Common.{zero32, half32, one32}
 use Rattle.floats.specs.B2Math.{vec2, b2-add, b2-sub, b2-scale, b2-cross, b2-cross-vec-by-scalar, b2-length-squared, b2-distance-vec2-squared, b2-normalize}
@@ -18,11 +18,6 @@ origin = vec2 zero32 zero32
 -- the point at a place
 abbrev pub point-at : List B2vec2 → ℕ → B2vec2
 point-at ps i = getD ps i origin
-
--- the places i, i + 1, .., so many of them
-unfoldable pub places : ℕ → ℕ → List ℕ
-places i zero = []
-places i (suc k) = i ∷ places (suc i) k
 
 -- the places after 0
 abbrev pub later-places : List B2vec2 → List ℕ
