@@ -1,6 +1,11 @@
 -- The tests of the outline builder, from the values that the code computes on the way. Assumes nothing.
 use mathlib.Core.Path.{_≡_, refl, sym, _∙_, ap}
 use mathlib.Core.Bool.{Bool, true, false, _&&_, _||_}
+use Prim.Native.Nat.{ℕ, _<_, _≤_}
+use mathlib.Core.List.{List}
+use native.Mathlib.Omega.{arith}
+use lib.ListN.{length, take}
+use lib.Seq.{length-take-le}
 use lib.Ieee.{Float, lt, eq}
 use Rattle.floats.specs.declared.b2_math.B2vec2.{B2vec2}
 use Rattle.floats.specs.B2Common.{zero32}
@@ -28,3 +33,7 @@ module _ (corner candidate p r v : B2vec2) (k : Float) (r-is : r ≡ b2-sub cand
   unfolding closer
   closer-above not-below not-level =
       simp (not-level, ap (λ x. lt x zero32) (sym cross-is) ∙ not-below, ap (λ x. eq x zero32) (sym cross-is) ∙ not-level)
+
+-- a place below n is a place of the first n
+pub first-places : {A : Type 0} (n j : ℕ) (l : List A) → j < n → n ≤ length l → j < length (take n l)
+first-places n j l below few = omega (arith, length-take-le n l few)
