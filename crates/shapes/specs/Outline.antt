@@ -37,8 +37,11 @@ welded points = weld too-near [] points
 unfoldable pub comes-before : B2vec2 → B2vec2 → Bool
 comes-before best p = lt (best .x) (p .x) || eq (p .x) (best .x) && lt (p .y) (best .y)
 
+abbrev pub earlier : List B2vec2 → ℕ → ℕ → Bool
+earlier ps best j = comes-before (point-at ps best) (point-at ps j)
+
 unfoldable pub start : List B2vec2 → ℕ
-start ps = search (λ best j. comes-before (point-at ps best) (point-at ps j)) 0 (later-places ps)
+start ps = search (earlier ps) 0 (later-places ps)
 
 -- ---- the next corner: the candidate begins at place 0 and is replaced by j when the cross product is below 0, or equals 0 and j is
 -- farther; a candidate equal to the corner itself is replaced unseen
@@ -48,9 +51,11 @@ turns-closer r v = lt (b2-cross r v) zero32 || eq (b2-cross r v) zero32 && lt (b
 unfoldable pub closer : B2vec2 → B2vec2 → B2vec2 → Bool
 closer corner candidate p = turns-closer (b2-sub candidate corner) (b2-sub p corner)
 
+abbrev pub replaces : List B2vec2 → ℕ → ℕ → ℕ → Bool
+replaces ps corner candidate j = eqb candidate corner || closer (point-at ps corner) (point-at ps candidate) (point-at ps j)
+
 unfoldable pub next : List B2vec2 → ℕ → ℕ
-next ps corner =
-    search (λ candidate j. eqb candidate corner || closer (point-at ps corner) (point-at ps candidate) (point-at ps j)) 0 (later-places ps)
+next ps corner = search (replaces ps corner) 0 (later-places ps)
 
 -- ---- the walk from the start until it comes again: the places of its corners, or none where it is not back after eight
 unfoldable pub row : List B2vec2 → Option (List ℕ)

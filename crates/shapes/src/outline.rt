@@ -1,11 +1,10 @@
 // The parts of the outline builder: welding, the start, the walk, normals, and area with moment. Points stand in the first places of an
 // array of eight; the definitions are over the list of them.
 ghost use mathlib.Core.Path.{_≡_};
-ghost use mathlib.Core.Bool.{true, false};
 ghost use Prim.Native.Nat.{_<_, _≤_};
-ghost use lib.ListN.{length, take, getD};
-ghost use Rattle.algebra.specs.Loops.{near-any};
-ghost use Rattle.shapes.specs.Outline.{point-at, too-near, welded, comes-before, start, closer, next};
+ghost use lib.ListN.{take};
+ghost use Rattle.algebra.specs.Loops.{near-any, either};
+ghost use Rattle.shapes.specs.Outline.{too-near, welded, comes-before, earlier, start, closer, replaces, next};
 use floats::b2_common::B2_LINEAR_SLOP;
 use floats::b2_math;
 use floats::b2_math::B2vec2;
@@ -70,6 +69,14 @@ fn comes_before(best: B2vec2, p: B2vec2) -> bool
     larger | (level & lower)
 }
 
+// The place of the one that comes before the other, of the best place so far and place i.
+fn earlier_of(ps: [B2vec2; 8], best: usize, i: usize) -> usize
+    requires { ⌜ (best < 8) × (i < 8) ⌝ }
+    ensures { λ r. ⌜ r ≡ either (earlier ps best i) i best ⌝ }
+{
+    if comes_before(ps[best], ps[i]) { i } else { best }
+}
+
 // The place of the largest x, smallest y among equals.
 pub fn start(ps: [B2vec2; 8], n: usize) -> usize
     requires { ⌜ (0 < n) × (n ≤ 8) ⌝ }
@@ -78,9 +85,7 @@ pub fn start(ps: [B2vec2; 8], n: usize) -> usize
     let mut i0 = 0usize;
     let mut i = 1usize;
     while i < n {
-        if comes_before(ps[i0], ps[i]) {
-            i0 = i;
-        }
+        i0 = earlier_of(ps, i0, i);
         i += 1;
     }
     i0
@@ -99,6 +104,17 @@ fn closer(corner: B2vec2, candidate: B2vec2, p: B2vec2) -> bool
     c == 0.0 && b2_math::b2_length_squared(r) < b2_math::b2_length_squared(v)
 }
 
+// The candidate's place, or j where that replaces it as the corner after the one at ih.
+fn better_of(ps: [B2vec2; 8], ih: usize, ie: usize, j: usize) -> usize
+    requires { ⌜ (ih < 8) × (ie < 8) × (j < 8) ⌝ }
+    ensures { λ r. ⌜ r ≡ either (replaces ps ih ie j) j ie ⌝ }
+{
+    if ie == ih {
+        return j;
+    }
+    if closer(ps[ih], ps[ie], ps[j]) { j } else { ie }
+}
+
 // The place of the corner after the one at ih.
 pub fn next(ps: [B2vec2; 8], n: usize, ih: usize) -> usize
     requires { ⌜ (0 < n) × (n ≤ 8) × (ih < n) ⌝ }
@@ -107,13 +123,7 @@ pub fn next(ps: [B2vec2; 8], n: usize, ih: usize) -> usize
     let mut ie = 0usize;
     let mut j = 1usize;
     while j < n {
-        if ie == ih {
-            ie = j;
-        } else {
-            if closer(ps[ih], ps[ie], ps[j]) {
-                ie = j;
-            }
-        }
+        ie = better_of(ps, ih, ie, j);
         j += 1;
     }
     ie

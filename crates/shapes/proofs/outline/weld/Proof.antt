@@ -1,56 +1,56 @@
+-- The points kept so far, and those to come, give the whole answer. Assumes nothing.
+use mathlib.Core.Path.{_≡_, refl, sym, _∙_}
+use Prim.Native.Nat.{_≤_, _<_, _-_}
+use native.Mathlib.Omega.{arith}
+use lib.ListN.{length, take, drop}
+use lib.Seq.{getD-take, length-take-le}
+use borrow.Author.Needs.{needs}
+use Rattle.algebra.specs.Loops.{weld}
+use Rattle.algebra.proofs.Loops.{weld-dropped, weld-kept, weld-ended}
+use Rattle.shapes.specs.Outline.{too-near, welded}
+use Rattle.shapes.proofs.Tests.{first-places}
 use Rattle.shapes.proofs.outline.weld.Statement.{statement}
 use Rattle.shapes.proofs.outline.weld.Tie as tie
-use Rattle.shapes.proofs.outline.weld.Reads as reads
-use Rattle.shapes.proofs.outline.weld.Lts as lts
-use Rattle.shapes.proofs.outline.near_any.Reads as near-any-reads
 
 abbrev Inv-loop : tie.InvT-loop
-Inv-loop count points ps₀ n₀ i₀ ps n i = ?
+Inv-loop count points ps₀ n₀ i₀ ps n i =
+    (n ≤ i) × (i ≤ count) × (count ≤ 8) × (length points ≡ 8) × (length ps ≡ 8)
+    × (weld too-near (take n ps) (drop i (take count points)) ≡ welded (take count points))
 
 abbrev μ-loop : tie.MeasureT-loop
-μ-loop count points ps₀ n₀ i₀ ps n i = ?
+μ-loop count points ps₀ n₀ i₀ ps n i = count - i
 
--- src/outline.rt:52:5
 loop-holds : tie.Need-loop-holds Inv-loop μ-loop
-loop-holds c = ?
+unfolding welded
+loop-holds c = (omega arith, omega arith, omega arith, c .good .0 .1 .0 .1, refl, refl)
 
--- src/outline.rt:53:17
 mul-v : tie.Need-mul-v Inv-loop μ-loop
-mul-v c = ?
+mul-v c = search needs
 
--- src/outline.rt:53:17
 array-copy-out-v : tie.Need-array-copy-out-v Inv-loop μ-loop
-array-copy-out-v c = ?
+array-copy-out-v c = search needs
 
--- src/outline.rt:54:13
 near-any-requires : tie.Need-near-any-requires Inv-loop μ-loop
-near-any-requires c κs = ?
+near-any-requires c κs = search needs
 
--- src/outline.rt:55:13
 mul-ps : tie.Need-mul-ps Inv-loop μ-loop
-mul-ps c = ?
+mul-ps c = search needs
 
--- src/outline.rt:55:13
 array-set-from-ps : tie.Need-array-set-from-ps Inv-loop μ-loop
-array-set-from-ps c = ?
+array-set-from-ps c = search needs
 
--- src/outline.rt:56:13
 add-n : tie.Need-add-n Inv-loop μ-loop
-add-n c = ?
+add-n c = search needs
 
--- src/outline.rt:58:9
 add-i : tie.Need-add-i Inv-loop μ-loop
-add-i c = ?
+add-i c = search needs
 
--- src/outline.rt:52:5
 loop-less : tie.Need-loop-less Inv-loop μ-loop
-loop-less c = ?
+loop-less c = search needs
 
--- src/outline.rt:52:5
 loop-again : tie.Need-loop-again Inv-loop μ-loop
 loop-again c = ?
 
--- src/outline.rt:45:1
 returns : tie.Need-returns Inv-loop μ-loop
 returns c = ?
 
