@@ -1,3 +1,4 @@
+pub mod Controls
 pub mod Integer
 pub mod Signs
 pub mod Magnitude
@@ -8,4 +9,3 @@ pub mod Plane
 pub mod Lists
 pub mod Loops
 pub mod Buffer
-pub mod Controls

@@ -1,13 +1,13 @@
 -- The loops of specs/Loops, a step at a time, for code that runs them over the places of an array. Assumes nothing.
 use mathlib.Core.Path.{_≡_, refl, sym, _∙_, ap}
 use mathlib.Core.List.{List, [], _∷_, _++_}
-use mathlib.Core.Bool.{Bool, true, false, _||_}
+use mathlib.Core.Bool.{Bool, true, false, cond, _||_}
 use Prim.Native.Nat.{ℕ, zero, suc, _+_, _-_, _<_, _≤_}
 use native.Mathlib.Numerals.{add-one}
 use native.Mathlib.Omega.{arith}
 use lib.ListN.{length, getD, take, drop, set}
 use lib.Seq.{drop-cons, drop-length, take-suc-set}
-use Rattle.algebra.specs.Loops.{places, near-any, keep-unless, weld, either, search}
+use Rattle.algebra.specs.Loops.{places, near-any, keep-unless, weld, scan}
 
 module _ {A : Type 0} where
   -- ---- near-any, from place j on: a is the element there
@@ -45,25 +45,25 @@ module _ {A : Type 0} where
   pub weld-ended : (near : A → A → Bool) (kept l whole : List A) (i : ℕ) → i ≡ length l → weld near kept (drop i l) ≡ whole → kept ≡ whole
   weld-ended near kept l whole i end so-far = ap (weld near kept) (sym (drop-length l) ∙ ap (λ (k : ℕ). drop k l) (sym end)) ∙ so-far
 
--- ---- a search over the places from j on, n - j of them
-module _ (test : ℕ → ℕ → Bool) (candidate j n answer : ℕ) (within : j < n) (so-far : search test candidate (places j (n - j)) ≡ answer) where
+-- ---- a scan over the places from j on, n - j of them
+module _ (test : ℕ → ℕ → Bool) (candidate j n answer : ℕ) (within : j < n) (so-far : scan test candidate (places j (n - j)) ≡ answer) where
   one-place : places j (n - j) ≡ j ∷ places (j + 1) (n - (j + 1))
   one-place = ap (places j) count ∙ ap (λ (k : ℕ). j ∷ places k (n - (j + 1))) (sym (add-one j))
     where
       count : n - j ≡ suc (n - (j + 1))
       count = omega arith
 
-  search-here : search test (either (test candidate j) j candidate) (places (j + 1) (n - (j + 1))) ≡ answer
-  search-here = ap (search test candidate) (sym one-place) ∙ so-far
+  scan-here : scan test (cond (test candidate j) j candidate) (places (j + 1) (n - (j + 1))) ≡ answer
+  scan-here = ap (scan test candidate) (sym one-place) ∙ so-far
 
-  pub search-taken : test candidate j ≡ true → search test j (places (j + 1) (n - (j + 1))) ≡ answer
-  search-taken found = ap (λ (t : Bool). search test (either t j candidate) (places (j + 1) (n - (j + 1)))) (sym found) ∙ search-here
+  pub scan-taken : test candidate j ≡ true → scan test j (places (j + 1) (n - (j + 1))) ≡ answer
+  scan-taken found = ap (λ (t : Bool). scan test (cond t j candidate) (places (j + 1) (n - (j + 1)))) (sym found) ∙ scan-here
 
-  pub search-left : test candidate j ≡ false → search test candidate (places (j + 1) (n - (j + 1))) ≡ answer
-  search-left not-found = ap (λ (t : Bool). search test (either t j candidate) (places (j + 1) (n - (j + 1)))) (sym not-found) ∙ search-here
+  pub scan-left : test candidate j ≡ false → scan test candidate (places (j + 1) (n - (j + 1))) ≡ answer
+  scan-left not-found = ap (λ (t : Bool). scan test (cond t j candidate) (places (j + 1) (n - (j + 1)))) (sym not-found) ∙ scan-here
 
-pub search-ended : (test : ℕ → ℕ → Bool) (candidate j n answer : ℕ) → n ≤ j → search test candidate (places j (n - j)) ≡ answer → candidate ≡ answer
-search-ended test candidate j n answer past so-far = ap (λ (k : ℕ). search test candidate (places j k)) (sym none-left) ∙ so-far
+pub scan-ended : (test : ℕ → ℕ → Bool) (candidate j n answer : ℕ) → n ≤ j → scan test candidate (places j (n - j)) ≡ answer → candidate ≡ answer
+scan-ended test candidate j n answer past so-far = ap (λ (k : ℕ). scan test candidate (places j k)) (sym none-left) ∙ so-far
   where
     none-left : n - j ≡ 0
     none-left = omega arith

@@ -1,7 +1,7 @@
 pub mod Points
 pub mod Directions
 pub mod Sides
-pub mod Search
+pub mod Scan
 pub mod Weld
 pub mod Walk
 pub mod Corners

@@ -1,4 +1,4 @@
--- The search for the next corner: at a corner p it finds a point q such that p q is a side. Assumes nothing.
+-- The scan for the next corner: at a corner p it finds a point q such that p q is a side. Assumes nothing.
 use mathlib.Core.Path.{_≡_, refl, sym, _∙_, subst}
 use mathlib.Core.List.{List, _∷_, List·Memᴰ, List·Memᴰ·cases-cons}
 use mathlib.Core.List as L
@@ -17,7 +17,7 @@ use Rattle.hull.specs.Outline.{same-point, farther, wraps-closer, replac
 use Rattle.hull.proofs.Points.{value-eq, same-point-eq, not-same-point}
 use Rattle.hull.proofs.Directions.{Beats, Beside, SameVector, beats-trans, beats-total, beats-beside, length-not-negative}
 use Rattle.hull.proofs.Sides.{words-of-beside}
-use Rattle.hull.proofs.Search.{search-mem, search-best}
+use Rattle.hull.proofs.Scan.{scan-mem, scan-best}
 use Rattle.hull.proofs.Corners.{Corner, Side}
 
 -- ---- the test says that j beats e, as seen from p
@@ -66,7 +66,7 @@ not-beaten-by-own p e b =
     no-beat (cross (from-to p p) (from-to p e)) (dot (from-to p p) (from-to p p)) (dot (from-to p e) (from-to p e))
     (orient-first-twice p e) (own-length p) (length-not-negative (from-to p e)) b
 
--- ---- the search at a corner
+-- ---- the scan at a corner
 module _ (e₀ : Point) (js : List Point) (reduced : AllReduced (e₀ ∷ js)) (p : Point) (c : Corner (e₀ ∷ js) p) where
   abbrev Good : Point → Type 0
   Good r = List·Memᴰ r (e₀ ∷ js)
@@ -129,7 +129,7 @@ module _ (e₀ : Point) (js : List Point) (reduced : AllReduced (e₀ ∷ js)) (
 
   best : (r : Point) → Good r → Better q r
   best r r-in =
-      search-best (replaces p) Good Better (λ a. inr (inl refl)) kept replaced js e₀ r
+      scan-best (replaces p) Good Better (λ a. inr (inl refl)) kept replaced js e₀ r
       (L.List·Memᴰ·head refl) (λ j m. L.List·Memᴰ·tail m) r-in (go (List·Memᴰ·cases-cons r-in))
     where
       go : (r ≡ e₀) ⊎ List·Memᴰ r js → Better e₀ r ⊎ List·Memᴰ r js
@@ -138,7 +138,7 @@ module _ (e₀ : Point) (js : List Point) (reduced : AllReduced (e₀ ∷ js)) (
 
   -- where there is another point than p
   pub next-side : (o : Point) → List·Memᴰ o (e₀ ∷ js) → ¬ (o ≡ p) → Side (e₀ ∷ js) p (next-corner e₀ js p)
-  next-side o o-in o-not-p = record { mem = search-mem (replaces p) js e₀; apart = apart; edge = λ r r-in. edge r (best r r-in) (c .ahead r r-in) }
+  next-side o o-in o-not-p = record { mem = scan-mem (replaces p) js e₀; apart = apart; edge = λ r r-in. edge r (best r r-in) (c .ahead r r-in) }
     where
       apart : ¬ (q ≡ p)
       apart q-is = go (best o o-in)
@@ -152,7 +152,7 @@ module _ (e₀ : Point) (js : List Point) (reduced : AllReduced (e₀ ∷ js)) (
       edge r (inl h) k = inl h
       edge r (inr (inl h)) k = inr (inl h)
       edge r (inr (inr h)) (inl k) = inl k
-      edge r (inr (inr h)) (inr r-half) = inr (inr (words-of-beside p q r (go (c .ahead q (search-mem (replaces p) js e₀)))))
+      edge r (inr (inr h)) (inr r-half) = inr (inr (words-of-beside p q r (go (c .ahead q (scan-mem (replaces p) js e₀)))))
         where
           go : (q ≡ p) ⊎ InHalf q → Beside (from-to p q) (from-to p r)
           go (inl q-is) = absurd (h .0 q-is)

@@ -12,12 +12,12 @@ use Rattle.algebra.specs.Plane.{Point}
 use Rattle.algebra.specs.Lists.{Once}
 use Rattle.algebra.proofs.Lists.{getD-mem, once-place}
 use Rattle.hull.specs.Hull.{AllReduced}
-use Rattle.algebra.specs.Loops.{places, search, walk}
+use Rattle.algebra.specs.Loops.{places, scan, walk}
 use Rattle.hull.specs.Outline.{same-point, starts-before, wraps-closer, replaces, next-corner, start, wrap}
 use Rattle.hull.specs.Places.{point-at, replaces-place, next-place, start-place, wrap-places}
 use Rattle.hull.proofs.Points.{same-point-eq, same-point-own}
-use Rattle.hull.proofs.Search.{search-mem}
-use Rattle.hull.proofs.Naming.{search-map, walk-map}
+use Rattle.hull.proofs.Scan.{scan-mem}
+use Rattle.hull.proofs.Naming.{scan-map, walk-map}
 
 -- ---- places
 places-bound : (i n j : ℕ) → List·Memᴰ j (places i n) → j < i + n
@@ -76,8 +76,8 @@ module _ (e₀ : Point) (js : List Point) (reduced : AllReduced (e₀ ∷ js)) (
       one-more : (j : ℕ) → 1 + j ≡ suc j
       one-more j = omega arith
 
-  search-in : (test : ℕ → ℕ → Bool) → In (search test 0 (places 1 (length js)))
-  search-in test = go (List·Memᴰ·cases-cons (search-mem test (places 1 (length js)) 0))
+  scan-in : (test : ℕ → ℕ → Bool) → In (scan test 0 (places 1 (length js)))
+  scan-in test = go (List·Memᴰ·cases-cons (scan-mem test (places 1 (length js)) 0))
     where
       go : {i : ℕ} → (i ≡ 0) ⊎ List·Memᴰ i (places 1 (length js)) → In i
       go (inl e) = subst In (sym e) zero-in
@@ -85,14 +85,14 @@ module _ (e₀ : Point) (js : List Point) (reduced : AllReduced (e₀ ∷ js)) (
 
   start-is : start e₀ js ≡ point-at e₀ js (start-place e₀ js)
   start-is =
-      ap (search starts-before e₀) (sym rest-map)
-      ∙ search-map (point-at e₀ js) In (λ i j. starts-before (point-at e₀ js i) (point-at e₀ js j)) starts-before (λ i j i-in j-in. refl)
+      ap (scan starts-before e₀) (sym rest-map)
+      ∙ scan-map (point-at e₀ js) In (λ i j. starts-before (point-at e₀ js i) (point-at e₀ js j)) starts-before (λ i j i-in j-in. refl)
       (places 1 (length js)) 0 zero-in rest-in
 
   next-is : (h : ℕ) → In h → next-corner e₀ js (point-at e₀ js h) ≡ point-at e₀ js (next-place e₀ js h)
   next-is h h-in =
-      ap (search (replaces (point-at e₀ js h)) e₀) (sym rest-map)
-      ∙ search-map (point-at e₀ js) In (replaces-place e₀ js h) (replaces (point-at e₀ js h))
+      ap (scan (replaces (point-at e₀ js h)) e₀) (sym rest-map)
+      ∙ scan-map (point-at e₀ js) In (replaces-place e₀ js h) (replaces (point-at e₀ js h))
       (λ i j i-in j-in. ap (λ (t : Bool). t || wraps-closer (point-at e₀ js h) (point-at e₀ js i) (point-at e₀ js j)) (same-place i h i-in h-in))
       (places 1 (length js)) 0 zero-in rest-in
 
@@ -100,6 +100,6 @@ module _ (e₀ : Point) (js : List Point) (reduced : AllReduced (e₀ ∷ js)) (
   wrap-by-places fuel =
       ap (λ (p : Point). walk same-point (next-corner e₀ js) p fuel p) start-is
       ∙ walk-map (point-at e₀ js) In eqb same-point same-place (next-place e₀ js) (next-corner e₀ js) next-is
-      (λ h h-in. search-in (replaces-place e₀ js h)) (start-place e₀ js)
-      (search-in (λ i j. starts-before (point-at e₀ js i) (point-at e₀ js j))) fuel (start-place e₀ js)
-      (search-in (λ i j. starts-before (point-at e₀ js i) (point-at e₀ js j)))
+      (λ h h-in. scan-in (replaces-place e₀ js h)) (start-place e₀ js)
+      (scan-in (λ i j. starts-before (point-at e₀ js i) (point-at e₀ js j))) fuel (start-place e₀ js)
+      (scan-in (λ i j. starts-before (point-at e₀ js i) (point-at e₀ js j)))

@@ -1,4 +1,4 @@
--- The search for the start finds the first point: largest x, smallest y among equals. Assumes nothing.
+-- The scan for the start finds the first point: largest x, smallest y among equals. Assumes nothing.
 use mathlib.Core.Path.{_≡_, refl, sym, subst}
 use mathlib.Core.List.{List, _∷_, List·Memᴰ, List·Memᴰ·cases-cons}
 use mathlib.Core.List as L
@@ -13,7 +13,7 @@ use Rattle.algebra.proofs.Integer.{same-sym, le-antisym, order-cases, same-of-t
 use Rattle.hull.specs.Hull.{ReducedPoint, AllReduced, First}
 use Rattle.hull.specs.Outline.{starts-before, start}
 use Rattle.hull.proofs.Points.{value-eq}
-use Rattle.hull.proofs.Search.{search-mem, search-best}
+use Rattle.hull.proofs.Scan.{scan-mem, scan-best}
 
 -- r comes after e: a smaller x, or the same and a larger y
 abbrev After : Point → Point → Type 0
@@ -57,11 +57,11 @@ module _ (e j : Point) where
 
 module _ (e₀ : Point) (js : List Point) (reduced : AllReduced (e₀ ∷ js)) where
   pub start-mem : List·Memᴰ (start e₀ js) (e₀ ∷ js)
-  start-mem = search-mem starts-before js e₀
+  start-mem = scan-mem starts-before js e₀
 
   pub start-first : First (e₀ ∷ js) (start e₀ js)
   start-first r r-in =
-      search-best starts-before ReducedPoint (λ e a. (a ≡ e) ⊎ After e a) (λ a. inl refl)
+      scan-best starts-before ReducedPoint (λ e a. (a ≡ e) ⊎ After e a) (λ a. inl refl)
       (λ e j e-reduced j-reduced t. kept-of-test e j e-reduced j-reduced t) replaced
       js e₀ r (reduced e₀ (L.List·Memᴰ·head refl)) (λ j m. reduced j (L.List·Memᴰ·tail m)) (reduced r r-in) (go (List·Memᴰ·cases-cons r-in))
     where

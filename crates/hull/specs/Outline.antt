@@ -9,7 +9,7 @@ use Prim.Native.Nat.{ℕ}
 use Rattle.algebra.specs.Integer.{whole, _≐?_, _≺?_}
 use Rattle.algebra.specs.Plane.{Point, from-to, dot, orient}
 use Rattle.hull.specs.Hull.{IsHull, ThreeDifferent}
-use Rattle.algebra.specs.Loops.{weld, search, walk}
+use Rattle.algebra.specs.Loops.{weld, scan, walk}
 
 -- equal by value
 abbrev pub same-point : Point → Point → Bool
@@ -30,10 +30,10 @@ abbrev pub replaces : Point → Point → Point → Bool
 replaces p e j = same-point e p || wraps-closer p e j
 
 abbrev pub next-corner : Point → List Point → Point → Point
-next-corner e js p = search (replaces p) e js
+next-corner e js p = scan (replaces p) e js
 
 abbrev pub start : Point → List Point → Point
-start e js = search starts-before e js
+start e js = scan starts-before e js
 
 -- the walk around the points e ∷ js
 abbrev pub wrap : ℕ → Point → List Point → Option (List Point)

@@ -7,7 +7,7 @@ use Prim.Native.Nat.{ℕ}
 use lib.Dec.{eqb}
 use lib.ListN.{length, getD}
 use Rattle.algebra.specs.Plane.{Point}
-use Rattle.algebra.specs.Loops.{places, search, walk}
+use Rattle.algebra.specs.Loops.{places, scan, walk}
 use Rattle.hull.specs.Outline.{starts-before, wraps-closer}
 
 abbrev pub point-at : Point → List Point → ℕ → Point
@@ -17,10 +17,10 @@ abbrev pub replaces-place : Point → List Point → ℕ → ℕ → ℕ → Boo
 replaces-place e js h i j = eqb i h || wraps-closer (point-at e js h) (point-at e js i) (point-at e js j)
 
 abbrev pub next-place : Point → List Point → ℕ → ℕ
-next-place e js h = search (replaces-place e js h) 0 (places 1 (length js))
+next-place e js h = scan (replaces-place e js h) 0 (places 1 (length js))
 
 abbrev pub start-place : Point → List Point → ℕ
-start-place e js = search (λ i j. starts-before (point-at e js i) (point-at e js j)) 0 (places 1 (length js))
+start-place e js = scan (λ i j. starts-before (point-at e js i) (point-at e js j)) 0 (places 1 (length js))
 
 abbrev pub wrap-places : ℕ → Point → List Point → Option (List ℕ)
 wrap-places fuel e js = walk eqb (next-place e js) (start-place e js) fuel (start-place e js)

@@ -1,6 +1,6 @@
 -- The tests of the outline builder, from the values that the code computes on the way. Assumes nothing.
 use mathlib.Core.Path.{_≡_, refl, sym, _∙_, ap}
-use mathlib.Core.Bool.{Bool, true, false, _&&_, _||_}
+use mathlib.Core.Bool.{Bool, true, false, cond, _&&_, _||_}
 use Prim.Native.Nat.{ℕ, zero, suc, _<_, _≤_}
 use mathlib.Core.List.{List, [], _∷_}
 use native.Mathlib.Omega.{arith}
@@ -10,7 +10,6 @@ use lib.Ieee.{Float, lt, eq}
 use Rattle.floats.specs.declared.b2_math.B2vec2.{B2vec2}
 use Rattle.floats.specs.B2Common.{zero32}
 use Rattle.floats.specs.B2Math.{b2-sub, b2-cross, b2-length-squared}
-use Rattle.algebra.specs.Loops.{either}
 use Rattle.shapes.specs.Outline.{origin, point-at, earlier, closer, replaces}
 
 module _ (corner candidate p r v : B2vec2) (k : Float) (r-is : r ≡ b2-sub candidate corner) (v-is : v ≡ b2-sub p corner) (k-is : k ≡ b2-cross r v) where
@@ -57,6 +56,6 @@ pub replaces-first : (l : List B2vec2) (n corner candidate j : ℕ) → corner <
 replaces-first l n corner candidate j corner-in candidate-in j-in =
     simp (at-first-place l n corner corner-in, at-first-place l n candidate candidate-in, at-first-place l n j j-in)
 
-pub either-below : (t : Bool) (a b n : ℕ) → a < n → b < n → either t a b < n
-either-below true a b n a-below b-below = a-below
-either-below false a b n a-below b-below = b-below
+pub cond-below : (t : Bool) (a b n : ℕ) → a < n → b < n → cond t a b < n
+cond-below true a b n a-below b-below = a-below
+cond-below false a b n a-below b-below = b-below

@@ -7,7 +7,7 @@ use Prim.Native.Nat.{ℕ, _-_}
 use lib.Dec.{eqb}
 use lib.ListN.{length, getD}
 use lib.Ieee.{Float, binary32, ofBits, add, mul, div, lt, eq}
-use Rattle.algebra.specs.Loops.{places, weld, search, walk}
+use Rattle.algebra.specs.Loops.{places, weld, scan, walk}
 use Rattle.floats.specs.declared.b2_math.B2vec2.{B2vec2}
 use Rattle.floats.specs.B2Common.{zero32, half32, one32}
 use Rattle.floats.specs.B2Math.{vec2, b2-add, b2-sub, b2-scale, b2-cross, b2-cross-vec-by-scalar, b2-length-squared, b2-distance-vec2-squared, b2-normalize}
@@ -41,7 +41,7 @@ abbrev pub earlier : List B2vec2 → ℕ → ℕ → Bool
 earlier ps best j = comes-before (point-at ps best) (point-at ps j)
 
 unfoldable pub start : List B2vec2 → ℕ
-start ps = search (earlier ps) 0 (later-places ps)
+start ps = scan (earlier ps) 0 (later-places ps)
 
 -- ---- the next corner: the candidate begins at place 0 and is replaced by j when the cross product is below 0, or equals 0 and j is
 -- farther; a candidate equal to the corner itself is replaced unseen
@@ -55,7 +55,7 @@ abbrev pub replaces : List B2vec2 → ℕ → ℕ → ℕ → Bool
 replaces ps corner candidate j = eqb candidate corner || closer (point-at ps corner) (point-at ps candidate) (point-at ps j)
 
 unfoldable pub next : List B2vec2 → ℕ → ℕ
-next ps corner = search (replaces ps corner) 0 (later-places ps)
+next ps corner = scan (replaces ps corner) 0 (later-places ps)
 
 -- ---- the walk from the start until it comes again: the places of its corners, or none where it is not back after eight
 unfoldable pub row : List B2vec2 → Option (List ℕ)

@@ -1,9 +1,10 @@
 // The parts of the outline builder: welding, the start, the walk, normals, and area with moment. Points stand in the first places of an
 // array of eight; the definitions are over the list of them.
 ghost use mathlib.Core.Path.{_≡_};
+ghost use mathlib.Core.Bool.{cond};
 ghost use Prim.Native.Nat.{_<_, _≤_};
 ghost use lib.ListN.{take};
-ghost use Rattle.algebra.specs.Loops.{near-any, either};
+ghost use Rattle.algebra.specs.Loops.{near-any};
 ghost use Rattle.shapes.specs.Outline.{too-near, welded, comes-before, earlier, start, closer, replaces, next};
 use floats::b2_common::B2_LINEAR_SLOP;
 use floats::b2_math;
@@ -72,7 +73,7 @@ fn comes_before(best: B2vec2, p: B2vec2) -> bool
 // The place of the one that comes before the other, of the best place so far and place i.
 fn earlier_of(ps: [B2vec2; 8], best: usize, i: usize) -> usize
     requires { ⌜ (best < 8) × (i < 8) ⌝ }
-    ensures { λ r. ⌜ r ≡ either (earlier ps best i) i best ⌝ }
+    ensures { λ r. ⌜ r ≡ cond (earlier ps best i) i best ⌝ }
 {
     if comes_before(ps[best], ps[i]) { i } else { best }
 }
@@ -107,7 +108,7 @@ fn closer(corner: B2vec2, candidate: B2vec2, p: B2vec2) -> bool
 // The candidate's place, or j where that replaces it as the corner after the one at ih.
 fn better_of(ps: [B2vec2; 8], ih: usize, ie: usize, j: usize) -> usize
     requires { ⌜ (ih < 8) × (ie < 8) × (j < 8) ⌝ }
-    ensures { λ r. ⌜ r ≡ either (replaces ps ih ie j) j ie ⌝ }
+    ensures { λ r. ⌜ r ≡ cond (replaces ps ih ie j) j ie ⌝ }
 {
     if ie == ih {
         return j;
