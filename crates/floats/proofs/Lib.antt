@@ -5,3 +5,5 @@ pub mod Nan
 pub mod Patterns
 pub mod RootPattern
 pub mod SqrtCases
+pub mod Controls
+pub mod RootControls
