@@ -1,0 +1,4 @@
+pub mod Value
+pub mod Digits
+pub mod Rounding
+pub mod Error
