@@ -1,0 +1,4 @@
+pub mod Integer
+pub mod Magnitude
+pub mod Products
+pub mod Squares
