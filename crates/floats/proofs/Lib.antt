@@ -1,4 +1,7 @@
 pub mod Value
 pub mod Digits
+pub mod Compared
 pub mod Rounding
 pub mod Error
+pub mod WholeRoot
+pub mod RoundedRoot

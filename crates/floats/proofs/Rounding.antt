@@ -7,8 +7,7 @@ use Prim.Native.Nat.{ℕ, zero, suc, _+_, _-_, _*_, _/_, _%_, _^_, _≤_, _<_, c
 use native.Mathlib.Nat.{le-trans, le-of-eq, lt-of-le-of-lt, mul-assoc, mul-comm, mul-one, mul-right-comm, mul-le-mul-right, mul-le-mul-left, mul-le-mul, mul-pos, mul-lt-mul-of-pos-right, le-of-mul-le-mul-right, div-add-mod', mod-lt, div-lt-iff-lt-mul, le-div-iff-mul-le, div-div-eq-div-mul, eq-zero-or-pos}
 use native.Mathlib.Omega.{arith}
 use mathlib.Core.Bool.{Bool, true, false, not, cond}
-use lib.Dec.{T, isLe, isEq, ltb, eqb, leb→le, nleb→lt, eqb→eq, eqb-refl, ltb→lt}
-use lib.Arith.{lt-of-le-ne}
+use lib.Dec.{T, ltb, ltb→lt}
 use lib.Pow.{pow-add, pow-pos, pow-mono, pow-lt, shl-lt}
 use lib.Ieee.{Float, nan, inf, fin, binary32, size, nearest, odd, units, round}
 use lib.Ieee.Digits.{back, size-le, size-reaches}
@@ -19,26 +18,14 @@ use lib.Ieee.Order.{drop, kept}
 use lib.Ieee.Scale.{grid, finite}
 use Rattle.floats.specs.Value.{metre, F32}
 use Rattle.floats.proofs.Value.{metre-is, f32-of-value}
+use Rattle.floats.proofs.Compared.{Compared, compared}
 
 -- ---- the nearest whole number to a / b
-abbrev pub Compares : Ordering → ℕ → ℕ → Type 0
-Compares Ordering·lt a b = a < b
-Compares Ordering·eq a b = a ≡ b
-Compares Ordering·gt a b = b < a
-
-pub compares : (a b : ℕ) → Compares (compare a b) a b
-compares a b = by-order (compare a b) (leb→le a b) (nleb→lt a b) (eqb→eq a b) (λ (e : a ≡ b). subst (λ (x : ℕ). T (eqb a x)) e (eqb-refl a))
-  where
-    by-order : (o : Ordering) → (T (isLe o) → a ≤ b) → (T (not (isLe o)) → b < a) → (T (isEq o) → a ≡ b) → (a ≡ b → T (isEq o)) → Compares o a b
-    by-order Ordering·lt le gt eq same = lt-of-le-ne (le tt) same
-    by-order Ordering·eq le gt eq same = eq tt
-    by-order Ordering·gt le gt eq same = gt tt
-
 -- c b is within b / 2 of a
 abbrev Nearest : ℕ → ℕ → ℕ → Type 0
 Nearest c a b = (2 * (c * b) ≤ 2 * a + b) × (2 * a ≤ 2 * (c * b) + b)
 
-nearest-near : (o : Ordering) (q r a b : ℕ) → q * b + r ≡ a → r < b → Compares o (r * 2) b → Nearest (nearest q o) a b
+nearest-near : (o : Ordering) (q r a b : ℕ) → q * b + r ≡ a → r < b → Compared o (r * 2) b → Nearest (nearest q o) a b
 nearest-near Ordering·lt q r a b e l c = omega arith
 nearest-near Ordering·eq q r a b e l c = tie (q % 2) (parity q)
   where
@@ -50,7 +37,7 @@ nearest-near Ordering·eq q r a b e l c = tie (q % 2) (parity q)
 nearest-near Ordering·gt q r a b e l c = omega arith
 
 closest-near : (a b : ℕ) → 0 < b → Nearest (closest a b) a b
-closest-near a b b-pos = nearest-near (compare (a % b * 2) b) (a / b) (a % b) a b (div-add-mod' a b) (mod-lt a b-pos) (compares (a % b * 2) b)
+closest-near a b b-pos = nearest-near (compare (a % b * 2) b) (a / b) (a % b) a b (div-add-mod' a b) (mod-lt a b-pos) (compared (a % b * 2) b)
 
 -- 0 where a / b is below 1/2; else b / 2 is at most a
 closest-double : (a b : ℕ) → 0 < b → closest a b * b ≤ 2 * a

@@ -3,7 +3,7 @@
 -- back by it. Assumes nothing.
 use mathlib.Core.Path.{_≡_, refl, sym, ap, _∙_, subst}
 use Prim.Native.Nat.{ℕ, zero, suc, _+_, _-_, _*_, _/_, _%_, _^_, _≤_, _<_}
-use native.Mathlib.Nat.{mul-assoc, mul-one, mul-div-cancel, not-le-of-lt, zero-mul, zero-div, pow-succ', eq-zero-or-pos}
+use native.Mathlib.Nat.{le-refl, mul-assoc, mul-one, mul-div-cancel, not-le-of-lt, zero-mul, zero-div, pow-succ', eq-zero-or-pos}
 use native.Mathlib.Omega.{arith}
 use mathlib.Core.Bool.{Bool, true, false, not, _&&_}
 use mathlib.Core.Logic.{inl, inr}
@@ -16,6 +16,7 @@ use lib.Ieee.Fits.{down-pos, and-l, and-r, neg-fits}
 use lib.Ieee.Exact.{HasValue}
 use lib.Ieee.Scale.{finite}
 use Rattle.algebra.specs.Integer.{Z, signed, opp, _⊛_, _≐_, Abs}
+use Rattle.algebra.proofs.Magnitude.{abs-signed, signed-abs}
 use Rattle.floats.specs.Value.{metre, tick, F32, sign, mag, val}
 
 -- ---- the units
@@ -40,16 +41,8 @@ pub val-signed : (x : Float) → val x ≡ signed (sign x) (mag x)
 unfolding val
 val-signed x = refl
 
-pub abs-signed : (s : Bool) (g : ℕ) → Abs (signed s g) g
-abs-signed true g = omega arith
-abs-signed false g = omega arith
-
-pub signed-abs : (s : Bool) (g n : ℕ) → Abs (signed s g) n → g ≤ n
-signed-abs true g n h = omega arith
-signed-abs false g n h = omega arith
-
 pub abs-mag : (x : Float) → Abs (val x) (mag x)
-abs-mag x = rw val-signed (abs-signed (sign x) (mag x))
+abs-mag x = rw val-signed (abs-signed (sign x) (mag x) (mag x) (le-refl (mag x)))
 
 pub mag-abs : (x : Float) (n : ℕ) → Abs (val x) n → mag x ≤ n
 mag-abs x n h = signed-abs (sign x) (mag x) n (rw val-signed at h)
