@@ -106,6 +106,15 @@ has-value {x = fin s (suc m) e} h =
     let low : Bool = ltb (suc m * up e) (2 ^ 128 * down e) in
     (refl, whole-units (suc m) e (leb→le (down e) (2 ^ 149) (and-r (odd && short) fine (and-l (odd && short && fine) low (h .in-format)))))
 
+-- a finite number of the format, as m 2^e
+pub data AsFin : Float → Type 0 where
+  as-fin : (s : Bool) (m : ℕ) (e : ℤ) → m * up e * metre ≡ mag (fin s m e) * down e → AsFin (fin s m e)
+
+pub f32-as-fin : {x : Float} → F32 x → AsFin x
+f32-as-fin {x = nan} h = absurd (h .is-finite)
+f32-as-fin {x = inf s} h = absurd (h .is-finite)
+f32-as-fin {x = fin s m e} h = as-fin s m e (has-value h .1)
+
 -- down e / up e times the value of m 2^e is m metres
 pub val-fin : {s : Bool} {m : ℕ} {e : ℤ} → F32 (fin s m e) → down e ⊛ val (fin s m e) ≐ (up e * metre) ⊛ signed s m
 val-fin {s} {m} {e} h = rw val-signed (by-sign s (up e) (down e) (mag (fin s m e)) (has-value h .1))
