@@ -4,5 +4,6 @@ pub mod Compared
 pub mod Rounding
 pub mod Error
 pub mod Operations
+pub mod Comparison
 pub mod WholeRoot
 pub mod RoundedRoot
