@@ -5,5 +5,7 @@ pub mod Rounding
 pub mod Error
 pub mod Operations
 pub mod Comparison
+pub mod Rounds
+pub mod Near
 pub mod WholeRoot
 pub mod RoundedRoot

@@ -11,7 +11,7 @@ use lib.Dec.{T, ltb, eqb, ltb→lt, nltb→le, eqb·suc-zero}
 use lib.Ieee.{Float, nan, inf, fin, binary32, up, down, unlike, round, neg, sum, add, sub, mul, div, fits}
 use lib.Ieee.Fits.{up-pos, down-pos, add-fits, sub-fits, mul-fits, div-fits}
 use lib.Ieee.Scale.{finite, round-same}
-use Rattle.algebra.specs.Integer.{Z, signed, opp, _⊞_, _⊟_, _⊠_, _≐_}
+use Rattle.algebra.specs.Integer.{Z, signed, opp, _⊞_, _⊟_, _⊠_, _≐_, Abs}
 use Rattle.floats.specs.Value.{metre, F32, sign, mag, val}
 use Rattle.floats.proofs.Value.{metre-pos, val-signed, val-neg, neg-f32, AsFin, as-fin, f32-as-fin}
 
@@ -121,6 +121,10 @@ mul-rounds x-f32 y-f32 = of-fins (f32-as-fin x-f32) (f32-as-fin y-f32)
 abbrev pub turned : Bool → Z → Z
 turned true a = opp a
 turned false a = a
+
+pub abs-turned : (s : Bool) (a : Z) (n : ℕ) → Abs a n → Abs (turned s a) n
+abs-turned true a n h = (h .1, h .0)
+abs-turned false a n h = h
 
 signed-quotient : (s t : Bool) (m : ℕ) → signed (unlike s t) m ≐ turned t (signed s m)
 signed-quotient true true m = refl
