@@ -7,5 +7,6 @@ pub mod Operations
 pub mod Comparison
 pub mod Rounds
 pub mod Near
+pub mod Order
 pub mod WholeRoot
 pub mod RoundedRoot

@@ -15,7 +15,7 @@ use lib.Ieee.Digits.{back}
 use lib.Ieee.Fits.{down-pos, and-l, and-r, neg-fits}
 use lib.Ieee.Exact.{HasValue}
 use lib.Ieee.Scale.{finite}
-use Rattle.algebra.specs.Integer.{Z, signed, opp, _⊛_, _≐_, Abs}
+use Rattle.algebra.specs.Integer.{Z, whole, signed, opp, _⊛_, _≐_, _≺_, Abs}
 use Rattle.algebra.proofs.Magnitude.{abs-signed, signed-abs}
 use Rattle.floats.specs.Value.{metre, tick, F32, sign, mag, val}
 
@@ -46,6 +46,21 @@ abs-mag x = rw val-signed (abs-signed (sign x) (mag x) (mag x) (le-refl (mag x))
 
 pub mag-abs : (x : Float) (n : ℕ) → Abs (val x) n → mag x ≤ n
 mag-abs x n h = signed-abs (sign x) (mag x) n (rw val-signed at h)
+
+-- a value above 0 has the sign + and a size above 0
+pub record Positive (x : Float) : Type 0 where
+  pub plus : sign x ≡ false
+  pub mag-pos : 0 < mag x
+  pub is : val x ≡ (mag x, 0)
+
+pub positive-sign : (x : Float) → whole 0 ≺ val x → Positive x
+positive-sign x h =
+    let p = by-sign (sign x) (mag x) (rw val-signed at h) in
+    record { plus = p .0; mag-pos = p .1; is = val-signed x ∙ ap (λ (s : Bool). signed s (mag x)) (p .0) }
+  where
+    by-sign : (s : Bool) (g : ℕ) → whole 0 ≺ signed s g → (s ≡ false) × (0 < g)
+    by-sign true g h = absurd (omega arith)
+    by-sign false g h = (refl, omega arith)
 
 -- ---- from a fraction of lib.Ieee
 mag-is : (m : ℕ) (e : ℤ) (g : ℕ) → m * up e * metre ≡ g * down e → m * up e * metre / down e ≡ g
