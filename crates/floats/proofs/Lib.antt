@@ -8,5 +8,6 @@ pub mod Comparison
 pub mod Rounds
 pub mod Near
 pub mod Order
+pub mod Bounds
 pub mod WholeRoot
 pub mod RoundedRoot
