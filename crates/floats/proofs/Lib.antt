@@ -9,5 +9,9 @@ pub mod Rounds
 pub mod Near
 pub mod Order
 pub mod Bounds
+pub mod Exact
+pub mod Dyadic
+pub mod Relative
+pub mod Doubling
 pub mod WholeRoot
 pub mod RoundedRoot

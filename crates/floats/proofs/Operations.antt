@@ -126,7 +126,7 @@ pub abs-turned : (s : Bool) (a : Z) (n : ℕ) → Abs a n → Abs (turned s a) n
 abs-turned true a n h = (h .1, h .0)
 abs-turned false a n h = h
 
-signed-quotient : (s t : Bool) (m : ℕ) → signed (unlike s t) m ≐ turned t (signed s m)
+pub signed-quotient : (s t : Bool) (m : ℕ) → signed (unlike s t) m ≐ turned t (signed s m)
 signed-quotient true true m = refl
 signed-quotient true false m = refl
 signed-quotient false true m = refl

@@ -6,16 +6,16 @@ use native.Mathlib.Nat.{mul-pos, le-refl, le-of-mul-le-mul-right}
 use native.Mathlib.Omega.{arith}
 use mathlib.Core.Bool.{Bool, true, false}
 use lib.Dec.{T}
-use lib.Ieee.{Float, binary32, round}
+use lib.Ieee.{Float, binary32, round, unlike}
 use lib.Ieee.Scale.{finite}
 use Rattle.algebra.specs.Integer.{Z, signed, _⊞_, _⊟_, _⊠_, _⊛_, _≐_, Abs}
-use Rattle.algebra.proofs.Integer.{same-sym}
+use Rattle.algebra.proofs.Integer.{same-sym, same-trans}
 use Rattle.algebra.proofs.Magnitude.{abs-same, abs-signed, signed-abs}
 use Rattle.floats.specs.Value.{metre, F32, sign, mag, val}
-use Rattle.floats.proofs.Value.{metre-pos, val-signed, val-of-value}
+use Rattle.floats.proofs.Value.{metre-pos, val-signed, val-of-value, mag-of-value}
 use Rattle.floats.proofs.Rounding.{rounded, round-value, round-f32, finite-rounded}
 use Rattle.floats.proofs.Error.{Apart}
-use Rattle.floats.proofs.Operations.{Rounds, turned}
+use Rattle.floats.proofs.Operations.{Rounds, turned, mul-rounds, div-rounds, signed-product, signed-quotient}
 
 -- ---- value and size
 module _ {z : Float} {num : Z} {den : ℕ} (r : Rounds z num den) where
@@ -40,6 +40,34 @@ module _ {z : Float} {num : Z} {den : ℕ} (r : Rounds z num den) (z-f32 : F32 z
       ap val (r .is)
       ∙ val-of-value (round binary32 (r .negative) (r .size) den) (r .negative) (rounded (r .size) den)
       (round-value (r .negative) (r .size) den (f32-rounded r z-f32))
+
+  pub rounds-mag : mag z ≡ rounded (r .size) den
+  rounds-mag =
+      ap mag (r .is)
+      ∙ mag-of-value (round binary32 (r .negative) (r .size) den) (r .negative) (rounded (r .size) den)
+      (round-value (r .negative) (r .size) den (f32-rounded r z-f32))
+
+-- the size is that of the exact result
+signed-size : (s t : Bool) (m n : ℕ) → signed s m ≐ signed t n → m ≡ n
+signed-size true true m n e = omega arith
+signed-size false false m n e = omega arith
+signed-size true false m n e = omega arith
+signed-size false true m n e = omega arith
+
+pub rounds-size : {z : Float} {num : Z} {den : ℕ} (r : Rounds z num den) (s : Bool) (n : ℕ) → signed s n ≐ num → r .size ≡ n
+rounds-size {num = num} r s n e =
+    signed-size (r .negative) s (r .size) n
+    (same-trans (signed (r .negative) (r .size)) num (signed s n) (r .exact) (same-sym (signed s n) num e))
+
+module _ {x y : Float} (x-f32 : F32 x) (y-f32 : F32 y) where
+  pub mul-size : mul-rounds x-f32 y-f32 .size ≡ mag x * mag y
+  mul-size =
+      rounds-size (mul-rounds x-f32 y-f32) (unlike (sign x) (sign y)) (mag x * mag y)
+      (rw (val-signed x, val-signed y) (signed-product (sign x) (sign y) (mag x) (mag y)))
+
+  pub div-size : (y-pos : 0 < mag y) → div-rounds x-f32 y-f32 y-pos .size ≡ mag x
+  div-size y-pos =
+      rounds-size (div-rounds x-f32 y-f32 y-pos) (unlike (sign x) (sign y)) (mag x) (rw (val-signed x) (signed-quotient (sign x) (sign y) (mag x)))
 
 -- ---- errors
 signed-apart : (s : Bool) (k d m g w e : ℕ) (v : Z) → signed s w ≐ v → Apart (k * (g * d)) (k * (w * m)) e → Abs (k ⊛ (d ⊛ signed s g ⊟ m ⊛ v)) e
