@@ -13,5 +13,8 @@ pub mod Exact
 pub mod Dyadic
 pub mod Relative
 pub mod Doubling
+pub mod Literals
+pub mod Sign
+pub mod Quotient
 pub mod WholeRoot
 pub mod RoundedRoot
