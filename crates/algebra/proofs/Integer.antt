@@ -1,12 +1,14 @@
 -- Equality and order of signed whole numbers: `≐` is an equivalence that every operation respects but the product (Products has
 -- that one), `≼` and `≺` are orders that respect it, and natural multiples keep them and can be cancelled. Assumes nothing.
-use mathlib.Core.Path.{_≡_, refl, ap}
+use mathlib.Core.Path.{_≡_, refl, ap, subst}
 use mathlib.Core.Logic.{_⊎_, inl, inr}
+use mathlib.Core.Bool.{Bool, true, false}
 use Prim.Native.Nat.{ℕ, _+_, _*_, _≤_, _<_}
 use native.Mathlib.Nat.{mul-le-mul-left, le-of-mul-le-mul-right, mul-lt-mul-of-pos-left, lt-of-mul-lt-mul-left, eq-of-mul-eq-mul-left}
 use native.Mathlib.Decide.{decLt}
 use native.Mathlib.Omega.{arith}
-use Rattle.algebra.specs.Integer.{Z, whole, _⊞_, _⊟_, _⊠_, opp, _⊛_, _≐_, _≼_, _≺_}
+use lib.Dec.{T, eqb, eqb→eq, eqb-refl, ltb→lt, lt→ltb}
+use Rattle.algebra.specs.Integer.{Z, whole, signed, _⊞_, _⊟_, _⊠_, opp, _⊛_, _≐_, _≼_, _≺_, _≐?_, _≺?_, Reduced}
 
 -- ---- the same number
 pub same-refl : (a : Z) → a ≐ a
@@ -76,6 +78,33 @@ multiple-cancel-lt k a b h = lt-of-mul-lt-mul-left k (omega arith)
 
 pub multiple-cancel-same : (k : ℕ) (a b : Z) → 0 < k → k ⊛ a ≐ k ⊛ b → a ≐ b
 multiple-cancel-same k a b k-pos h = eq-of-mul-eq-mul-left k k-pos (a .0 + b .1) (b .0 + a .1) (omega arith)
+
+-- ---- the tests say what they test
+pub same-of-test : (a b : Z) → T (a ≐? b) → a ≐ b
+same-of-test a b t = eqb→eq (a .0 + b .1) (b .0 + a .1) t
+
+pub test-of-same : (a b : Z) → a ≐ b → T (a ≐? b)
+test-of-same a b h = subst (λ (n : ℕ). T (eqb (a .0 + b .1) n)) h (eqb-refl (a .0 + b .1))
+
+pub lt-of-test : (a b : Z) → T (a ≺? b) → a ≺ b
+lt-of-test a b t = ltb→lt (a .0 + b .1) (b .0 + a .1) t
+
+pub test-of-lt : (a b : Z) → a ≺ b → T (a ≺? b)
+test-of-lt a b h = lt→ltb (a .0 + b .1) (b .0 + a .1) h
+
+-- ---- reduced pairs
+pub signed-reduced : (s : Bool) (n : ℕ) → Reduced (signed s n)
+signed-reduced true n = inl refl
+signed-reduced false n = inr refl
+
+pub reduced-eq : (a b : Z) → Reduced a → Reduced b → a ≐ b → a ≡ b
+reduced-eq a b a-reduced b-reduced h = λ i. (parts a-reduced b-reduced .0 i, parts a-reduced b-reduced .1 i)
+  where
+    parts : Reduced a → Reduced b → (a .0 ≡ b .0) × (a .1 ≡ b .1)
+    parts (inl a-neg) (inl b-neg) = (omega arith, omega arith)
+    parts (inl a-neg) (inr b-pos) = (omega arith, omega arith)
+    parts (inr a-pos) (inl b-neg) = (omega arith, omega arith)
+    parts (inr a-pos) (inr b-pos) = (omega arith, omega arith)
 
 -- ---- out of a bracket, as pairs: `rw` can use these
 multiple-out-part : (k l a b c d : ℕ) → k * a * (l * b) + k * c * (l * d) ≡ k * l * (a * b + c * d)

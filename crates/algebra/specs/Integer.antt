@@ -2,8 +2,10 @@
 -- Every operation and relation is an abbreviation, so that `omega arith` sees linear arithmetic over the naturals.
 -- One number has many pairs: `≐` says that two pairs stand for the same number. Definitions only.
 use mathlib.Core.Path.{_≡_}
+use mathlib.Core.Logic.{_⊎_}
 use mathlib.Core.Bool.{Bool, true, false}
-use Prim.Native.Nat.{ℕ, _+_, _-_, _*_, _≤_, _<_}
+use Prim.Native.Nat.{ℕ, _+_, _*_, _≤_, _<_}
+use lib.Dec.{ltb, eqb}
 
 abbrev pub Z : Type 0
 Z = ℕ × ℕ
@@ -11,7 +13,7 @@ Z = ℕ × ℕ
 infixl 65 _⊞_ _⊟_
 infixl 70 _⊠_
 infixl 72 _⊛_
-infix 50 _≐_ _≼_ _≺_
+infix 50 _≐_ _≼_ _≺_ _≐?_ _≺?_
 -- a natural number, as it is
 abbrev pub whole : ℕ → Z
 whole n = (n, 0)
@@ -47,6 +49,17 @@ a ≼ b = a .0 + b .1 ≤ b .0 + a .1
 
 abbrev pub _≺_ : Z → Z → Type 0
 a ≺ b = a .0 + b .1 < b .0 + a .1
+
+-- the same as tests
+abbrev pub _≐?_ : Z → Z → Bool
+a ≐? b = eqb (a .0 + b .1) (b .0 + a .1)
+
+abbrev pub _≺?_ : Z → Z → Bool
+a ≺? b = ltb (a .0 + b .1) (b .0 + a .1)
+
+-- one part is 0: reduced pairs are equal where their numbers are
+abbrev pub Reduced : Z → Type 0
+Reduced a = (a .0 ≡ 0) ⊎ (a .1 ≡ 0)
 
 -- |a| ≤ n
 abbrev pub Abs : Z → ℕ → Type 0

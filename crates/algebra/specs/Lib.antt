@@ -1,2 +1,5 @@
 pub mod Integer
 pub mod Squares
+pub mod Polynomial
+pub mod Plane
+pub mod Lists

@@ -1,0 +1,82 @@
+-- Identities of cross and dot products, each by `ring`: Lagrange's, the one that orders directions in a half plane (three-crosses),
+-- and those that move an orientation from one corner of a triangle to another. Assumes nothing.
+use mathlib.Core.List.{List, [], _∷_}
+use Rattle.algebra.specs.Integer.{Z, _⊞_, _⊠_, opp, _≐_}
+use Rattle.algebra.specs.Polynomial.{Expr, var, neg, _:+_, _:-_, _:*_}
+use Rattle.algebra.specs.Plane.{Point, from-to, cross, dot, orient}
+use Rattle.algebra.proofs.Ring.{ring}
+
+-- ---- points as pairs of expressions: the i-th point of an environment
+abbrev pub PointExpr : Type 0
+PointExpr = Expr × Expr
+
+abbrev pub point₀ : PointExpr
+point₀ = (var 0, var 1)
+
+abbrev pub point₁ : PointExpr
+point₁ = (var 2, var 3)
+
+abbrev pub point₂ : PointExpr
+point₂ = (var 4, var 5)
+
+abbrev pub point₃ : PointExpr
+point₃ = (var 6, var 7)
+
+abbrev pub from-to-expr : PointExpr → PointExpr → PointExpr
+from-to-expr p q = (q .0 :- p .0, q .1 :- p .1)
+
+abbrev pub cross-expr : PointExpr → PointExpr → Expr
+cross-expr u v = u .0 :* v .1 :- u .1 :* v .0
+
+abbrev pub dot-expr : PointExpr → PointExpr → Expr
+dot-expr u v = u .0 :* v .0 :+ u .1 :* v .1
+
+abbrev pub orient-expr : PointExpr → PointExpr → PointExpr → Expr
+orient-expr p q r = cross-expr (from-to-expr p q) (from-to-expr p r)
+
+abbrev pub coordinates : List Point → List Z
+coordinates [] = []
+coordinates (p ∷ ps) = p .x ∷ p .y ∷ coordinates ps
+
+-- ---- vectors
+pub cross-antisymmetric : (u v : Point) → cross u v ≐ opp (cross v u)
+cross-antisymmetric u v = ring (cross-expr point₀ point₁) (neg (cross-expr point₁ point₀)) (coordinates (u ∷ v ∷ [])) tt
+
+pub dot-symmetric : (u v : Point) → dot u v ≐ dot v u
+dot-symmetric u v = ring (dot-expr point₀ point₁) (dot-expr point₁ point₀) (coordinates (u ∷ v ∷ [])) tt
+
+-- (u · v)² + (u × v)² = (u · u)(v · v)
+pub lagrange : (u v : Point) → dot u v ⊠ dot u v ⊞ cross u v ⊠ cross u v ≐ dot u u ⊠ dot v v
+lagrange u v =
+    ring (dot-expr point₀ point₁ :* dot-expr point₀ point₁ :+ cross-expr point₀ point₁ :* cross-expr point₀ point₁)
+    (dot-expr point₀ point₀ :* dot-expr point₁ point₁) (coordinates (u ∷ v ∷ [])) tt
+
+-- (d · v)(u × w) = (d · w)(u × v) + (d · u)(v × w): identity I1 of the hull's proof
+pub three-crosses : (d u v w : Point) → dot d v ⊠ cross u w ≐ dot d w ⊠ cross u v ⊞ dot d u ⊠ cross v w
+three-crosses d u v w =
+    ring (dot-expr point₀ point₂ :* cross-expr point₁ point₃)
+    (dot-expr point₀ point₃ :* cross-expr point₁ point₂ :+ dot-expr point₀ point₁ :* cross-expr point₂ point₃)
+    (coordinates (d ∷ u ∷ v ∷ w ∷ [])) tt
+
+-- (d · u)(u · v) = (d · v)(u · u) + (u × v)(d × u)
+pub dot-along : (d u v : Point) → dot d u ⊠ dot u v ≐ dot d v ⊠ dot u u ⊞ cross u v ⊠ cross d u
+dot-along d u v =
+    ring (dot-expr point₀ point₁ :* dot-expr point₁ point₂)
+    (dot-expr point₀ point₂ :* dot-expr point₁ point₁ :+ cross-expr point₁ point₂ :* cross-expr point₀ point₁)
+    (coordinates (d ∷ u ∷ v ∷ [])) tt
+
+-- ---- three points
+module _ (p q r : Point) where
+  abbrev three : List Z
+  three = coordinates (p ∷ q ∷ r ∷ [])
+
+  pub orientation-cyclic : orient p q r ≐ orient q r p
+  orientation-cyclic = ring (orient-expr point₀ point₁ point₂) (orient-expr point₁ point₂ point₀) three tt
+
+  pub orientation-reversed : orient p q r ≐ opp (orient p r q)
+  orientation-reversed = ring (orient-expr point₀ point₁ point₂) (neg (orient-expr point₀ point₂ point₁)) three tt
+
+  -- measured from the second point
+  pub orientation-from-end : orient p q r ≐ cross (from-to p q) (from-to q r)
+  orientation-from-end =
+      ring (orient-expr point₀ point₁ point₂) (cross-expr (from-to-expr point₀ point₁) (from-to-expr point₁ point₂)) three tt

@@ -1,0 +1,21 @@
+-- Points of the plane with whole coordinates, also read as the vectors to them: differences, cross and dot products, and the doubled
+-- area of a triangle, above 0 where it is turned counter-clockwise. Definitions only.
+use Rattle.algebra.specs.Integer.{Z, _⊞_, _⊟_, _⊠_}
+
+pub record Point : Type 0 where
+  pub x : Z
+  pub y : Z
+
+-- the vector from p to q
+abbrev pub from-to : Point → Point → Point
+from-to p q = record { x = q .x ⊟ p .x; y = q .y ⊟ p .y }
+
+abbrev pub cross : Point → Point → Z
+cross u v = u .x ⊠ v .y ⊟ u .y ⊠ v .x
+
+abbrev pub dot : Point → Point → Z
+dot u v = u .x ⊠ v .x ⊞ u .y ⊠ v .y
+
+-- twice the area of the triangle p q r: above 0 where r lies left of the line from p to q
+abbrev pub orient : Point → Point → Point → Z
+orient p q r = cross (from-to p q) (from-to p r)
