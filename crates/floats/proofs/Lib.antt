@@ -18,3 +18,9 @@ pub mod Sign
 pub mod Quotient
 pub mod WholeRoot
 pub mod RoundedRoot
+pub mod Nan
+pub mod Patterns
+pub mod RootPattern
+pub mod SqrtCases
+pub mod Controls
+pub mod RootControls

@@ -1,7 +1,7 @@
 -- `rounded-root binary32 y`, for 2^48 ≤ y < 2^426, is r * 2^k of the smallest units with 2^23 ≤ r ≤ 2^24, in the format and at
 -- most half a unit of r away from √y; and so within a relative 2^-24 of it, squared. Assumes nothing.
 use mathlib.Core.Path.{_≡_, refl, sym, ap, _∙_, subst}
-use mathlib.Core.Bool.{Bool, true, false, not, cond}
+use mathlib.Core.Bool.{Bool, true, false, cond}
 use Prim.Native.Nat.{ℕ, zero, suc, _+_, _-_, _*_, _/_, _%_, _^_, _≤_, _<_}
 use Prim.Native.Nat.{compare, Ordering, Ordering·lt, Ordering·eq, Ordering·gt}
 use native.Mathlib.Nat.{add-zero, le-trans, le-of-eq, le-of-lt, le-dest, lt-of-lt-of-le, lt-of-le-of-lt, lt-of-not-le, not-le-of-lt}

@@ -3,3 +3,6 @@
 pub mod b2_common;
 pub mod b2_math;
 pub mod b2_settings;
+pub mod bits;
+pub mod ranges;
+mod root;

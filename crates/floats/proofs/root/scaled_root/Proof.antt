@@ -1,0 +1,71 @@
+-- `scaled_root` meets its contract: n has 47 or 48 digits, and the pattern made of half of g and the nearest root of n is that of
+-- the rounded root. Assumes nothing.
+use Prim.Native.Nat.{_^_, _≤_, _<_}
+use native.Mathlib.Omega.{arith}
+use borrow.Author.Needs.{needs}
+use Rattle.floats.proofs.Nan.{not-nan-pattern}
+use Rattle.floats.proofs.RootPattern.{widened, widened-bounds, nearest-root-le-2^24, scaled-root-pattern}
+use Rattle.floats.proofs.root.scaled_root.Statement.{statement}
+use Rattle.floats.proofs.root.scaled_root.Tie as tie
+
+bounds : (c : tie.Start) → (2 ^ 46 ≤ widened (c .args .f) (c .args .g)) × (widened (c .args .f) (c .args .g) < 2 ^ 48)
+bounds c = widened-bounds (c .args .f) (c .args .g) (c .pre .0) (c .pre .1)
+
+root-small : (c : tie.After-nearest-root) → c .nearest-root .result ≤ 2 ^ 24
+root-small c = nearest-root-le-2^24 _ (c .nearest-root .result) (bounds (c .before .before) .1) (c .nearest-root .ensures)
+
+mul-n : tie.Need-mul-n
+mul-n c = search needs
+
+add-n : tie.Need-add-n
+add-n c = search needs
+
+mul-n-2 : tie.Need-mul-n-2
+mul-n-2 c = omega (arith, bounds c .1)
+
+candidate-requires : tie.Need-candidate-requires
+candidate-requires c κs = search needs
+
+nearest-root-requires : tie.Need-nearest-root-requires
+nearest-root-requires c κs =
+    let n-bounds = bounds (c .before) in
+    (omega arith, n-bounds .1, c .candidate .ensures)
+
+sub-result : tie.Need-sub-result
+sub-result c = search needs
+
+mul-result : tie.Need-mul-result
+mul-result c = search needs
+
+add-result : tie.Need-add-result
+add-result c = omega (arith, root-small c)
+
+cast-result : tie.Need-cast-result
+cast-result c = omega (arith, root-small c)
+
+float-from-bits-result : tie.Need-float-from-bits-result
+float-from-bits-result c =
+    let r-small = root-small c in
+    not-nan-pattern _ (omega arith)
+
+returns : tie.Need-returns
+returns c =
+    let s = c .before .before in
+    scaled-root-pattern (s .args .f) (s .args .g) (c .nearest-root .result) (s .pre .0) (s .pre .1) (s .pre .2) (s .pre .3)
+    (c .nearest-root .ensures)
+
+pub scaled-root-spec : {M : Type 1} → statement M
+scaled-root-spec =
+    tie.close
+    (tie.spec
+    mul-n
+    add-n
+    mul-n-2
+    candidate-requires
+    nearest-root-requires
+    sub-result
+    mul-result
+    add-result
+    cast-result
+    float-from-bits-result
+    returns)
