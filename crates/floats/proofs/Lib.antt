@@ -22,5 +22,7 @@ pub mod Nan
 pub mod Patterns
 pub mod RootPattern
 pub mod SqrtCases
+pub mod SqrtLaw
+pub mod SqrtOrder
 pub mod Controls
 pub mod RootControls
