@@ -30,7 +30,7 @@ pub record Dyadic (x : Float) (c : Z) (t : ℕ) : Type 0 where
 metre-split : (t : ℕ) → t ≤ 149 → metre ≡ 2 ^ (149 - t) * 2 ^ t
 metre-split t h = metre-is ∙ ap (λ (n : ℕ). 2 ^ n) (sym (back 149 t h)) ∙ pow-add 2 (149 - t) t
 
-rounded-dyadic : (q t : ℕ) → q ≤ 2 ^ 24 → t ≤ 149 → rounded q (2 ^ t) ≡ q * 2 ^ (149 - t)
+pub rounded-dyadic : (q t : ℕ) → q ≤ 2 ^ 24 → t ≤ 149 → rounded q (2 ^ t) ≡ q * 2 ^ (149 - t)
 rounded-dyadic q t q-low t-low =
     let j = 149 - t in
     let split : 2 ^ 149 ≡ 2 ^ j * 2 ^ t = sym metre-is ∙ metre-split t t-low in
@@ -43,7 +43,7 @@ rounded-dyadic q t q-low t-low =
           rounded-exact q (2 ^ t) q j (pow-pos t) below (ap (λ (n : ℕ). q * n) split ∙ sym (mul-assoc q (2 ^ j) (2 ^ t)))
     ]
 
-dyadic-finite : (q t : ℕ) → q ≤ 2 ^ 24 → q * 2 ^ (149 - t) < 2 ^ 277
+pub dyadic-finite : (q t : ℕ) → q ≤ 2 ^ 24 → q * 2 ^ (149 - t) < 2 ^ 277
 dyadic-finite q t h =
     lt-of-le-of-lt (mul-le-mul h (pow-mono {i = 149 - t} {j = 149} (sub-le 149 t))) (lit< tt)
   where

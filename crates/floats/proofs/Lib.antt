@@ -11,11 +11,14 @@ pub mod Order
 pub mod Bounds
 pub mod Exact
 pub mod Dyadic
+pub mod Caps
 pub mod Relative
 pub mod Doubling
 pub mod Literals
 pub mod Sign
 pub mod Quotient
+pub mod Reciprocal
+pub mod Dot
 pub mod WholeRoot
 pub mod RoundedRoot
 pub mod Nan

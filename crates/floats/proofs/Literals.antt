@@ -10,9 +10,9 @@ use lib.Ieee.{Float, nan, inf, binary32, odd, ofFields, ofBits}
 use lib.Ieee.Bits.{ofBits-fits}
 use lib.Ieee.Exact.{HasValue, odd-sign}
 use Rattle.algebra.specs.Integer.{Z, whole, signed, _⊛_, _≐_}
-use Rattle.floats.specs.Value.{metre, F32, val}
+use Rattle.floats.specs.Value.{metre, F32, mag, val}
 use Rattle.floats.specs.B2Common.{zero32, half32, one32}
-use Rattle.floats.proofs.Value.{metre-is, f32-of-value, val-of-value}
+use Rattle.floats.proofs.Value.{metre-is, f32-of-value, val-of-value, mag-of-value}
 use Rattle.floats.proofs.Dyadic.{Dyadic}
 
 -- ---- a pattern's sign, exponent's field, and size in units
@@ -48,6 +48,9 @@ bits-f32 b h = f32-of-value (ofBits binary32 b) (bits-sign b) (bits-units b) (of
 pub bits-val : (b : ℕ) → T (ltb (bits-field b) 255) → val (ofBits binary32 b) ≡ signed (bits-sign b) (bits-units b)
 bits-val b h = val-of-value (ofBits binary32 b) (bits-sign b) (bits-units b) (bits-value b h)
 
+pub bits-mag : (b : ℕ) → T (ltb (bits-field b) 255) → mag (ofBits binary32 b) ≡ bits-units b
+bits-mag b h = mag-of-value (ofBits binary32 b) (bits-sign b) (bits-units b) (bits-value b h)
+
 -- the literal m / 2^t; the two tests compute
 pub bits-dyadic : (b m t : ℕ) → T (ltb (bits-field b) 255) → T (eqb (2 ^ t * bits-units b) (2 ^ 149 * m)) → Dyadic (ofBits binary32 b) (signed (bits-sign b) m) t
 bits-dyadic b m t finite is = record {
@@ -78,3 +81,6 @@ one-f32 = bits-f32 0x3f80_0000 tt
 
 pub one-val : val one32 ≡ whole metre
 one-val = bits-val 0x3f80_0000 tt ∙ ap whole (sym metre-is)
+
+pub one-mag : mag one32 ≡ metre
+one-mag = bits-mag 0x3f80_0000 tt ∙ sym metre-is

@@ -2,14 +2,14 @@
 -- results included. One law for every rounding, then sum, difference, product and quotient; and the sizes of results. Assumes nothing.
 use mathlib.Core.Path.{_≡_, refl, sym, ap, _∙_, subst}
 use Prim.Native.Nat.{ℕ, _+_, _*_, _^_, _≤_, _<_}
-use native.Mathlib.Nat.{le-trans, le-of-eq, mul-assoc, one-mul, mul-le-mul}
+use native.Mathlib.Nat.{le-trans, mul-assoc}
 use native.Mathlib.Omega.{arith}
 use lib.Dec.{T, leb, leb→le}
 use lib.Ieee.{Float, binary32, add, sub, mul, div}
 use Rattle.algebra.specs.Integer.{Z, _⊞_, _⊟_, _⊠_, _⊛_, Abs}
-use Rattle.algebra.proofs.Magnitude.{abs-unscale, abs-product, abs-widen}
+use Rattle.algebra.proofs.Magnitude.{abs-unscale, abs-product}
 use Rattle.floats.specs.Value.{metre, tick, F32, sign, mag, val}
-use Rattle.floats.proofs.Value.{metre-pos, abs-mag, mag-abs}
+use Rattle.floats.proofs.Value.{metre-pos, abs-mag}
 use Rattle.floats.proofs.Error.{rounded-low, rounded-absolute}
 use Rattle.floats.proofs.Operations.{Rounds, abs-turned, add-rounds, sub-rounds, mul-rounds, div-rounds}
 use Rattle.floats.proofs.Rounds.{rounds-f32, rounds-error, size-le, sum-error, product-error, quotient-error}
@@ -58,20 +58,22 @@ pub sub-near : (k n : ℕ) {x y : Float} → T (leb k 127) → F32 x → F32 y �
     → Near (sub binary32 x y) (val x ⊟ val y) (2 ^ k * tick)
 sub-near k n k-low x-f32 y-f32 = sum-near k n k-low (sub-rounds x-f32 y-f32)
 
+pub product-near : (k n : ℕ) {x y : Float} → T (leb k 127) → F32 x → F32 y → Abs (val x ⊠ val y) n → n ≤ 2 ^ k * (metre * metre)
+    → NearProduct (mul binary32 x y) (val x ⊠ val y) (2 ^ k * tick)
+product-near k n {x} {y} k-low x-f32 y-f32 v-abs n-low =
+    let r = mul-rounds x-f32 y-f32 in
+    let z = val (mul binary32 x y) in
+    record {
+      own = rounds-near-f32 k n k-low r v-abs n-low;
+      err = once (metre ⊛ z ⊟ val x ⊠ val y) (2 ^ k * tick * metre)
+          (product-error 1 (2 ^ k * tick * metre) z (val x ⊠ val y)
+          (rw (mul-assoc (2 ^ k * tick) metre metre) (rounds-near k n k-low r v-abs n-low)));
+    }
+
 -- |x| ≤ m and |y| ≤ n, both in units
 pub mul-near : (k m n : ℕ) {x y : Float} → T (leb k 127) → F32 x → F32 y → Abs (val x) m → Abs (val y) n → m * n ≤ 2 ^ k * (metre * metre)
     → NearProduct (mul binary32 x y) (val x ⊠ val y) (2 ^ k * tick)
-mul-near k m n {x} {y} k-low x-f32 y-f32 x-abs y-abs mn-low =
-    let r = mul-rounds x-f32 y-f32 in
-    let v-abs = abs-product (val x) (val y) m n x-abs y-abs in
-    let z = val (mul binary32 x y) in
-    record {
-      own = rounds-near-f32 k (m * n) k-low r v-abs mn-low;
-      err = once (metre ⊛ z ⊟ val x ⊠ val y) (2 ^ k * tick * metre)
-          (product-error 1 (2 ^ k * tick * metre) z (val x ⊠ val y)
-          (abs-widen (1 ⊛ ((metre * metre) ⊛ z ⊟ metre ⊛ (val x ⊠ val y))) (2 ^ k * tick * (metre * metre)) (2 ^ k * tick * metre * metre)
-          (rounds-near k (m * n) k-low r v-abs mn-low) (le-of-eq (sym (mul-assoc (2 ^ k * tick) metre metre)))));
-    }
+mul-near k m n {x} {y} k-low x-f32 y-f32 x-abs y-abs = product-near k (m * n) k-low x-f32 y-f32 (abs-product (val x) (val y) m n x-abs y-abs)
 
 -- |x| ≤ 2^k |y|
 pub div-near : (k : ℕ) {x y : Float} → T (leb k 127) → F32 x → F32 y → 0 < mag y → mag x ≤ 2 ^ k * mag y
