@@ -19,6 +19,7 @@ pub mod Sign
 pub mod Quotient
 pub mod Reciprocal
 pub mod Dot
+pub mod RangeValue
 pub mod WholeRoot
 pub mod RoundedRoot
 pub mod Nan
