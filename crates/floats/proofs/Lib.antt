@@ -15,6 +15,7 @@ pub mod Caps
 pub mod Relative
 pub mod Doubling
 pub mod Literals
+pub mod UnitFactors
 pub mod Sign
 pub mod Quotient
 pub mod Reciprocal

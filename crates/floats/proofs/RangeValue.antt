@@ -4,9 +4,10 @@ use mathlib.Core.Path.{_≡_, refl, sym, ap, _∙_, subst}
 use Prim.Native.Nat.{ℕ, _+_, _*_, _^_, _≤_}
 use native.Mathlib.Nat.{le-of-eq}
 use native.Mathlib.Omega.{arith}
-use mathlib.Core.Bool.{Bool, true, false, _&&_}
-use lib.Dec.{T}
+use mathlib.Core.Bool.{Bool, true, false, not, _&&_}
+use lib.Dec.{T, ltb, eqb, eqb→eq}
 use lib.Ieee.{Float, nan, inf, fin, binary32, neg, le, fits, ofBits}
+use lib.Ieee.Bits.{is-false}
 use lib.Ieee.Fits.{and-i, and-l, and-r}
 use lib.Ieee.Scale.{finite}
 use Rattle.algebra.specs.Integer.{Z, whole, signed, opp, _≼_, Abs}
@@ -16,7 +17,7 @@ use Rattle.floats.specs.B2Common.{zero32}
 use Rattle.floats.specs.Ranges.{within, normal-limit, local-normal-limit, shape-limit, contact-limit, radius-in-range}
 use Rattle.floats.proofs.Value.{metre-is, abs-mag, val-neg, neg-f32, AsFin, as-fin, f32-as-fin}
 use Rattle.floats.proofs.Comparison.{le-val, val-le}
-use Rattle.floats.proofs.Literals.{bits-f32, bits-mag, bits-val, zero-f32, zero-val}
+use Rattle.floats.proofs.Literals.{bits-sign, bits-field, bits-units, bits-f32, bits-mag, bits-val, zero-f32, zero-val}
 
 -- ---- no NaN and no infinity
 within-finite : {limit : Float} (x : Float) → AsFin limit → T (within limit x) → T (finite x)
@@ -67,17 +68,24 @@ pub record Limit (limit : Float) (h : ℕ) : Type 0 where
   pub size : mag limit ≡ h * metre
   pub is : val limit ≡ whole (mag limit)
 
+limit-of-bits : (b h : ℕ) → T (ltb (bits-field b) 255) → T (eqb (bits-units b) (h * 2 ^ 149)) → T (not (bits-sign b)) → Limit (ofBits binary32 b) h
+limit-of-bits b h low units plus = record {
+  own = bits-f32 b low;
+  size = bits-mag b low ∙ eqb→eq (bits-units b) (h * 2 ^ 149) units ∙ ap (λ (m : ℕ). h * m) (sym metre-is);
+  is = bits-val b low ∙ ap (λ (s : Bool). signed s (bits-units b)) (is-false (bits-sign b) plus) ∙ ap whole (sym (bits-mag b low));
+}
+
 pub normal-limit-is : Limit normal-limit 2
-normal-limit-is = record { own = bits-f32 0x4000_0000 tt; size = rw metre-is (bits-mag 0x4000_0000 tt); is = bits-val 0x4000_0000 tt ∙ ap whole (sym (bits-mag 0x4000_0000 tt)) }
+normal-limit-is = limit-of-bits 0x4000_0000 2 tt tt tt
 
 pub local-normal-limit-is : Limit local-normal-limit 8
-local-normal-limit-is = record { own = bits-f32 0x4100_0000 tt; size = rw metre-is (bits-mag 0x4100_0000 tt); is = bits-val 0x4100_0000 tt ∙ ap whole (sym (bits-mag 0x4100_0000 tt)) }
+local-normal-limit-is = limit-of-bits 0x4100_0000 8 tt tt tt
 
 pub shape-limit-is : Limit shape-limit (2 ^ 20)
-shape-limit-is = record { own = bits-f32 0x4980_0000 tt; size = rw metre-is (bits-mag 0x4980_0000 tt); is = bits-val 0x4980_0000 tt ∙ ap whole (sym (bits-mag 0x4980_0000 tt)) }
+shape-limit-is = limit-of-bits 0x4980_0000 (2 ^ 20) tt tt tt
 
 pub contact-limit-is : Limit contact-limit (2 ^ 30)
-contact-limit-is = record { own = bits-f32 0x4e80_0000 tt; size = rw metre-is (bits-mag 0x4e80_0000 tt); is = bits-val 0x4e80_0000 tt ∙ ap whole (sym (bits-mag 0x4e80_0000 tt)) }
+contact-limit-is = limit-of-bits 0x4e80_0000 (2 ^ 30) tt tt tt
 
 -- within h metres, and back
 pub limit-value : {limit x : Float} {h : ℕ} → Limit limit h → T (fits binary32 x) → T (within limit x) → Bounded x (h * metre)
