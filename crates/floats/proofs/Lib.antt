@@ -29,5 +29,6 @@ pub mod RootPattern
 pub mod SqrtCases
 pub mod SqrtLaw
 pub mod SqrtOrder
+pub mod Theorem
 pub mod Controls
 pub mod RootControls
