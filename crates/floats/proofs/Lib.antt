@@ -30,5 +30,6 @@ pub mod SqrtCases
 pub mod SqrtLaw
 pub mod SqrtOrder
 pub mod Theorem
+pub mod Witness
 pub mod Controls
 pub mod RootControls
