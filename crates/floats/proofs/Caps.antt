@@ -1,6 +1,6 @@
 -- F3 against whole metres: an exact result of at most h m in size, for a whole h ≤ 2^24, gives a finite result of at most h m.
 -- One law for every rounding, then the four operations. Assumes nothing.
-use mathlib.Core.Path.{_≡_, sym, ap, _∙_, subst}
+use mathlib.Core.Path.{sym, ap, subst}
 use Prim.Native.Nat.{ℕ, _*_, _^_, _≤_, _<_}
 use native.Mathlib.Nat.{le-trans, le-of-eq, lt-of-le-of-lt, mul-one}
 use lib.Dec.{T, leb, leb→le, lit≤}

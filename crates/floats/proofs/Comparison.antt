@@ -1,14 +1,15 @@
 -- The comparisons of finite numbers are those of their values, in both directions: `<`, `<=`, `==`, true and false. Assumes nothing.
 use mathlib.Core.Path.{_≡_, refl, sym, ap, _∙_, subst}
-use mathlib.Core.Logic.{_⊎_, inl, inr}
-use Prim.Native.Nat.{ℕ, _+_, _*_, _≤_, _<_}
-use native.Mathlib.Nat.{le-of-eq, eq-or-lt-of-le, lt-of-le-of-lt, lt-of-lt-of-le, mul-pos, zero-mul, mul-lt-mul-of-pos-right, lt-of-mul-lt-mul-right, eq-of-mul-eq-mul-right}
+use mathlib.Core.Logic.{inl, inr}
+use Prim.Native.Nat.{ℕ, _+_, _*_, _<_}
+use native.Mathlib.Nat.{le-of-eq, eq-or-lt-of-le, lt-of-le-of-lt, lt-of-lt-of-le, mul-pos, zero-mul, mul-lt-mul-of-pos-right}
+use native.Mathlib.Nat.{lt-of-mul-lt-mul-right, eq-of-mul-eq-mul-right}
 use native.Mathlib.Omega.{arith}
-use mathlib.Core.Bool.{Bool, true, false, not, _&&_, _||_, Bool·beq}
-use lib.Dec.{T, ltb, eqb, ltb→lt, lt→ltb, nltb→le, eqb→eq, not-T, T-not}
+use mathlib.Core.Bool.{Bool, true, false, not, _||_, Bool·beq}
+use lib.Dec.{T, ltb, eqb, ltb→lt, lt→ltb, eqb→eq, not-T, T-not}
 use lib.Ieee.{Float, fin, up, down, below, level, lt, eq, le}
 use lib.Ieee.Fits.{down-pos, and-i, and-l, and-r, eq→eqb}
-use Rattle.algebra.specs.Integer.{Z, signed, _≐_, _≼_, _≺_}
+use Rattle.algebra.specs.Integer.{signed, _≐_, _≼_, _≺_}
 use Rattle.algebra.proofs.Integer.{order-cases}
 use Rattle.floats.specs.Value.{metre, F32, sign, mag, val}
 use Rattle.floats.proofs.Value.{metre-pos, val-signed, AsFin, as-fin, f32-as-fin}

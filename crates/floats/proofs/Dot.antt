@@ -1,8 +1,8 @@
 -- DOT: where both products of a dot product are at most h m², h ≤ 2^k, it is off by at most 4 2^k ticks and at most 2 h m in size:
 -- two products by F2(k), capped at h m by F3, and their sum by F2(k + 1). Assumes nothing.
 use mathlib.Core.Path.{_≡_, sym, ap, _∙_, subst}
-use Prim.Native.Nat.{ℕ, _+_, _*_, _^_, _≤_, _<_}
-use native.Mathlib.Nat.{le-trans, le-refl, mul-assoc, mul-le-mul-right, mul-le-mul-left}
+use Prim.Native.Nat.{ℕ, _+_, _*_, _^_, _≤_}
+use native.Mathlib.Nat.{le-refl, mul-assoc, mul-le-mul-right, mul-le-mul-left}
 use native.Mathlib.Omega.{arith}
 use lib.Dec.{T, leb, leb→le, le→leb}
 use lib.Pow.{pow-add}
@@ -10,8 +10,8 @@ use lib.Ieee.{Float, binary32, add, mul}
 use Rattle.algebra.specs.Integer.{Z, _⊞_, _⊟_, _⊠_, _⊛_, Abs}
 use Rattle.algebra.proofs.Magnitude.{abs-sum, abs-product, abs-widen}
 use Rattle.floats.specs.Value.{metre, tick, F32, val}
-use Rattle.floats.proofs.Near.{NearProduct, product-near, add-near}
-use Rattle.floats.proofs.Caps.{Capped, product-cap, add-cap}
+use Rattle.floats.proofs.Near.{product-near, add-near}
+use Rattle.floats.proofs.Caps.{product-cap, add-cap}
 
 abbrev pub dot : Float → Float → Float → Float → Float
 dot ax ay bx by = add binary32 (mul binary32 ax bx) (mul binary32 ay by)

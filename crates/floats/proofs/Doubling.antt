@@ -1,11 +1,11 @@
 -- F4: a finite result is at most twice the exact one in size: below half a unit it is 0, and from there on rounding up at most
 -- doubles. One law for every rounding, then the four operations. Assumes nothing.
-use mathlib.Core.Path.{_≡_, sym, ap, _∙_, subst}
-use Prim.Native.Nat.{ℕ, _+_, _*_, _^_, _≤_, _<_}
-use native.Mathlib.Nat.{le-trans, le-of-eq, mul-le-mul-left, le-of-mul-le-mul-right}
+use mathlib.Core.Path.{_≡_, sym, ap, subst}
+use Prim.Native.Nat.{ℕ, _*_, _≤_, _<_}
+use native.Mathlib.Nat.{le-trans, mul-le-mul-left, le-of-mul-le-mul-right}
 use native.Mathlib.Omega.{arith}
 use lib.Ieee.{Float, binary32, add, sub, mul, div}
-use Rattle.algebra.specs.Integer.{Z, _⊞_, _⊟_, _⊠_, _⊛_, Abs}
+use Rattle.algebra.specs.Integer.{Z, _⊞_, _⊟_, Abs}
 use Rattle.algebra.proofs.Magnitude.{abs-widen}
 use Rattle.floats.specs.Value.{metre, F32, mag, val}
 use Rattle.floats.proofs.Value.{metre-is, metre-pos, abs-mag}

@@ -3,15 +3,17 @@
 use mathlib.Core.Path.{_≡_, refl, sym, ap, _∙_, subst}
 use mathlib.Core.Logic.{inl, inr}
 use Prim.Native.Nat.{ℕ, _+_, _-_, _*_, _^_, _≤_, _<_}
-use native.Mathlib.Nat.{le-trans, le-of-eq, lt-of-le-of-lt, one-mul, mul-assoc, mul-le-mul, eq-or-lt-of-le}
+use native.Mathlib.Nat.{lt-of-le-of-lt, one-mul, mul-assoc, mul-le-mul, eq-or-lt-of-le}
 use native.Mathlib.Omega.{arith}
 use mathlib.Core.Bool.{Bool, true, false}
 use lib.Dec.{T, leb, leb→le, lit<}
-use lib.Pow.{pow-add, pow-pos, pow-mono, pow-lt}
+use lib.Pow.{pow-add, pow-pos, pow-mono}
 use lib.Ieee.{Float, binary32, round, add, sub, mul, neg}
 use lib.Ieee.Digits.{back}
 use Rattle.algebra.specs.Integer.{Z, signed, opp, _⊞_, _⊟_, _⊠_, _⊛_, _≐_, _≼_, _≺_, Abs}
-use Rattle.algebra.proofs.Integer.{same-sym, same-trans, multiple-same, multiple-cancel-same, multiple-mono, multiple-mono-lt, multiple-cancel, multiple-cancel-lt, le-resp, lt-resp, product-of-multiples, multiple-of-multiple}
+use Rattle.algebra.proofs.Integer.{same-sym, same-trans, multiple-same, multiple-cancel-same, multiple-mono}
+use Rattle.algebra.proofs.Integer.{multiple-mono-lt, multiple-cancel, multiple-cancel-lt, le-resp, lt-resp}
+use Rattle.algebra.proofs.Integer.{product-of-multiples, multiple-of-multiple}
 use Rattle.algebra.proofs.Magnitude.{Sized, sized, sized-abs}
 use Rattle.algebra.proofs.Products.{product-same}
 use Rattle.floats.specs.Value.{metre, F32, val}

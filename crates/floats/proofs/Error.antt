@@ -1,15 +1,16 @@
 -- The error of `rounded num den`, in units times den, by the size of the fraction of a metre num / den. At most 2^k m: at most 2^k ticks.
 -- At least 2^-126 m, the normal range: at most 2^-24 of the fraction; and in any case at most that and half a unit. Assumes nothing.
 use mathlib.Core.Path.{_≡_, refl, sym, ap, _∙_, subst}
-use mathlib.Core.Logic.{_⊎_, inl, inr}
-use Prim.Native.Nat.{ℕ, _+_, _-_, _*_, _^_, _≤_, _<_}
-use native.Mathlib.Nat.{le-trans, le-of-eq, lt-of-le-of-lt, lt-of-lt-of-le, mul-assoc, mul-one, mul-right-comm, mul-le-mul-left, mul-pos, mul-lt-mul-of-pos-right, eq-or-lt-of-le}
+use mathlib.Core.Logic.{inl, inr}
+use Prim.Native.Nat.{ℕ, _+_, _*_, _^_, _≤_, _<_}
+use native.Mathlib.Nat.{le-trans, le-of-eq, lt-of-lt-of-le, mul-one, mul-right-comm, mul-le-mul-left}
+use native.Mathlib.Nat.{mul-lt-mul-of-pos-right, eq-or-lt-of-le}
 use native.Mathlib.Omega.{arith}
 use lib.Dec.{lit<}
 use lib.Pow.{pow-add, pow-pos, pow-mono, pow-lt}
 use lib.Ieee.Order.{drop}
 use Rattle.floats.specs.Value.{metre, tick}
-use Rattle.floats.proofs.Value.{metre-is, metre-ticks, metre-pos}
+use Rattle.floats.proofs.Value.{metre-is}
 use Rattle.floats.proofs.Rounding.{rounded, rounded-near, rounded-exact, rounded-high, drop-le, digit-small}
 
 -- |a - b| ≤ e

@@ -1,11 +1,11 @@
 -- F1: a result whose exact value is that of some number of the format has that value, and is one itself: sum, difference, product
 -- and quotient. Assumes nothing.
-use mathlib.Core.Path.{_≡_, subst}
-use Prim.Native.Nat.{ℕ, _+_, _*_, _<_}
+use mathlib.Core.Path.{subst}
+use Prim.Native.Nat.{ℕ, _<_}
 use native.Mathlib.Omega.{arith}
 use mathlib.Core.Bool.{Bool, true, false}
 use lib.Ieee.{Float, binary32, add, sub, mul, div}
-use Rattle.algebra.specs.Integer.{Z, signed, _⊞_, _⊟_, _⊠_, _⊛_, _≐_, _≼_}
+use Rattle.algebra.specs.Integer.{Z, signed, _⊞_, _⊟_, _⊠_, _⊛_, _≐_}
 use Rattle.algebra.proofs.Integer.{same-sym, same-trans, le-antisym, le-of-same, multiple-same, multiple-of-multiple}
 use Rattle.floats.specs.Value.{metre, F32, sign, mag, val}
 use Rattle.floats.proofs.Value.{val-signed}

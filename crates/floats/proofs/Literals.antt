@@ -2,14 +2,14 @@
 -- by computation, and m / 2^t m where the units say so; 0, 1/2 and 1. Assumes nothing.
 use mathlib.Core.Path.{_≡_, refl, sym, ap, _∙_, subst}
 use Prim.Native.Nat.{ℕ, zero, suc, _+_, _*_, _/_, _%_, _^_, _<_}
-use native.Mathlib.Nat.{lt-irrefl, mul-one, mul-comm}
+use native.Mathlib.Nat.{lt-irrefl, mul-one}
 use native.Mathlib.Omega.{arith}
 use mathlib.Core.Bool.{Bool, true, false, cond}
 use lib.Dec.{T, leb, ltb, eqb, ltb→lt, eqb→eq}
-use lib.Ieee.{Float, nan, inf, binary32, odd, ofFields, ofBits}
+use lib.Ieee.{nan, inf, binary32, odd, ofFields, ofBits}
 use lib.Ieee.Bits.{ofBits-fits}
 use lib.Ieee.Exact.{HasValue, odd-sign}
-use Rattle.algebra.specs.Integer.{Z, whole, signed, _⊛_, _≐_}
+use Rattle.algebra.specs.Integer.{whole, signed, _⊛_, _≐_}
 use Rattle.floats.specs.Value.{metre, F32, mag, val}
 use Rattle.floats.specs.B2Common.{zero32, half32, one32}
 use Rattle.floats.proofs.Value.{metre-is, f32-of-value, val-of-value, mag-of-value}

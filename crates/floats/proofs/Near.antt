@@ -1,6 +1,5 @@
 -- F2, the absolute rounding law: an exact result of at most 2^k m gives a finite result that is at most 2^k ticks away, subnormal
 -- results included. One law for every rounding, then sum, difference, product and quotient; and the sizes of results. Assumes nothing.
-use mathlib.Core.Path.{_≡_, refl, sym, ap, _∙_, subst}
 use Prim.Native.Nat.{ℕ, _+_, _*_, _^_, _≤_, _<_}
 use native.Mathlib.Nat.{le-trans, mul-assoc}
 use native.Mathlib.Omega.{arith}

@@ -2,18 +2,19 @@
 -- over a metre, a product over its square, a quotient over the divisor's size. Every result is in the format. Assumes nothing.
 use mathlib.Core.Path.{_≡_, refl, sym, ap, _∙_, subst}
 use Prim.Native.Nat.{ℕ, zero, suc, _+_, _-_, _*_, _≤_, _<_}
-use native.Mathlib.Nat.{le-trans, le-of-eq, le-of-lt, lt-irrefl, zero-lt-suc, mul-assoc, mul-comm, mul-right-comm, mul-mul-mul-comm}
+use native.Mathlib.Nat.{le-trans, le-of-eq, le-of-lt, lt-irrefl, zero-lt-suc, mul-assoc, mul-comm, mul-right-comm}
+use native.Mathlib.Nat.{mul-mul-mul-comm}
 use native.Mathlib.Nat.{mul-le-mul-right, mul-pos, mul-sub, zero-mul, le-of-mul-le-mul-right, eq-of-mul-eq-mul-right}
 use native.Mathlib.Omega.{arith}
 use mathlib.Core.Bool.{Bool, true, false, not, cond, _&&_}
 use lib.IntN.{ℤ}
 use lib.Dec.{T, ltb, eqb, ltb→lt, nltb→le, eqb·suc-zero}
-use lib.Ieee.{Float, nan, inf, fin, binary32, up, down, unlike, round, neg, sum, add, sub, mul, div, fits}
+use lib.Ieee.{Float, nan, inf, fin, binary32, up, down, unlike, round, neg, sum, add, sub, mul, div}
 use lib.Ieee.Fits.{up-pos, down-pos, add-fits, sub-fits, mul-fits, div-fits}
 use lib.Ieee.Scale.{finite, round-same}
 use Rattle.algebra.specs.Integer.{Z, signed, opp, _⊞_, _⊟_, _⊠_, _≐_, Abs}
 use Rattle.floats.specs.Value.{metre, F32, sign, mag, val}
-use Rattle.floats.proofs.Value.{metre-pos, val-signed, val-neg, neg-f32, AsFin, as-fin, f32-as-fin}
+use Rattle.floats.proofs.Value.{metre-pos, val-neg, neg-f32, AsFin, as-fin, f32-as-fin}
 
 pub record Rounds (z : Float) (num : Z) (den : ℕ) : Type 0 where
   pub negative : Bool

@@ -1,8 +1,8 @@
 -- F3: rounding keeps the order of exact results. One law for every rounding, then two sums, differences, products and quotients.
 -- Assumes nothing.
 use mathlib.Core.Path.{_≡_, refl, sym, ap, _∙_, subst}
-use Prim.Native.Nat.{ℕ, _+_, _*_, _^_, _≤_, _<_}
-use native.Mathlib.Nat.{le-trans, lt-of-le-of-lt, lt-of-not-le, not-le-of-lt, zero-mul, eq-of-mul-eq-mul-right}
+use Prim.Native.Nat.{ℕ, _*_, _^_, _≤_, _<_}
+use native.Mathlib.Nat.{lt-of-not-le, not-le-of-lt, zero-mul, eq-of-mul-eq-mul-right}
 use native.Mathlib.Decide.{decLe}
 use native.Mathlib.Omega.{arith}
 use mathlib.Core.Bool.{Bool, true, false, cond}
@@ -10,11 +10,11 @@ use lib.Dec.{T, ltb, ltb→lt, lit<}
 use lib.Ieee.{Float, inf, binary32, odd, units, round, add, sub, mul, div, le}
 use lib.Ieee.Fits.{round-is}
 use lib.Ieee.Order.{drop, kept, round-mono}
-use Rattle.algebra.specs.Integer.{Z, whole, signed, _⊞_, _⊟_, _⊠_, _⊛_, _≐_, _≼_, _≺_}
+use Rattle.algebra.specs.Integer.{Z, whole, signed, _⊞_, _⊟_, _⊠_, _⊛_, _≼_, _≺_}
 use Rattle.algebra.proofs.Integer.{le-resp, same-sym, multiple-same, multiple-mono}
-use Rattle.floats.specs.Value.{metre, F32, sign, mag, val}
+use Rattle.floats.specs.Value.{metre, F32, mag, val}
 use Rattle.floats.proofs.Value.{positive-sign, val-of-value, AsFin, as-fin, f32-as-fin}
-use Rattle.floats.proofs.Rounding.{rounded, rounded-double, rounded-exact, round-f32, round-value}
+use Rattle.floats.proofs.Rounding.{rounded, rounded-exact, round-f32, round-value}
 use Rattle.floats.proofs.Operations.{Rounds, add-rounds, sub-rounds, mul-rounds, div-rounds}
 use Rattle.floats.proofs.Comparison.{le-val}
 use Rattle.floats.proofs.Rounds.{f32-rounded, rounds-val}

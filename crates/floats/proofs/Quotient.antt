@@ -1,12 +1,11 @@
 -- F8: a quotient of 0 ≤ x ≤ y, y above 0, or of y ≤ x ≤ 0, y below 0, is finite and in [0, 1]. Assumes nothing.
-use mathlib.Core.Path.{_≡_, refl, sym, ap, _∙_, subst}
 use mathlib.Core.Logic.{_⊎_, inl, inr}
-use Prim.Native.Nat.{ℕ, _+_, _*_, _≤_, _<_}
+use Prim.Native.Nat.{ℕ, _<_}
 use native.Mathlib.Nat.{mul-le-mul-left}
 use native.Mathlib.Omega.{arith}
 use mathlib.Core.Bool.{Bool, true, false}
 use lib.Ieee.{Float, binary32, div}
-use Rattle.algebra.specs.Integer.{Z, whole, signed, opp, _⊛_, _≼_, _≺_}
+use Rattle.algebra.specs.Integer.{Z, whole, signed, _⊛_, _≼_, _≺_}
 use Rattle.floats.specs.Value.{metre, F32, sign, mag, val}
 use Rattle.floats.specs.B2Common.{zero32, one32}
 use Rattle.floats.proofs.Value.{val-signed}

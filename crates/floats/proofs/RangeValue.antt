@@ -1,23 +1,22 @@
 -- What the range tests of document 01 give: a number within a finite limit is finite, of the format where its parameter is, and at most
 -- the limit in size; a NaN and the infinities are within none. And back. The limits are 2, 8, 2^20 and 2^30 m. Assumes nothing.
-use mathlib.Core.Path.{_≡_, refl, sym, ap, _∙_, subst}
-use Prim.Native.Nat.{ℕ, _+_, _*_, _^_, _≤_}
-use native.Mathlib.Nat.{le-of-eq}
+use mathlib.Core.Path.{_≡_, sym, ap, _∙_}
+use Prim.Native.Nat.{ℕ, _*_, _^_}
 use native.Mathlib.Omega.{arith}
-use mathlib.Core.Bool.{Bool, true, false, not, _&&_}
+use mathlib.Core.Bool.{Bool, true, false, not}
 use lib.Dec.{T, ltb, eqb, eqb→eq}
 use lib.Ieee.{Float, nan, inf, fin, binary32, neg, le, fits, ofBits}
 use lib.Ieee.Bits.{is-false}
 use lib.Ieee.Fits.{and-i, and-l, and-r}
 use lib.Ieee.Scale.{finite}
 use Rattle.algebra.specs.Integer.{Z, whole, signed, opp, _≼_, Abs}
-use Rattle.algebra.proofs.Magnitude.{abs-widen}
-use Rattle.floats.specs.Value.{metre, F32, sign, mag, val}
+use Rattle.floats.specs.Value.{metre, F32, mag, val}
 use Rattle.floats.specs.B2Common.{zero32}
 use Rattle.floats.specs.Ranges.{within, normal-limit, local-normal-limit, shape-limit, contact-limit, radius-in-range}
 use Rattle.floats.proofs.Value.{metre-is, abs-mag, val-neg, neg-f32, AsFin, as-fin, f32-as-fin}
 use Rattle.floats.proofs.Comparison.{le-val, val-le}
-use Rattle.floats.proofs.Literals.{bits-sign, bits-field, bits-units, bits-f32, bits-mag, bits-val, zero-f32, zero-val}
+use Rattle.floats.proofs.Literals.{bits-sign, bits-field, bits-units, bits-f32, bits-mag, bits-val, zero-f32}
+use Rattle.floats.proofs.Literals.{zero-val}
 
 -- ---- no NaN and no infinity
 within-finite : {limit : Float} (x : Float) → AsFin limit → T (within limit x) → T (finite x)

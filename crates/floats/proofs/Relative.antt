@@ -1,6 +1,6 @@
 -- The relative laws: an error of at most 2^-24 of the exact result. Sums and differences have it always, a subnormal one being exact;
 -- products and quotients in the normal range, from 2^-126 m on, and else with half a unit, 2^-150 m, more. Assumes nothing.
-use mathlib.Core.Path.{_≡_, refl, sym, ap, _∙_, subst}
+use mathlib.Core.Path.{_≡_, sym, ap, _∙_}
 use Prim.Native.Nat.{ℕ, _+_, _*_, _^_, _≤_, _<_}
 use native.Mathlib.Nat.{le-trans, le-of-eq, lt-trans, lt-of-not-le, mul-one, mul-assoc, mul-le-mul-right, mul-pos}
 use native.Mathlib.Decide.{decLe}

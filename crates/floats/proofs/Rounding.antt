@@ -1,15 +1,18 @@
 -- How `round` of lib.Ieee rounds, in whole numbers. A fraction num / den of a metre is num * 2^149 / den units; `rounded num den` is
 -- what `round` makes of it, in units. It is off by at most half of its last digit, 2^drop units, and at most twice the fraction.
 -- The sign plays no part in it. Assumes nothing.
-use mathlib.Core.Path.{_≡_, refl, sym, ap, _∙_, subst}
+use mathlib.Core.Path.{_≡_, sym, ap, _∙_, subst}
 use mathlib.Core.Logic.{_⊎_, inl, inr}
-use Prim.Native.Nat.{ℕ, zero, suc, _+_, _-_, _*_, _/_, _%_, _^_, _≤_, _<_, compare, Ordering, Ordering·lt, Ordering·eq, Ordering·gt}
-use native.Mathlib.Nat.{le-trans, le-of-eq, lt-of-le-of-lt, mul-assoc, mul-comm, mul-one, mul-right-comm, mul-le-mul-right, mul-le-mul-left, mul-le-mul, mul-pos, mul-lt-mul-of-pos-right, le-of-mul-le-mul-right, div-add-mod', mod-lt, div-lt-iff-lt-mul, le-div-iff-mul-le, div-div-eq-div-mul, eq-zero-or-pos}
+use Prim.Native.Nat.{ℕ, zero, suc, _+_, _-_, _*_, _/_, _%_, _^_, _≤_, _<_, compare, Ordering, Ordering·lt, Ordering·eq}
+use Prim.Native.Nat.{Ordering·gt}
+use native.Mathlib.Nat.{le-trans, le-of-eq, lt-of-le-of-lt, mul-assoc, mul-comm, mul-le-mul-right, mul-le-mul, mul-pos}
+use native.Mathlib.Nat.{mul-lt-mul-of-pos-right, le-of-mul-le-mul-right, div-add-mod', mod-lt, div-lt-iff-lt-mul}
+use native.Mathlib.Nat.{le-div-iff-mul-le, div-div-eq-div-mul, eq-zero-or-pos}
 use native.Mathlib.Omega.{arith}
-use mathlib.Core.Bool.{Bool, true, false, not, cond}
+use mathlib.Core.Bool.{Bool, true, false, cond}
 use lib.Dec.{T, ltb, ltb→lt}
 use lib.Pow.{pow-add, pow-pos, pow-mono, pow-lt, shl-lt}
-use lib.Ieee.{Float, nan, inf, fin, binary32, size, nearest, odd, units, round}
+use lib.Ieee.{Float, inf, binary32, size, nearest, odd, units, round}
 use lib.Ieee.Digits.{back, size-le, size-reaches}
 use lib.Ieee.Fits.{nearest-le, kept-lt, round-is, round-fits}
 use lib.Ieee.Exact.{HasValue, units-val}

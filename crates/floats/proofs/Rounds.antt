@@ -1,14 +1,14 @@
 -- What is known of every result that rounds once: its value is the rounded size with the exact result's sign, and an error of that
 -- size is an error of the value; then the same for sums, products and quotients, freed of the common factor. Assumes nothing.
-use mathlib.Core.Path.{_≡_, refl, sym, ap, _∙_, subst}
+use mathlib.Core.Path.{_≡_, sym, ap, _∙_, subst}
 use Prim.Native.Nat.{ℕ, _+_, _*_, _^_, _≤_, _<_}
-use native.Mathlib.Nat.{mul-pos, le-refl, le-of-mul-le-mul-right}
+use native.Mathlib.Nat.{le-refl, le-of-mul-le-mul-right}
 use native.Mathlib.Omega.{arith}
 use mathlib.Core.Bool.{Bool, true, false}
 use lib.Dec.{T}
 use lib.Ieee.{Float, binary32, round, unlike}
 use lib.Ieee.Scale.{finite}
-use Rattle.algebra.specs.Integer.{Z, signed, _⊞_, _⊟_, _⊠_, _⊛_, _≐_, Abs}
+use Rattle.algebra.specs.Integer.{Z, signed, _⊟_, _⊠_, _⊛_, _≐_, Abs}
 use Rattle.algebra.proofs.Integer.{same-sym, same-trans}
 use Rattle.algebra.proofs.Magnitude.{abs-same, abs-signed, signed-abs}
 use Rattle.floats.specs.Value.{metre, F32, sign, mag, val}

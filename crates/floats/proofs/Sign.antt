@@ -1,13 +1,13 @@
 -- Signs: a result has the sign of the exact one, and one that is not 0 comes from an exact result that is not 0. So an exact result
 -- that is not negative gives a value that is not negative; F7: a product below 0 has factors of opposite signs. Assumes nothing.
-use mathlib.Core.Path.{_≡_, refl, sym, ap, _∙_, subst}
+use mathlib.Core.Path.{_≡_, refl, ap, _∙_, subst}
 use mathlib.Core.Logic.{_⊎_, inl, inr}
-use Prim.Native.Nat.{ℕ, zero, suc, _+_, _*_, _^_, _≤_, _<_}
-use native.Mathlib.Nat.{mul-comm, mul-pos, eq-zero-or-pos}
+use Prim.Native.Nat.{ℕ, zero, suc, _*_, _^_, _≤_, _<_}
+use native.Mathlib.Nat.{mul-comm, mul-pos}
 use native.Mathlib.Omega.{arith}
 use mathlib.Core.Bool.{Bool, true, false, cond}
 use lib.Dec.{T, ltb}
-use lib.Ieee.{Float, nan, inf, fin, binary32, odd, units, round, add, sub, mul, div}
+use lib.Ieee.{Float, nan, inf, fin, binary32, odd, units, add, sub, mul}
 use lib.Ieee.Fits.{round-is, round-fits}
 use lib.Ieee.Order.{drop, kept}
 use lib.Ieee.Positive.{first-pos}
@@ -15,8 +15,8 @@ use lib.Ieee.Scale.{finite}
 use Rattle.algebra.specs.Integer.{Z, whole, signed, _⊞_, _⊟_, _⊠_, _≐_, _≼_, _≺_}
 use Rattle.algebra.proofs.Integer.{order-cases}
 use Rattle.floats.specs.Value.{metre, F32, sign, mag, val}
-use Rattle.floats.proofs.Value.{metre-pos, val-signed}
-use Rattle.floats.proofs.Operations.{Rounds, turned, add-rounds, sub-rounds, mul-rounds}
+use Rattle.floats.proofs.Value.{val-signed}
+use Rattle.floats.proofs.Operations.{Rounds, add-rounds, sub-rounds, mul-rounds}
 use Rattle.floats.proofs.Doubling.{rounds-double}
 
 -- ---- one rounding

@@ -1,20 +1,20 @@
 -- F5: the root r of a number x above 0 is finite, above 0, and within a relative 2^-24 of √x, squared:
 -- (2^24 - 1)² r² ≤ 2^48 x ≤ (2^24 + 1)² r², with x in units times metre. Both zeros are their own roots. Assumes nothing.
 use mathlib.Core.Path.{_≡_, refl, sym, ap, _∙_, subst}
-use Prim.Native.Nat.{ℕ, zero, suc, _+_, _*_, _^_, _≤_, _<_}
-use native.Mathlib.Nat.{le-trans, le-of-eq, lt-of-lt-of-le, mul-pos, mul-le-mul-right, mul-lt-mul-of-pos-right, zero-lt-suc}
+use Prim.Native.Nat.{ℕ, zero, suc, _*_, _^_, _≤_, _<_}
+use native.Mathlib.Nat.{le-trans, le-of-eq, lt-of-lt-of-le, one-mul, zero-mul, mul-pos, mul-le-mul-right, mul-lt-mul-of-pos-right, zero-lt-suc}
 use native.Mathlib.Omega.{arith}
 use mathlib.Core.Bool.{Bool, true, false}
-use lib.Dec.{T, lit<, lit≤}
-use lib.IntN.{ℤ}
+use lib.Dec.{lit<, lit≤}
 use lib.Pow.{pow-pos}
 use lib.Ieee.{Float, fin, binary32, up, down}
 use lib.Ieee.Exact.{HasValue}
-use lib.Ieee.Fits.{up-pos, down-pos}
-use Rattle.algebra.specs.Integer.{Z, whole, signed, _≐_, _≺_}
+use lib.Ieee.Fits.{up-pos}
+use Rattle.algebra.specs.Integer.{whole, signed, _≐_, _≺_}
 use Rattle.floats.specs.Value.{metre, F32, sign, mag, val}
 use Rattle.floats.specs.Sqrt.{sqrt, rounded-root}
-use Rattle.floats.proofs.Value.{metre-is, metre-pos, has-value, positive-sign, mag-of-value, val-of-value, f32-of-value, val-signed, val-zero, AsFin, as-fin, f32-as-fin}
+use Rattle.floats.proofs.Value.{metre-is, metre-pos, has-value, positive-sign, mag-of-value, val-of-value}
+use Rattle.floats.proofs.Value.{f32-of-value, val-signed, val-zero, AsFin, as-fin, f32-as-fin}
 use Rattle.floats.proofs.Digits.{mag-high}
 use Rattle.floats.proofs.RoundedRoot.{RoundedRoot, RelativeSquare, rounded-root-is, rounded-root-relative}
 use Rattle.floats.proofs.SqrtCases.{sqrt-of-units}
@@ -32,7 +32,7 @@ module _ {x : Float} (x-f32 : F32 x) (x-pos : whole 0 ≺ val x) where
   sqrt-rounded =
       subst (λ (r : Float). RoundedRoot r (mag x * metre)) (sym sqrt-is)
       (rounded-root-is (mag x * metre)
-      (le-trans (subst (λ (m : ℕ). 2 ^ 48 ≤ m) (sym metre-is) (lit≤ tt)) (le-trans (le-of-eq (sym (native.Mathlib.Nat.one-mul metre))) (mul-le-mul-right metre (positive-sign x x-pos .mag-pos))))
+      (le-trans (subst (λ (m : ℕ). 2 ^ 48 ≤ m) (sym metre-is) (lit≤ tt)) (le-trans (le-of-eq (sym (one-mul metre))) (mul-le-mul-right metre (positive-sign x x-pos .mag-pos))))
       (lt-of-lt-of-le (mul-lt-mul-of-pos-right (mag-high x-f32) metre-pos) (le-of-eq (ap (λ (m : ℕ). 2 ^ 277 * m) metre-is))))
 
 -- ---- its value
@@ -75,7 +75,7 @@ unfolding sqrt
 sqrt-zero {x} x-f32 x-zero = of-fin x x-f32 (f32-as-fin x-f32) (rw val-signed at x-zero)
   where
     some : (n d g : ℕ) → 0 < n → n ≡ g * d → 0 < g
-    some n d zero n-pos e = absurd (let z = native.Mathlib.Nat.zero-mul d in omega arith)
+    some n d zero n-pos e = absurd (let z = zero-mul d in omega arith)
     some n d (suc g) n-pos e = zero-lt-suc g
 
     none : (s : Bool) (g : ℕ) → signed s g ≐ whole 0 → 0 < g → ⊥

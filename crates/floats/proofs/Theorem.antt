@@ -1,15 +1,15 @@
 -- The laws of f32 arithmetic that the upper crates cite, by their names in demand 3's proof: F1 to F8 and DOT, for numbers of binary32
 -- (`F32`) and their values in units of 2^-149 m (`val`, `mag`; a metre is `metre`, 2^-25 m is `tick`). Bodies only cite. Assumes nothing.
-use mathlib.Core.Logic.{_⊎_}
-use Prim.Native.Nat.{ℕ, _+_, _-_, _*_, _^_, _≤_, _<_}
+use Prim.Native.Nat.{ℕ, _+_, _*_, _^_, _≤_, _<_}
 use lib.Dec.{T, leb}
 use lib.Ieee.{Float, binary32, add, sub, mul, div}
-use Rattle.algebra.specs.Integer.{Z, whole, _⊞_, _⊟_, _⊠_, _⊛_, _≐_, _≼_, _≺_, Abs}
+use Rattle.algebra.specs.Integer.{whole, _⊞_, _⊟_, _⊠_, _⊛_, _≐_, _≼_, _≺_, Abs}
 use Rattle.floats.specs.Value.{metre, tick, F32, mag, val}
 use Rattle.floats.specs.Sqrt.{sqrt}
 use Rattle.floats.specs.B2Common.{one32}
 use Rattle.floats.proofs.Near.{Near, NearProduct, NearQuotient, add-near, sub-near, mul-near, div-near}
-use Rattle.floats.proofs.Bounds.{add-below, add-above, sub-below, sub-above, mul-below, mul-above, div-below, div-above}
+use Rattle.floats.proofs.Bounds.{add-below, add-above, sub-below, sub-above, mul-below, mul-above, div-below}
+use Rattle.floats.proofs.Bounds.{div-above}
 use Rattle.floats.proofs.Exact.{Is, add-exact, sub-exact, mul-exact, div-exact}
 use Rattle.floats.proofs.Relative.{add-relative, sub-relative, mul-relative, mul-mixed, div-relative, div-mixed}
 use Rattle.floats.proofs.Doubling.{add-double, sub-double, mul-double, div-double}

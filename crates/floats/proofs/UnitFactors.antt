@@ -1,9 +1,7 @@
 -- Multiplying by 0, 1 or -1 and adding or subtracting 0 are exact at every number of the format, -0 included: each exact result is the
 -- value of a number at hand. Assumes nothing.
-use mathlib.Core.Path.{_≡_, refl, ap}
-use Prim.Native.Nat.{ℕ, _+_, _*_}
 use native.Mathlib.Omega.{arith}
-use lib.Ieee.{Float, binary32, neg, add, sub, mul}
+use lib.Ieee.{Float, binary32, add, sub, mul}
 use Rattle.algebra.specs.Integer.{Z, whole, opp, _⊞_, _⊟_, _⊠_, _⊛_, _≐_}
 use Rattle.algebra.proofs.Integer.{same-refl, same-trans}
 use Rattle.algebra.proofs.Products.{product-same}

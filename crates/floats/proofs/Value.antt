@@ -1,12 +1,11 @@
 -- The value of a finite binary32 number as a whole number of units of 2^-149 m: the units, |val x| = mag x, negation and the zeros.
 -- `HasValue x s g metre`, of lib.Ieee, says that x is finite, has the sign s and is g units in size; `F32` gives it and is given
 -- back by it. Assumes nothing.
-use mathlib.Core.Path.{_≡_, refl, sym, ap, _∙_, subst}
-use Prim.Native.Nat.{ℕ, zero, suc, _+_, _-_, _*_, _/_, _%_, _^_, _≤_, _<_}
-use native.Mathlib.Nat.{le-refl, mul-assoc, mul-one, mul-div-cancel, not-le-of-lt, zero-mul, zero-div, pow-succ', eq-zero-or-pos}
+use mathlib.Core.Path.{_≡_, refl, sym, ap, _∙_}
+use Prim.Native.Nat.{ℕ, zero, suc, _-_, _*_, _/_, _%_, _^_, _≤_, _<_}
+use native.Mathlib.Nat.{le-refl, mul-assoc, mul-one, mul-div-cancel, not-le-of-lt, zero-mul, zero-div, pow-succ'}
 use native.Mathlib.Omega.{arith}
 use mathlib.Core.Bool.{Bool, true, false, not, _&&_}
-use mathlib.Core.Logic.{inl, inr}
 use lib.IntN.{ℤ, pos, negsuc}
 use lib.Dec.{T, leb, ltb, eqb, leb→le, nleb→lt, eqb→eq}
 use lib.Pow.{pow-add, pow-pos, pow-lt}
@@ -14,8 +13,7 @@ use lib.Ieee.{Float, nan, inf, fin, binary32, up, down, neg, fits}
 use lib.Ieee.Digits.{back}
 use lib.Ieee.Fits.{down-pos, and-l, and-r, neg-fits}
 use lib.Ieee.Exact.{HasValue}
-use lib.Ieee.Scale.{finite}
-use Rattle.algebra.specs.Integer.{Z, whole, signed, opp, _⊛_, _≐_, _≺_, Abs}
+use Rattle.algebra.specs.Integer.{whole, signed, opp, _⊛_, _≐_, _≺_, Abs}
 use Rattle.algebra.proofs.Magnitude.{abs-signed, signed-abs}
 use Rattle.floats.specs.Value.{metre, tick, F32, sign, mag, val}
 

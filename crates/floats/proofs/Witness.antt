@@ -1,13 +1,13 @@
 -- Each headline law applied to closed numbers, 0, 1/2, 1 and -1: the hypotheses of none are vacuous. Assumes nothing.
-use mathlib.Core.Path.{_≡_, refl, sym, ap, subst}
-use mathlib.Core.Logic.{inl, inr}
-use Prim.Native.Nat.{ℕ, _+_, _*_, _^_, _≤_, _<_}
+use mathlib.Core.Path.{refl, sym}
+use mathlib.Core.Logic.{inl}
+use Prim.Native.Nat.{ℕ, _*_, _^_, _≤_}
 use native.Mathlib.Nat.{le-refl, le-trans, le-of-eq, one-mul, mul-le-mul-right}
 use native.Mathlib.Omega.{arith}
 use lib.Dec.{T, lit≤}
-use lib.Ieee.{Float, binary32, neg, add, sub, mul, div, lt}
-use Rattle.algebra.specs.Integer.{Z, whole, _⊞_, _⊟_, _⊠_, _⊛_, _≐_, _≼_, _≺_, Abs}
-use Rattle.floats.specs.Value.{metre, tick, F32, mag, val}
+use lib.Ieee.{binary32, neg, add, div, lt}
+use Rattle.algebra.specs.Integer.{whole, _⊞_, _⊟_, _⊠_, _⊛_, _≐_, _≼_, _≺_, Abs}
+use Rattle.floats.specs.Value.{metre, tick, mag, val}
 use Rattle.floats.specs.Sqrt.{sqrt}
 use Rattle.floats.specs.B2Common.{half32, one32, b2-linear-slop}
 use Rattle.floats.specs.Ranges.{within, normal-limit}
@@ -24,8 +24,10 @@ use Rattle.floats.proofs.SqrtLaw.{SqrtLaw}
 use Rattle.floats.proofs.Reciprocal.{Reciprocal}
 use Rattle.floats.proofs.Dot.{dot, DotNear}
 use Rattle.floats.proofs.RangeValue.{normal-limit-is, value-limit}
-use Rattle.floats.proofs.Theorem.{exact-results, near-results, relative-results, ordered-results, ordered-root, doubled-results}
-use Rattle.floats.proofs.Theorem.{root-of-positive, reciprocal-near, product-negative, quotient-in-unit, dot-near-5, dot-near-7}
+use Rattle.floats.proofs.Theorem.{exact-results, near-results, relative-results, ordered-results, ordered-root}
+use Rattle.floats.proofs.Theorem.{doubled-results}
+use Rattle.floats.proofs.Theorem.{root-of-positive, reciprocal-near, product-negative, quotient-in-unit, dot-near-5}
+use Rattle.floats.proofs.Theorem.{dot-near-7}
 
 -- ---- values
 halves : val half32 ⊞ val half32 ≐ val one32
