@@ -20,7 +20,8 @@ use Rattle.floats.proofs.Order.{rounded-mono, rounds-mono}
 pub rounded-itself : {r : Float} → F32 r → rounded (mag r) metre ≡ mag r
 rounded-itself {r} r-f32 =
     let d = digits r-f32 in
-    rounded-exact (mag r) metre (d .q) (d .j) metre-pos (d .small) (ap (λ (n : ℕ). n * 2 ^ 149) (d .is) ∙ ap (λ (m : ℕ). d .q * 2 ^ d .j * m) (sym metre-is)) ∙ sym (d .is)
+    rounded-exact (mag r) metre (d .q) (d .j) metre-pos (d .small)
+    (ap (λ (n : ℕ). n * 2 ^ 149) (d .is) ∙ ap (λ (m : ℕ). d .q * 2 ^ d .j * m) (sym metre-is)) ∙ sym (d .is)
 
 module _ {r : Float} (r-f32 : F32 r) where
   abbrev itself : Rounds (round binary32 (sign r) (mag r) metre) (val r) metre
@@ -36,28 +37,36 @@ module _ {r : Float} (r-f32 : F32 r) where
   itself-f32 = rounds-f32 itself (rw (rounded-itself r-f32) (mag-high r-f32))
 
   itself-val : val (round binary32 (sign r) (mag r) metre) ≡ val r
-  itself-val = rounds-val itself itself-f32 ∙ ap (λ (g : ℕ). signed (sign r) g) (rounded-itself r-f32) ∙ sym (val-signed r)
+  itself-val = rounds-val itself itself-f32 ∙ ap (λ (g : ℕ). signed (sign r) g) (rounded-itself r-f32) ∙ sym
+      (val-signed r)
 
 -- ---- one rounding
 module _ {z r : Float} {num : Z} {den : ℕ} (rounds : Rounds z num den) (r-f32 : F32 r) where
   pub rounds-below : F32 z → metre ⊛ num ≼ den ⊛ val r → val z ≼ val r
-  rounds-below z-f32 h = subst (λ (v : Z). val z ≼ v) (itself-val r-f32) (rounds-mono rounds (itself r-f32) z-f32 (itself-f32 r-f32) h)
+  rounds-below z-f32 h = subst (λ (v : Z). val z ≼ v) (itself-val r-f32)
+      (rounds-mono rounds (itself r-f32) z-f32 (itself-f32 r-f32) h)
 
   pub rounds-above : F32 z → den ⊛ val r ≼ metre ⊛ num → val r ≼ val z
-  rounds-above z-f32 h = subst (λ (v : Z). v ≼ val z) (itself-val r-f32) (rounds-mono (itself r-f32) rounds (itself-f32 r-f32) z-f32 h)
+  rounds-above z-f32 h = subst (λ (v : Z). v ≼ val z) (itself-val r-f32)
+      (rounds-mono (itself r-f32) rounds (itself-f32 r-f32) z-f32 h)
 
   size-finite : rounds .size * metre ≤ mag r * den → F32 z
   size-finite h =
       rounds-f32 rounds (lt-of-le-of-lt
-      (rounded-mono (rounds .size) den (mag r) metre (rounds .den-pos) metre-pos h (rw (rounded-itself r-f32) (mag-high r-f32)))
+      (rounded-mono (rounds .size) den (mag r) metre (rounds .den-pos) metre-pos h
+      (rw (rounded-itself r-f32) (mag-high r-f32)))
       (rw (rounded-itself r-f32) (mag-high r-f32)))
 
 pub rounds-finite : {z low high : Float} {num : Z} {den : ℕ} → Rounds z num den → F32 low → F32 high
     → den ⊛ val low ≼ metre ⊛ num → metre ⊛ num ≼ den ⊛ val high → F32 z
 rounds-finite {z} {low} {high} {num} {den} rounds low-f32 high-f32 above below =
     by-sign (rounds .negative) (size-finite rounds low-f32) (size-finite rounds high-f32)
-    (from-low (rounds .negative) (rounds .size) (sign low) (mag low) (rw val-signed at (le-resp (den ⊛ val low) (den ⊛ val low) (metre ⊛ num) (metre ⊛ v) (same-refl (den ⊛ val low)) same above)))
-    (to-high (rounds .negative) (rounds .size) (sign high) (mag high) (rw val-signed at (le-resp (metre ⊛ num) (metre ⊛ v) (den ⊛ val high) (den ⊛ val high) same (same-refl (den ⊛ val high)) below)))
+    (from-low (rounds .negative) (rounds .size) (sign low) (mag low)
+    (rw val-signed at (le-resp (den ⊛ val low) (den ⊛ val low) (metre ⊛ num) (metre ⊛ v)
+    (same-refl (den ⊛ val low)) same above)))
+    (to-high (rounds .negative) (rounds .size) (sign high) (mag high)
+    (rw val-signed at (le-resp (metre ⊛ num) (metre ⊛ v) (den ⊛ val high) (den ⊛ val high) same
+    (same-refl (den ⊛ val high)) below)))
   where
     v : Z
     v = signed (rounds .negative) (rounds .size)
@@ -65,21 +74,24 @@ rounds-finite {z} {low} {high} {num} {den} rounds low-f32 high-f32 above below =
     same : metre ⊛ num ≐ metre ⊛ v
     same = multiple-same metre num v (same-sym v num (rounds .exact))
 
-    from-low : (s : Bool) (w : ℕ) (t : Bool) (g : ℕ) → den ⊛ signed t g ≼ metre ⊛ signed s w → s ≡ true → w * metre ≤ g * den
+    from-low : (s : Bool) (w : ℕ) (t : Bool) (g : ℕ) → den ⊛ signed t g ≼ metre ⊛ signed s w → s ≡ true
+        → w * metre ≤ g * den
     from-low s w t g h e = at t (rw e at h)
       where
         at : (t : Bool) → den ⊛ signed t g ≼ metre ⊛ signed true w → w * metre ≤ g * den
         at true h = omega arith
         at false h = omega arith
 
-    to-high : (s : Bool) (w : ℕ) (t : Bool) (g : ℕ) → metre ⊛ signed s w ≼ den ⊛ signed t g → s ≡ false → w * metre ≤ g * den
+    to-high : (s : Bool) (w : ℕ) (t : Bool) (g : ℕ) → metre ⊛ signed s w ≼ den ⊛ signed t g → s ≡ false
+        → w * metre ≤ g * den
     to-high s w t g h e = at t (rw e at h)
       where
         at : (t : Bool) → metre ⊛ signed false w ≼ den ⊛ signed t g → w * metre ≤ g * den
         at true h = omega arith
         at false h = omega arith
 
-    by-sign : (s : Bool) → (rounds .size * metre ≤ mag low * den → F32 z) → (rounds .size * metre ≤ mag high * den → F32 z)
+    by-sign : (s : Bool) → (rounds .size * metre ≤ mag low * den → F32 z)
+        → (rounds .size * metre ≤ mag high * den → F32 z)
         → (s ≡ true → rounds .size * metre ≤ mag low * den) → (s ≡ false → rounds .size * metre ≤ mag high * den) → F32 z
     by-sign true of-low of-high low-le high-le = of-low (low-le refl)
     by-sign false of-low of-high low-le high-le = of-high (high-le refl)
@@ -111,18 +123,22 @@ module _ {x y r : Float} (x-f32 : F32 x) (y-f32 : F32 y) (r-f32 : F32 r) where
       (multiple-mono metre (metre ⊛ val r) (val x ⊠ val y) h))
 
   -- a divisor above 0
-  pub div-below : whole 0 ≺ val y → F32 (div binary32 x y) → metre ⊛ val x ≼ val r ⊠ val y → val (div binary32 x y) ≼ val r
+  pub div-below : whole 0 ≺ val y → F32 (div binary32 x y) → metre ⊛ val x ≼ val r ⊠ val y
+      → val (div binary32 x y) ≼ val r
   div-below y-pos own h =
       let p = positive-sign y y-pos in
-      rounds-below (div-rounds x-f32 y-f32 (p .mag-pos)) r-f32 own (rw (p .plus) (swap (mag y) (val x) (val r) (rw (p .is) at h)))
+      rounds-below (div-rounds x-f32 y-f32 (p .mag-pos)) r-f32 own
+      (rw (p .plus) (swap (mag y) (val x) (val r) (rw (p .is) at h)))
     where
       swap : (n : ℕ) (a b : Z) → metre ⊛ a ≼ b ⊠ whole n → metre ⊛ a ≼ n ⊛ b
       swap n a b h = omega arith
 
-  pub div-above : whole 0 ≺ val y → F32 (div binary32 x y) → val r ⊠ val y ≼ metre ⊛ val x → val r ≼ val (div binary32 x y)
+  pub div-above : whole 0 ≺ val y → F32 (div binary32 x y) → val r ⊠ val y ≼ metre ⊛ val x
+      → val r ≼ val (div binary32 x y)
   div-above y-pos own h =
       let p = positive-sign y y-pos in
-      rounds-above (div-rounds x-f32 y-f32 (p .mag-pos)) r-f32 own (rw (p .plus) (swap (mag y) (val x) (val r) (rw (p .is) at h)))
+      rounds-above (div-rounds x-f32 y-f32 (p .mag-pos)) r-f32 own
+      (rw (p .plus) (swap (mag y) (val x) (val r) (rw (p .is) at h)))
     where
       swap : (n : ℕ) (a b : Z) → b ⊠ whole n ≼ metre ⊛ a → n ⊛ b ≼ metre ⊛ a
       swap n a b h = omega arith

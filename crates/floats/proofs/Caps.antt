@@ -21,18 +21,21 @@ pub record Capped (z : Float) (h : ℕ) : Type 0 where
   pub own : F32 z
   pub cap : Abs (val z) (h * metre)
 
-pub rounds-cap : (h n : ℕ) {z : Float} {num : Z} {den : ℕ} → T (leb h (2 ^ 24)) → Rounds z num den → Abs num n → n ≤ h * den → Capped z h
+pub rounds-cap : (h n : ℕ) {z : Float} {num : Z} {den : ℕ} → T (leb h (2 ^ 24)) → Rounds z num den → Abs num n
+    → n ≤ h * den → Capped z h
 rounds-cap h n {z} {num} {den} h-low r num-abs n-low =
     let h-le = leb→le h (2 ^ 24) h-low in
     let is-h = rounded-dyadic h 0 h-le (lit≤ tt) in
     let high = dyadic-finite h 0 h-le in
     let le : rounded (r .size) den ≤ h * 2 ^ 149 =
-    le-trans (rounded-mono (r .size) den h (2 ^ 0) (r .den-pos) (pow-pos 0) (le-trans (le-of-eq (mul-one (r .size))) (le-trans (size-le r n num-abs) n-low))
+    le-trans (rounded-mono (r .size) den h (2 ^ 0) (r .den-pos) (pow-pos 0)
+    (le-trans (le-of-eq (mul-one (r .size))) (le-trans (size-le r n num-abs) n-low))
     (subst (λ (g : ℕ). g < 2 ^ 277) (sym is-h) high)) (le-of-eq is-h) in
     let own = rounds-f32 r (lt-of-le-of-lt le high) in
     record {
       own = own;
-      cap = abs-widen (val z) (mag z) (h * metre) (abs-mag z) (rw (rounds-mag r own) (le-trans le (le-of-eq (ap (λ (m : ℕ). h * m) (sym metre-is)))));
+      cap = abs-widen (val z) (mag z) (h * metre) (abs-mag z)
+          (rw (rounds-mag r own) (le-trans le (le-of-eq (ap (λ (m : ℕ). h * m) (sym metre-is)))));
     }
 
 -- ---- the operations
@@ -47,7 +50,9 @@ module _ (h : ℕ) {x y : Float} (h-low : T (leb h (2 ^ 24))) (x-f32 : F32 x) (y
   product-cap n = rounds-cap h n h-low (mul-rounds x-f32 y-f32)
 
   pub mul-cap : (m n : ℕ) → Abs (val x) m → Abs (val y) n → m * n ≤ h * (metre * metre) → Capped (mul binary32 x y) h
-  mul-cap m n x-abs y-abs = rounds-cap h (m * n) h-low (mul-rounds x-f32 y-f32) (abs-product (val x) (val y) m n x-abs y-abs)
+  mul-cap m n x-abs y-abs = rounds-cap h (m * n) h-low (mul-rounds x-f32 y-f32)
+      (abs-product (val x) (val y) m n x-abs y-abs)
 
   pub div-cap : 0 < mag y → mag x ≤ h * mag y → Capped (div binary32 x y) h
-  div-cap y-pos = rounds-cap h (mag x) h-low (div-rounds x-f32 y-f32 y-pos) (abs-turned (sign y) (val x) (mag x) (abs-mag x))
+  div-cap y-pos = rounds-cap h (mag x) h-low (div-rounds x-f32 y-f32 y-pos)
+      (abs-turned (sign y) (val x) (mag x) (abs-mag x))

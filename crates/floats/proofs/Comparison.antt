@@ -24,7 +24,8 @@ bool-iff false true f g = absurd (g tt)
 module _ (d c : ℕ) (d-pos : 0 < d) (c-pos : 0 < c) where
   lt-scaled : (p q m n : ℕ) → p * d ≡ m * c → q * d ≡ n * c → p < q → m < n
   lt-scaled p q m n h k l =
-      lt-of-mul-lt-mul-right c (lt-of-le-of-lt (le-of-eq (sym h)) (lt-of-lt-of-le (mul-lt-mul-of-pos-right l d-pos) (le-of-eq k)))
+      lt-of-mul-lt-mul-right c (lt-of-le-of-lt (le-of-eq (sym h))
+      (lt-of-lt-of-le (mul-lt-mul-of-pos-right l d-pos) (le-of-eq k)))
 
   eq-scaled : (p q m n : ℕ) → p * d ≡ m * c → q * d ≡ n * c → p ≡ q → m ≡ n
   eq-scaled p q m n h k e = eq-of-mul-eq-mul-right c c-pos m n (sym h ∙ ap (λ (x : ℕ). x * d) e ∙ k)
@@ -52,7 +53,8 @@ module _ (d c : ℕ) (d-pos : 0 < d) (c-pos : 0 < c) where
   level-scaled : (s t : Bool) (p q m n : ℕ) → p * d ≡ m * c → q * d ≡ n * c → level s p t q ≡ level s m t n
   level-scaled s t p q m n h k = rw (eqb-scaled p q m n h k, eqb-scaled p 0 m 0 h zero-scaled)
 
-cross : (a b c d m n : ℕ) → a * metre ≡ m * c → b * metre ≡ n * d → (a * d * metre ≡ m * (c * d)) × (b * c * metre ≡ n * (c * d))
+cross : (a b c d m n : ℕ) → a * metre ≡ m * c → b * metre ≡ n * d
+    → (a * d * metre ≡ m * (c * d)) × (b * c * metre ≡ n * (c * d))
 cross a b c d m n h k = (
   let e : a * metre * d ≡ m * c * d = ap (λ (x : ℕ). x * d) h in omega arith,
   let e : b * metre * c ≡ n * d * c = ap (λ (x : ℕ). x * c) k in omega arith,
@@ -62,14 +64,16 @@ lt-is : {x y : Float} → AsFin x → AsFin y → lt x y ≡ below (sign x) (mag
 unfolding lt
 lt-is (as-fin s m e x-is) (as-fin t n d y-is) =
     let h = cross (m * up e) (n * up d) (down e) (down d) (mag (fin s m e)) (mag (fin t n d)) x-is y-is in
-    below-scaled metre (down e * down d) metre-pos (mul-pos (down-pos e) (down-pos d)) s t (m * up e * down d) (n * up d * down e)
+    below-scaled metre (down e * down d) metre-pos (mul-pos (down-pos e) (down-pos d)) s t (m * up e * down d)
+    (n * up d * down e)
     (mag (fin s m e)) (mag (fin t n d)) (h .0) (h .1)
 
 eq-is : {x y : Float} → AsFin x → AsFin y → eq x y ≡ level (sign x) (mag x) (sign y) (mag y)
 unfolding eq
 eq-is (as-fin s m e x-is) (as-fin t n d y-is) =
     let h = cross (m * up e) (n * up d) (down e) (down d) (mag (fin s m e)) (mag (fin t n d)) x-is y-is in
-    level-scaled metre (down e * down d) metre-pos (mul-pos (down-pos e) (down-pos d)) s t (m * up e * down d) (n * up d * down e)
+    level-scaled metre (down e * down d) metre-pos (mul-pos (down-pos e) (down-pos d)) s t (m * up e * down d)
+    (n * up d * down e)
     (mag (fin s m e)) (mag (fin t n d)) (h .0) (h .1)
 
 -- ---- signed sizes
@@ -98,8 +102,10 @@ level-signed s t m n h =
 signed-level : (s t : Bool) (m n : ℕ) → signed s m ≐ signed t n → T (level s m t n)
 signed-level true true m n h = and-i (eqb m n) true (eq→eqb {a = m} {b = n} (omega arith)) tt
 signed-level false false m n h = and-i (eqb m n) true (eq→eqb {a = m} {b = n} (omega arith)) tt
-signed-level true false m n h = and-i (eqb m n) (eqb m 0) (eq→eqb {a = m} {b = n} (omega arith)) (eq→eqb {a = m} {b = 0} (omega arith))
-signed-level false true m n h = and-i (eqb m n) (eqb m 0) (eq→eqb {a = m} {b = n} (omega arith)) (eq→eqb {a = m} {b = 0} (omega arith))
+signed-level true false m n h = and-i (eqb m n) (eqb m 0) (eq→eqb {a = m} {b = n} (omega arith))
+    (eq→eqb {a = m} {b = 0} (omega arith))
+signed-level false true m n h = and-i (eqb m n) (eqb m 0) (eq→eqb {a = m} {b = n} (omega arith))
+    (eq→eqb {a = m} {b = 0} (omega arith))
 
 -- ---- the laws
 module _ {x y : Float} (x-f32 : F32 x) (y-f32 : F32 y) where

@@ -26,7 +26,8 @@ digits-of-fin : (s : Bool) (m : ℕ) (e : ℤ) → F32 (fin s m e) → m < 2 ^ 2
     → Digits (fin s m e)
 digits-of-fin s m (pos k) own small fine low =
     let below : m * 2 ^ k < 2 ^ 128 = lt-of-lt-of-le low (le-of-eq (mul-one (2 ^ 128))) in
-    let move : m * 2 ^ k * 2 ^ 149 ≡ m * 2 ^ (k + 149) = mul-assoc m (2 ^ k) (2 ^ 149) ∙ ap (λ (x : ℕ). m * x) (sym (pow-add 2 k 149)) in
+    let move : m * 2 ^ k * 2 ^ 149 ≡ m * 2 ^ (k + 149) =
+    mul-assoc m (2 ^ k) (2 ^ 149) ∙ ap (λ (x : ℕ). m * x) (sym (pow-add 2 k 149)) in
     record {
       q = m;
       j = k + 149;
@@ -36,14 +37,17 @@ digits-of-fin s m (pos k) own small fine low =
     }
 digits-of-fin s m (negsuc k) own small fine low =
     let j = 149 - suc k in
-    let split : metre ≡ 2 ^ j * 2 ^ suc k = metre-is ∙ ap (λ (x : ℕ). 2 ^ x) (sym (back 149 (suc k) (exponent-le (suc k) 149 fine))) ∙ pow-add 2 j (suc k) in
+    let split : metre ≡ 2 ^ j * 2 ^ suc k =
+    metre-is ∙ ap (λ (x : ℕ). 2 ^ x) (sym (back 149 (suc k) (exponent-le (suc k) 149 fine))) ∙ pow-add 2 j (suc k) in
     record {
       q = m;
       j = j;
       small = small;
-      high = lt-of-lt-of-le (mul-lt-mul-of-pos-right small (pow-pos j)) (le-trans (mul-le-mul-left (2 ^ 24) (pow-mono {i = j} {j = 149} (sub-le 149 (suc k)))) (lit≤ tt));
+      high = lt-of-lt-of-le (mul-lt-mul-of-pos-right small (pow-pos j))
+          (le-trans (mul-le-mul-left (2 ^ 24) (pow-mono {i = j} {j = 149} (sub-le 149 (suc k)))) (lit≤ tt));
       is = eq-of-mul-eq-mul-right (2 ^ suc k) (pow-pos (suc k)) (mag (fin s m (negsuc k))) (m * 2 ^ j)
-          (sym (has-value own .1) ∙ ap (λ (x : ℕ). x * metre) (mul-one m) ∙ ap (λ (x : ℕ). m * x) split ∙ sym (mul-assoc m (2 ^ j) (2 ^ suc k)));
+          (sym (has-value own .1) ∙ ap (λ (x : ℕ). x * metre) (mul-one m) ∙ ap (λ (x : ℕ). m * x) split ∙ sym
+          (mul-assoc m (2 ^ j) (2 ^ suc k)));
     }
   where
     sub-le : (a l : ℕ) → a - l ≤ a

@@ -22,14 +22,18 @@ pub record DotNear (z : Float) (v : Z) (k h : ℕ) : Type 0 where
   pub cap : Abs (val z) (2 * h * metre)
 
 -- two errors of e, and one of 2 e
-total : (e : ℕ) (p q z u v : Z) → Abs (metre ⊛ p ⊟ u) (e * metre) → Abs (metre ⊛ q ⊟ v) (e * metre) → Abs (z ⊟ (p ⊞ q)) (2 * e)
+total : (e : ℕ) (p q z u v : Z) → Abs (metre ⊛ p ⊟ u) (e * metre) → Abs (metre ⊛ q ⊟ v) (e * metre)
+    → Abs (z ⊟ (p ⊞ q)) (2 * e)
     → Abs (metre ⊛ z ⊟ (u ⊞ v)) (4 * e * metre)
 total e p q z u v p-near q-near z-near =
-    let over : metre * (z .0 + (p .1 + q .1)) ≤ metre * (z .1 + (p .0 + q .0) + 2 * e) = mul-le-mul-left metre (z-near .0) in
-    let under : metre * (z .1 + (p .0 + q .0)) ≤ metre * (z .0 + (p .1 + q .1) + 2 * e) = mul-le-mul-left metre (z-near .1) in
+    let over : metre * (z .0 + (p .1 + q .1)) ≤ metre * (z .1 + (p .0 + q .0) + 2 * e) =
+    mul-le-mul-left metre (z-near .0) in
+    let under : metre * (z .1 + (p .0 + q .0)) ≤ metre * (z .0 + (p .1 + q .1) + 2 * e) =
+    mul-le-mul-left metre (z-near .1) in
     omega arith
 
-module _ (k h : ℕ) {ax ay bx by : Float} (k-low : T (leb (1 + k) 127)) (h-low : T (leb h (2 ^ k))) (h-few : T (leb (2 * h) (2 ^ 24)))
+module _ (k h : ℕ) {ax ay bx by : Float} (k-low : T (leb (1 + k) 127)) (h-low : T (leb h (2 ^ k)))
+    (h-few : T (leb (2 * h) (2 ^ 24)))
     (ax-f32 : F32 ax) (ay-f32 : F32 ay) (bx-f32 : F32 bx) (by-f32 : F32 by) where
   pub products-dot-near : Abs (val ax ⊠ val bx) (h * (metre * metre)) → Abs (val ay ⊠ val by) (h * (metre * metre))
       → DotNear (dot ax ay bx by) (val ax ⊠ val bx ⊞ val ay ⊠ val by) k h
@@ -45,13 +49,16 @@ module _ (k h : ℕ) {ax ay bx by : Float} (k-low : T (leb (1 + k) 127)) (h-low 
       let P = val (mul binary32 ax bx) in
       let Q = val (mul binary32 ay by) in
       let sum-abs : Abs (P ⊞ Q) (h * metre + h * metre) = abs-sum P Q (h * metre) (h * metre) (p-cap .cap) (q-cap .cap) in
-      let z = add-near (1 + k) (h * metre + h * metre) k-low (p .own) (q .own) sum-abs (doubled (2 ^ k) (2 ^ (1 + k)) h-le (pow-add 2 1 k)) in
+      let z = add-near (1 + k) (h * metre + h * metre) k-low (p .own) (q .own) sum-abs
+      (doubled (2 ^ k) (2 ^ (1 + k)) h-le (pow-add 2 1 k)) in
       let z-cap = add-cap (2 * h) h-few (p .own) (q .own) (h * metre + h * metre) sum-abs (twice h) in
       record {
         own = z .own;
-        err = subst (λ (e : ℕ). Abs (metre ⊛ val (dot ax ay bx by) ⊟ (val ax ⊠ val bx ⊞ val ay ⊠ val by)) (e * metre)) (sym (mul-assoc 4 (2 ^ k) tick))
+        err = subst (λ (e : ℕ). Abs (metre ⊛ val (dot ax ay bx by) ⊟ (val ax ⊠ val bx ⊞ val ay ⊠ val by)) (e * metre))
+            (sym (mul-assoc 4 (2 ^ k) tick))
             (total (2 ^ k * tick) P Q (val (dot ax ay bx by)) (val ax ⊠ val bx) (val ay ⊠ val by) (p .err) (q .err)
-            (subst (λ (e : ℕ). Abs (val (dot ax ay bx by) ⊟ (P ⊞ Q)) e) (ticks (2 ^ k) (2 ^ (1 + k)) (pow-add 2 1 k)) (z .err)));
+            (subst (λ (e : ℕ). Abs (val (dot ax ay bx by) ⊟ (P ⊞ Q)) e) (ticks (2 ^ k) (2 ^ (1 + k)) (pow-add 2 1 k))
+            (z .err)));
         cap = z-cap .cap;
       }
     where
@@ -65,13 +72,15 @@ module _ (k h : ℕ) {ax ay bx by : Float} (k-low : T (leb (1 + k) 127)) (h-low 
       twice h = omega arith
 
       doubled : (p q : ℕ) → h ≤ p → q ≡ 2 * p → h * metre + h * metre ≤ q * metre
-      doubled p q l e = let m : h * metre ≤ p * metre = mul-le-mul-right metre l in let f : q * metre ≡ 2 * p * metre = ap (λ (n : ℕ). n * metre) e in omega arith
+      doubled p q l e = let m : h * metre ≤ p * metre = mul-le-mul-right metre l in let f : q * metre ≡ 2 * p * metre =
+          ap (λ (n : ℕ). n * metre) e in omega arith
 
       ticks : (p q : ℕ) → q ≡ 2 * p → q * tick ≡ 2 * (p * tick)
       ticks p q e = ap (λ (n : ℕ). n * tick) e ∙ mul-assoc 2 p tick
 
   -- components of at most m and n units
-  pub dot-near : (m n : ℕ) → Abs (val ax) m → Abs (val ay) m → Abs (val bx) n → Abs (val by) n → m * n ≤ h * (metre * metre)
+  pub dot-near : (m n : ℕ) → Abs (val ax) m → Abs (val ay) m → Abs (val bx) n → Abs (val by) n
+      → m * n ≤ h * (metre * metre)
       → DotNear (dot ax ay bx by) (val ax ⊠ val bx ⊞ val ay ⊠ val by) k h
   dot-near m n ax-abs ay-abs bx-abs by-abs mn-low =
       products-dot-near

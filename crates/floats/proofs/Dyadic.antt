@@ -38,7 +38,8 @@ rounded-dyadic q t q-low t-low =
     let split : 2 ^ 149 ≡ 2 ^ j * 2 ^ t = sym metre-is ∙ metre-split t t-low in
     elim (eq-or-lt-of-le q-low) [
       | inl top ↦
-          let same : q * 2 ^ j ≡ 1 * 2 ^ (24 + j) = ap (λ (n : ℕ). n * 2 ^ j) top ∙ sym (pow-add 2 24 j) ∙ sym (one-mul (2 ^ (24 + j))) in
+          let same : q * 2 ^ j ≡ 1 * 2 ^ (24 + j) =
+          ap (λ (n : ℕ). n * 2 ^ j) top ∙ sym (pow-add 2 24 j) ∙ sym (one-mul (2 ^ (24 + j))) in
           rounded-exact q (2 ^ t) 1 (24 + j) (pow-pos t) (lit< tt)
           (ap (λ (n : ℕ). q * n) split ∙ sym (mul-assoc q (2 ^ j) (2 ^ t)) ∙ ap (λ (n : ℕ). n * 2 ^ t) same) ∙ sym same
       | inr below ↦
@@ -64,13 +65,18 @@ dyadic-float c t t-low c-abs =
     let q-low = sized-abs c (2 ^ 24) size c-abs in
     let t-le = leb→le t 149 t-low in
     let x = round binary32 s q (2 ^ t) in
-    let rounds : Rounds x c (2 ^ t) = record { negative = s; size = q; den-pos = pow-pos t; is = refl; exact = size .is } in
+    let rounds : Rounds x c (2 ^ t) =
+    record { negative = s; size = q; den-pos = pow-pos t; is = refl; exact = size .is } in
     let is-rounded = rounded-dyadic q t q-low t-le in
     let own : F32 x = rounds-f32 rounds (subst (λ (n : ℕ). n < 2 ^ 277) (sym is-rounded) (dyadic-finite q t q-low)) in
     let x-val : val x ≡ signed s (q * 2 ^ (149 - t)) = rounds-val rounds own ∙ ap (λ (n : ℕ). signed s n) is-rounded in
     record {
       number = x;
-      dyadic = record { own = own; is = subst (λ (v : Z). 2 ^ t ⊛ v ≐ metre ⊛ c) (sym x-val) (by-sign s q (2 ^ (149 - t)) (2 ^ t) (metre-split t t-le) (size .is)) };
+      dyadic = record {
+        own = own;
+        is = subst (λ (v : Z). 2 ^ t ⊛ v ≐ metre ⊛ c) (sym x-val)
+            (by-sign s q (2 ^ (149 - t)) (2 ^ t) (metre-split t t-le) (size .is));
+      };
     }
   where
     by-sign : (s : Bool) (q p r : ℕ) → metre ≡ p * r → signed s q ≐ c → r ⊛ signed s (q * p) ≐ metre ⊛ c
@@ -100,7 +106,8 @@ sum-dyadic : {z : Float} (t : ℕ) (v d : Z) → T (leb t 149) → Abs d (2 ^ 24
     → ((r : Float) → F32 r → v ≐ val r → Is z v) → Dyadic z d t
 sum-dyadic {z} t v d t-low bound v-is exact =
     let r = dyadic-float d t t-low bound in
-    let z-is = exact (r .number) (r .dyadic .own) (same-at (2 ^ t) v (val (r .number)) (metre ⊛ d) (pow-pos t) v-is (r .dyadic .is)) in
+    let z-is = exact (r .number) (r .dyadic .own)
+    (same-at (2 ^ t) v (val (r .number)) (metre ⊛ d) (pow-pos t) v-is (r .dyadic .is)) in
     record { own = z-is .own; is = moved (2 ^ t) (val z) v (metre ⊛ d) (z-is .is) v-is }
 
 pub exact-add : {x y : Float} {c e : Z} (t : ℕ) → T (leb t 149) → Dyadic x c t → Dyadic y e t → Abs (c ⊞ e) (2 ^ 24)
@@ -112,10 +119,12 @@ exact-add {x} {y} {c} {e} t t-low x-is y-is bound =
 pub exact-sub : {x y : Float} {c e : Z} (t : ℕ) → T (leb t 149) → Dyadic x c t → Dyadic y e t → Abs (c ⊟ e) (2 ^ 24)
     → Dyadic (sub binary32 x y) (c ⊟ e) t
 exact-sub {x} {y} {c} {e} t t-low x-is y-is bound =
-    sum-dyadic t (val x ⊟ val y) (c ⊟ e) t-low bound (scaled-difference (2 ^ t) metre (val x) (val y) c e (x-is .is) (y-is .is))
+    sum-dyadic t (val x ⊟ val y) (c ⊟ e) t-low bound
+    (scaled-difference (2 ^ t) metre (val x) (val y) c e (x-is .is) (y-is .is))
     (λ r r-f32 h. sub-exact (x-is .own) (y-is .own) r-f32 h)
 
-pub exact-mul : {x y : Float} {c e : Z} (t u : ℕ) → T (leb (t + u) 149) → Dyadic x c t → Dyadic y e u → Abs (c ⊠ e) (2 ^ 24)
+pub exact-mul : {x y : Float} {c e : Z} (t u : ℕ) → T (leb (t + u) 149) → Dyadic x c t → Dyadic y e u
+    → Abs (c ⊠ e) (2 ^ 24)
     → Dyadic (mul binary32 x y) (c ⊠ e) (t + u)
 exact-mul {x} {y} {c} {e} t u low x-is y-is bound =
     let r = dyadic-float (c ⊠ e) (t + u) low bound in
@@ -124,7 +133,8 @@ exact-mul {x} {y} {c} {e} t u low x-is y-is bound =
     let product : k ⊛ (val x ⊠ val y) ≐ metre ⊛ (metre ⊛ (c ⊠ e)) =
     subst (λ (n : ℕ). n ⊛ (val x ⊠ val y) ≐ metre ⊛ (metre ⊛ (c ⊠ e))) (sym (pow-add 2 t u))
     (subst (λ (a : Z). a ≐ metre ⊛ (metre ⊛ (c ⊠ e))) (product-of-multiples (2 ^ t) (2 ^ u) (val x) (val y))
-    (subst (λ (a : Z). (2 ^ t ⊛ val x) ⊠ (2 ^ u ⊛ val y) ≐ a) (product-of-multiples metre metre c e ∙ sym (multiple-of-multiple metre metre (c ⊠ e)))
+    (subst (λ (a : Z). (2 ^ t ⊛ val x) ⊠ (2 ^ u ⊛ val y) ≐ a)
+    (product-of-multiples metre metre c e ∙ sym (multiple-of-multiple metre metre (c ⊠ e)))
     (product-same (2 ^ t ⊛ val x) (metre ⊛ c) (2 ^ u ⊛ val y) (metre ⊛ e) (x-is .is) (y-is .is)))) in
     let z = mul-exact (x-is .own) (y-is .own) (r .dyadic .own)
     (same-at k (val x ⊠ val y) (metre ⊛ v) (metre ⊛ (metre ⊛ (c ⊠ e))) (pow-pos (t + u)) product
@@ -132,39 +142,53 @@ exact-mul {x} {y} {c} {e} t u low x-is y-is bound =
     record { own = z .own; is = moved k (val (mul binary32 x y)) v (metre ⊛ (c ⊠ e)) (z .is) (r .dyadic .is) }
   where
     swapped : (k : ℕ) (v d : Z) → k ⊛ v ≐ metre ⊛ d → k ⊛ (metre ⊛ v) ≐ metre ⊛ (metre ⊛ d)
-    swapped k v d h = let m : metre * (k * v .0 + metre * d .1) ≡ metre * (metre * d .0 + k * v .1) = ap (λ (n : ℕ). metre * n) h in omega arith
+    swapped k v d h = let m : metre * (k * v .0 + metre * d .1) ≡ metre * (metre * d .0 + k * v .1) =
+        ap (λ (n : ℕ). metre * n) h in omega arith
 
 pub exact-neg : {x : Float} {c : Z} {t : ℕ} → Dyadic x c t → Dyadic (neg x) (opp c) t
-exact-neg {x} {c} {t} x-is = record { own = neg-f32 (x-is .own); is = rw val-neg (let h = x-is .is in turn (2 ^ t) (val x) h) }
+exact-neg {x} {c} {t} x-is = record {
+  own = neg-f32 (x-is .own);
+  is = rw val-neg
+      (let h = x-is .is in turn (2 ^ t) (val x) h);
+}
   where
     turn : (k : ℕ) (v : Z) → k ⊛ v ≐ metre ⊛ c → k ⊛ opp v ≐ metre ⊛ opp c
     turn k v h = omega arith
 
 -- at a finer scale
 pub dyadic-finer : {x : Float} {c : Z} {t : ℕ} (k : ℕ) → Dyadic x c t → Dyadic x (2 ^ k ⊛ c) (t + k)
-dyadic-finer {x} {c} {t} k x-is = record { own = x-is .own; is = subst (λ (n : ℕ). n ⊛ val x ≐ metre ⊛ (2 ^ k ⊛ c)) (sym (pow-add 2 t k)) (finer (2 ^ t) (2 ^ k) (val x) (x-is .is)) }
+dyadic-finer {x} {c} {t} k x-is = record {
+  own = x-is .own;
+  is = subst (λ (n : ℕ). n ⊛ val x ≐ metre ⊛ (2 ^ k ⊛ c))
+      (sym (pow-add 2 t k)) (finer (2 ^ t) (2 ^ k) (val x) (x-is .is));
+}
   where
     finer : (m n : ℕ) (v : Z) → m ⊛ v ≐ metre ⊛ c → (m * n) ⊛ v ≐ metre ⊛ (n ⊛ c)
-    finer m n v h = let e : n * (m * v .0 + metre * c .1) ≡ n * (metre * c .0 + m * v .1) = ap (λ (x : ℕ). n * x) h in omega arith
+    finer m n v h = let e : n * (m * v .0 + metre * c .1) ≡ n * (metre * c .0 + m * v .1) =
+        ap (λ (x : ℕ). n * x) h in omega arith
 
 -- ---- comparisons
 module _ {x y : Float} {c e : Z} {t : ℕ} (x-is : Dyadic x c t) (y-is : Dyadic y e t) where
   pub dyadic-lt : val x ≺ val y → c ≺ e
   dyadic-lt h =
       multiple-cancel-lt metre c e
-      (lt-resp (2 ^ t ⊛ val x) (metre ⊛ c) (2 ^ t ⊛ val y) (metre ⊛ e) (x-is .is) (y-is .is) (multiple-mono-lt (2 ^ t) (val x) (val y) (pow-pos t) h))
+      (lt-resp (2 ^ t ⊛ val x) (metre ⊛ c) (2 ^ t ⊛ val y) (metre ⊛ e) (x-is .is) (y-is .is)
+      (multiple-mono-lt (2 ^ t) (val x) (val y) (pow-pos t) h))
 
   pub dyadic-le : val x ≼ val y → c ≼ e
   dyadic-le h =
       multiple-cancel metre c e metre-pos
-      (le-resp (2 ^ t ⊛ val x) (metre ⊛ c) (2 ^ t ⊛ val y) (metre ⊛ e) (x-is .is) (y-is .is) (multiple-mono (2 ^ t) (val x) (val y) h))
+      (le-resp (2 ^ t ⊛ val x) (metre ⊛ c) (2 ^ t ⊛ val y) (metre ⊛ e) (x-is .is) (y-is .is)
+      (multiple-mono (2 ^ t) (val x) (val y) h))
 
   pub lt-dyadic : c ≺ e → val x ≺ val y
   lt-dyadic h =
       multiple-cancel-lt (2 ^ t) (val x) (val y)
-      (lt-resp (metre ⊛ c) (2 ^ t ⊛ val x) (metre ⊛ e) (2 ^ t ⊛ val y) (same-sym (2 ^ t ⊛ val x) (metre ⊛ c) (x-is .is)) (same-sym (2 ^ t ⊛ val y) (metre ⊛ e) (y-is .is)) (multiple-mono-lt metre c e metre-pos h))
+      (lt-resp (metre ⊛ c) (2 ^ t ⊛ val x) (metre ⊛ e) (2 ^ t ⊛ val y) (same-sym (2 ^ t ⊛ val x) (metre ⊛ c) (x-is .is))
+      (same-sym (2 ^ t ⊛ val y) (metre ⊛ e) (y-is .is)) (multiple-mono-lt metre c e metre-pos h))
 
   pub le-dyadic : c ≼ e → val x ≼ val y
   le-dyadic h =
       multiple-cancel (2 ^ t) (val x) (val y) (pow-pos t)
-      (le-resp (metre ⊛ c) (2 ^ t ⊛ val x) (metre ⊛ e) (2 ^ t ⊛ val y) (same-sym (2 ^ t ⊛ val x) (metre ⊛ c) (x-is .is)) (same-sym (2 ^ t ⊛ val y) (metre ⊛ e) (y-is .is)) (multiple-mono metre c e h))
+      (le-resp (metre ⊛ c) (2 ^ t ⊛ val x) (metre ⊛ e) (2 ^ t ⊛ val y) (same-sym (2 ^ t ⊛ val x) (metre ⊛ c) (x-is .is))
+      (same-sym (2 ^ t ⊛ val y) (metre ⊛ e) (y-is .is)) (multiple-mono metre c e h))

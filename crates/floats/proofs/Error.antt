@@ -21,22 +21,26 @@ in-metres : (num : ℕ) → num * 2 ^ 149 ≡ num * metre
 in-metres num = ap (λ (x : ℕ). num * x) (sym metre-is)
 
 -- half a last digit
-half-digit : (num den : ℕ) → 0 < den → Apart (2 * (rounded num den * den)) (2 * (num * metre)) (den * 2 ^ drop 24 (num * 2 ^ 149) den)
+half-digit : (num den : ℕ) → 0 < den
+    → Apart (2 * (rounded num den * den)) (2 * (num * metre)) (den * 2 ^ drop 24 (num * 2 ^ 149) den)
 half-digit num den den-pos =
-    subst (λ (n : ℕ). Apart (2 * (rounded num den * den)) (2 * n) (den * 2 ^ drop 24 (num * 2 ^ 149) den)) (in-metres num) (rounded-near num den den-pos)
+    subst (λ (n : ℕ). Apart (2 * (rounded num den * den)) (2 * n) (den * 2 ^ drop 24 (num * 2 ^ 149) den))
+    (in-metres num) (rounded-near num den den-pos)
 
 -- ---- at most 2^k m
 below-power : (num den k : ℕ) → num < 2 ^ k * den → num * 2 ^ 149 < 2 ^ (24 + (125 + k)) * den
 below-power num den k h =
     lt-of-lt-of-le (mul-lt-mul-of-pos-right h (pow-pos 149))
-    (le-of-eq (mul-right-comm (2 ^ k) den (2 ^ 149) ∙ ap (λ (x : ℕ). x * den) (sym (pow-add 2 k 149) ∙ ap (λ (x : ℕ). 2 ^ x) (sum k))))
+    (le-of-eq (mul-right-comm (2 ^ k) den (2 ^ 149) ∙ ap (λ (x : ℕ). x * den)
+    (sym (pow-add 2 k 149) ∙ ap (λ (x : ℕ). 2 ^ x) (sum k))))
   where
     sum : (k : ℕ) → k + 149 ≡ 24 + (125 + k)
     sum k = omega arith
 
 pub rounded-at-power : (num den k : ℕ) → 0 < den → num ≡ 2 ^ k * den → rounded num den ≡ 2 ^ k * metre
 rounded-at-power num den k den-pos e =
-    rounded-exact num den 1 (k + 149) den-pos (lit< tt) (ap (λ (x : ℕ). x * 2 ^ 149) e ∙ move (2 ^ k) (2 ^ 149) (2 ^ (k + 149)) (pow-add 2 k 149))
+    rounded-exact num den 1 (k + 149) den-pos (lit< tt)
+    (ap (λ (x : ℕ). x * 2 ^ 149) e ∙ move (2 ^ k) (2 ^ 149) (2 ^ (k + 149)) (pow-add 2 k 149))
     ∙ back (2 ^ k) (2 ^ (k + 149)) (pow-add 2 k 149 ∙ ap (λ (x : ℕ). 2 ^ k * x) (sym metre-is))
   where
     move : (p m q : ℕ) → q ≡ p * m → p * den * m ≡ 1 * q * den
@@ -47,7 +51,8 @@ rounded-at-power num den k den-pos e =
 
 pub rounded-low : (num den k : ℕ) → 0 < den → k ≤ 127 → num ≤ 2 ^ k * den → rounded num den < 2 ^ 277
 rounded-low num den k den-pos k-low h = elim (eq-or-lt-of-le h) [
-  | inl at ↦ rw (rounded-at-power num den k den-pos at) (rw metre-is (subst (λ (x : ℕ). x < 2 ^ 277) (pow-add 2 k 149) (pow-lt (room k k-low))))
+  | inl at ↦ rw (rounded-at-power num den k den-pos at)
+      (rw metre-is (subst (λ (x : ℕ). x < 2 ^ 277) (pow-add 2 k 149) (pow-lt (room k k-low))))
   | inr lt ↦ rounded-high num den (125 + k) den-pos (below-power num den k lt) (room' k k-low)
 ]
   where
@@ -65,7 +70,8 @@ two-ticks k = pow-add 2 125 k ∙ double (2 ^ 124) (2 ^ k) (2 ^ 125) refl
     double : (t p d : ℕ) → d ≡ 2 * t → d * p ≡ 2 * (p * t)
     double t p d h = rw h (omega arith)
 
-pub rounded-absolute : (num den k : ℕ) → 0 < den → num ≤ 2 ^ k * den → Apart (rounded num den * den) (num * metre) (2 ^ k * tick * den)
+pub rounded-absolute : (num den k : ℕ) → 0 < den → num ≤ 2 ^ k * den
+    → Apart (rounded num den * den) (num * metre) (2 ^ k * tick * den)
 rounded-absolute num den k den-pos h = elim (eq-or-lt-of-le h) [
   | inl at ↦ level (rounded num den) (2 ^ k) (rounded-at-power num den k den-pos at) at
   | inr lt ↦
@@ -102,7 +108,8 @@ rounded-mixed num den den-pos =
     let d = den * 2 ^ drop 24 (num * 2 ^ 149) den in
     scaled (rounded num den * den) (num * metre) d (num * metre + 2 ^ 23 * den) (half-digit num den den-pos)
     (elim (digit-small num den den-pos) [
-      | inl none ↦ le-trans (le-of-eq (one-unit den (drop 24 (num * 2 ^ 149) den) none)) (le-right (num * metre) (2 ^ 23 * den))
+      | inl none ↦ le-trans (le-of-eq (one-unit den (drop 24 (num * 2 ^ 149) den) none))
+          (le-right (num * metre) (2 ^ 23 * den))
       | inr small ↦ le-trans small (le-trans (le-of-eq (in-metres num)) (le-left (num * metre) (2 ^ 23 * den)))
     ])
 

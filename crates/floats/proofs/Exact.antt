@@ -23,7 +23,11 @@ rounds-exact {z} {r} {num} {den} rounds r-f32 e =
     let below = le-of-same (metre ⊛ num) (den ⊛ val r) e in
     let above = le-of-same (den ⊛ val r) (metre ⊛ num) (same-sym (metre ⊛ num) (den ⊛ val r) e) in
     let own = rounds-finite rounds r-f32 r-f32 above below in
-    record { own = own; is = le-antisym (val z) (val r) (rounds-below rounds r-f32 own below) (rounds-above rounds r-f32 own above) }
+    record {
+      own = own;
+      is = le-antisym (val z) (val r) (rounds-below rounds r-f32 own below)
+          (rounds-above rounds r-f32 own above);
+    }
 
 -- ---- the operations
 sum-exact : {z r : Float} {v : Z} → Rounds z v metre → F32 r → v ≐ val r → Is z v
@@ -41,10 +45,12 @@ module _ {x y r : Float} (x-f32 : F32 x) (y-f32 : F32 y) (r-f32 : F32 r) where
   pub mul-exact : val x ⊠ val y ≐ metre ⊛ val r → Is (mul binary32 x y) (val r)
   mul-exact e =
       rounds-exact (mul-rounds x-f32 y-f32) r-f32
-      (subst (λ (u : Z). metre ⊛ (val x ⊠ val y) ≐ u) (multiple-of-multiple metre metre (val r)) (multiple-same metre (val x ⊠ val y) (metre ⊛ val r) e))
+      (subst (λ (u : Z). metre ⊛ (val x ⊠ val y) ≐ u) (multiple-of-multiple metre metre (val r))
+      (multiple-same metre (val x ⊠ val y) (metre ⊛ val r) e))
 
   pub div-exact : 0 < mag y → metre ⊛ val x ≐ val r ⊠ val y → Is (div binary32 x y) (val r)
-  div-exact y-pos e = rounds-exact (div-rounds x-f32 y-f32 y-pos) r-f32 (by-sign (sign y) (mag y) (rw (val-signed y) at e))
+  div-exact y-pos e = rounds-exact (div-rounds x-f32 y-f32 y-pos) r-f32
+      (by-sign (sign y) (mag y) (rw (val-signed y) at e))
     where
       by-sign : (s : Bool) (n : ℕ) → metre ⊛ val x ≐ val r ⊠ signed s n → metre ⊛ turned s (val x) ≐ n ⊛ val r
       by-sign true n e = omega arith

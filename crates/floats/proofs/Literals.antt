@@ -34,7 +34,8 @@ unfolding ofFields
 fields-value s zero t h = subst (λ (n : ℕ). HasValue (odd 24 s t 0 149) s n (2 ^ 149)) (mul-one t) (odd-sign 24 s t 0 149)
 fields-value s (suc x) t h = by-test (eqb (suc x) 255) (eqb→eq (suc x) 255)
   where
-    by-test : (b : Bool) → (T b → suc x ≡ 255) → HasValue (cond b (cond (eqb t 0) (inf s) nan) (odd 24 s (2 ^ 23 + t) x 149)) s ((2 ^ 23 + t) * 2 ^ x) (2 ^ 149)
+    by-test : (b : Bool) → (T b → suc x ≡ 255)
+        → HasValue (cond b (cond (eqb t 0) (inf s) nan) (odd 24 s (2 ^ 23 + t) x 149)) s ((2 ^ 23 + t) * 2 ^ x) (2 ^ 149)
     by-test true top = absurd (lt-irrefl 255 (subst (λ (n : ℕ). n < 255) (top tt) h))
     by-test false top = odd-sign 24 s (2 ^ 23 + t) x 149
 
@@ -52,7 +53,8 @@ pub bits-mag : (b : ℕ) → T (ltb (bits-field b) 255) → mag (ofBits binary32
 bits-mag b h = mag-of-value (ofBits binary32 b) (bits-sign b) (bits-units b) (bits-value b h)
 
 -- the literal m / 2^t; the two tests compute
-pub bits-dyadic : (b m t : ℕ) → T (ltb (bits-field b) 255) → T (eqb (2 ^ t * bits-units b) (2 ^ 149 * m)) → Dyadic (ofBits binary32 b) (signed (bits-sign b) m) t
+pub bits-dyadic : (b m t : ℕ) → T (ltb (bits-field b) 255) → T (eqb (2 ^ t * bits-units b) (2 ^ 149 * m))
+    → Dyadic (ofBits binary32 b) (signed (bits-sign b) m) t
 bits-dyadic b m t finite is = record {
   own = bits-f32 b finite;
   is = rw (bits-val b finite) (by-sign (bits-sign b) (2 ^ t) (bits-units b)

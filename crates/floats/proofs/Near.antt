@@ -29,11 +29,13 @@ pub record NearQuotient (z x y : Float) (e : ℕ) : Type 0 where
   pub err : Abs (val z ⊠ val y ⊟ metre ⊛ val x) (e * mag y)
 
 -- ---- one rounding
-pub rounds-near-f32 : (k n : ℕ) {z : Float} {num : Z} {den : ℕ} → T (leb k 127) → Rounds z num den → Abs num n → n ≤ 2 ^ k * den → F32 z
+pub rounds-near-f32 : (k n : ℕ) {z : Float} {num : Z} {den : ℕ} → T (leb k 127) → Rounds z num den → Abs num n
+    → n ≤ 2 ^ k * den → F32 z
 rounds-near-f32 k n {den = den} k-low r num-abs n-low =
     rounds-f32 r (rounded-low (r .size) den k (r .den-pos) (leb→le k 127 k-low) (le-trans (size-le r n num-abs) n-low))
 
-pub rounds-near : (k n : ℕ) {z : Float} {num : Z} {den : ℕ} → T (leb k 127) → Rounds z num den → Abs num n → n ≤ 2 ^ k * den
+pub rounds-near : (k n : ℕ) {z : Float} {num : Z} {den : ℕ} → T (leb k 127) → Rounds z num den → Abs num n
+    → n ≤ 2 ^ k * den
     → Abs (1 ⊛ (den ⊛ val z ⊟ metre ⊛ num)) (2 ^ k * tick * den)
 rounds-near k n {den = den} k-low r num-abs n-low =
     let h = rounded-absolute (r .size) den k (r .den-pos) (le-trans (size-le r n num-abs) n-low) in
@@ -43,7 +45,8 @@ once : (a : Z) (e : ℕ) → Abs (1 ⊛ a) e → Abs a e
 once a e h = omega arith
 
 -- ---- the operations
-sum-near : (k n : ℕ) {z : Float} {v : Z} → T (leb k 127) → Rounds z v metre → Abs v n → n ≤ 2 ^ k * metre → Near z v (2 ^ k * tick)
+sum-near : (k n : ℕ) {z : Float} {v : Z} → T (leb k 127) → Rounds z v metre → Abs v n → n ≤ 2 ^ k * metre
+    → Near z v (2 ^ k * tick)
 sum-near k n {z} {v} k-low r v-abs n-low = record {
   own = rounds-near-f32 k n k-low r v-abs n-low;
   err = once (val z ⊟ v) (2 ^ k * tick) (sum-error 1 (2 ^ k * tick) (val z) v (rounds-near k n k-low r v-abs n-low));
@@ -57,7 +60,8 @@ pub sub-near : (k n : ℕ) {x y : Float} → T (leb k 127) → F32 x → F32 y �
     → Near (sub binary32 x y) (val x ⊟ val y) (2 ^ k * tick)
 sub-near k n k-low x-f32 y-f32 = sum-near k n k-low (sub-rounds x-f32 y-f32)
 
-pub product-near : (k n : ℕ) {x y : Float} → T (leb k 127) → F32 x → F32 y → Abs (val x ⊠ val y) n → n ≤ 2 ^ k * (metre * metre)
+pub product-near : (k n : ℕ) {x y : Float} → T (leb k 127) → F32 x → F32 y → Abs (val x ⊠ val y) n
+    → n ≤ 2 ^ k * (metre * metre)
     → NearProduct (mul binary32 x y) (val x ⊠ val y) (2 ^ k * tick)
 product-near k n {x} {y} k-low x-f32 y-f32 v-abs n-low =
     let r = mul-rounds x-f32 y-f32 in
@@ -70,9 +74,11 @@ product-near k n {x} {y} k-low x-f32 y-f32 v-abs n-low =
     }
 
 -- |x| ≤ m and |y| ≤ n, both in units
-pub mul-near : (k m n : ℕ) {x y : Float} → T (leb k 127) → F32 x → F32 y → Abs (val x) m → Abs (val y) n → m * n ≤ 2 ^ k * (metre * metre)
+pub mul-near : (k m n : ℕ) {x y : Float} → T (leb k 127) → F32 x → F32 y → Abs (val x) m → Abs (val y) n
+    → m * n ≤ 2 ^ k * (metre * metre)
     → NearProduct (mul binary32 x y) (val x ⊠ val y) (2 ^ k * tick)
-mul-near k m n {x} {y} k-low x-f32 y-f32 x-abs y-abs = product-near k (m * n) k-low x-f32 y-f32 (abs-product (val x) (val y) m n x-abs y-abs)
+mul-near k m n {x} {y} k-low x-f32 y-f32 x-abs y-abs =
+    product-near k (m * n) k-low x-f32 y-f32 (abs-product (val x) (val y) m n x-abs y-abs)
 
 -- |x| ≤ 2^k |y|
 pub div-near : (k : ℕ) {x y : Float} → T (leb k 127) → F32 x → F32 y → 0 < mag y → mag x ≤ 2 ^ k * mag y
@@ -92,4 +98,5 @@ pub near-size : {z : Float} {v : Z} {e : ℕ} (n : ℕ) → Near z v e → Abs v
 near-size n z-near v-abs = let h = z-near .err in omega arith
 
 pub near-product-size : {z : Float} {v : Z} {e : ℕ} (n : ℕ) → NearProduct z v e → Abs v (n * metre) → Abs (val z) (n + e)
-near-product-size {z} {v} {e} n z-near v-abs = abs-unscale metre (n + e) (val z) metre-pos (let h = z-near .err in omega arith)
+near-product-size {z} {v} {e} n z-near v-abs =
+    abs-unscale metre (n + e) (val z) metre-pos (let h = z-near .err in omega arith)

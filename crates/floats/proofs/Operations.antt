@@ -26,7 +26,8 @@ pub record Rounds (z : Float) (num : Z) (den : ℕ) : Type 0 where
 -- ---- sum and difference: a / c and b / c are m and n units
 module _ (a b c m n : ℕ) (a-is : a * metre ≡ m * c) (b-is : b * metre ≡ n * c) where
   units-le : 0 < c → a ≤ b → m ≤ n
-  units-le c-pos h = le-of-mul-le-mul-right (le-trans (le-of-eq (sym a-is)) (le-trans (mul-le-mul-right metre h) (le-of-eq b-is))) c-pos
+  units-le c-pos h = le-of-mul-le-mul-right
+      (le-trans (le-of-eq (sym a-is)) (le-trans (mul-le-mul-right metre h) (le-of-eq b-is))) c-pos
 
   units-sum : (a + b) * metre ≡ (m + n) * c
   units-sum = omega arith
@@ -36,14 +37,17 @@ module _ (a b c m n : ℕ) (a-is : a * metre ≡ m * c) (b-is : b * metre ≡ n 
       mul-comm (b - a) metre ∙ mul-sub metre b a ∙ ap (λ (x : ℕ). x - metre * a) (mul-comm metre b ∙ b-is ∙ mul-comm n c)
       ∙ ap (λ (x : ℕ). c * n - x) (mul-comm metre a ∙ a-is ∙ mul-comm m c) ∙ sym (mul-sub c n m) ∙ mul-comm c (n - m)
 
-over-metre : (s : Bool) (w c size : ℕ) {num : Z} → 0 < c → w * metre ≡ size * c → signed s size ≐ num → Rounds (round binary32 s w c) num metre
+over-metre : (s : Bool) (w c size : ℕ) {num : Z} → 0 < c → w * metre ≡ size * c → signed s size ≐ num
+    → Rounds (round binary32 s w c) num metre
 over-metre s w c size c-pos e exact =
     record { negative = s; size = size; den-pos = metre-pos; is = round-same binary32 s w c size metre c-pos metre-pos e; exact = exact }
 
 -- signs that differ: the larger decides; less and more say whether a < b and b < a
-opposite-rounds : (s : Bool) (a b c m n : ℕ) (less more : Bool) → (T less → a < b) → (T (not less) → b ≤ a) → (T (not more) → a ≤ b)
+opposite-rounds : (s : Bool) (a b c m n : ℕ) (less more : Bool) → (T less → a < b) → (T (not less) → b ≤ a)
+    → (T (not more) → a ≤ b)
     → a * metre ≡ m * c → b * metre ≡ n * c → 0 < c
-    → Rounds (cond less (round binary32 (not s) (b - a) c) (round binary32 (s && more) (a - b) c)) (signed s m ⊞ signed (not s) n) metre
+    → Rounds (cond less (round binary32 (not s) (b - a) c) (round binary32 (s && more) (a - b) c))
+    (signed s m ⊞ signed (not s) n) metre
 opposite-rounds true a b c m n true more is-less not-less not-more a-is b-is c-pos =
     let le = units-le a b c m n a-is b-is c-pos (le-of-lt (is-less tt)) in
     over-metre false (b - a) c (n - m) c-pos (units-difference a b c m n a-is b-is) (omega arith)
@@ -84,7 +88,8 @@ add-rounds x-f32 y-f32 = of-fins (f32-as-fin x-f32) (f32-as-fin y-f32)
     of-fins (as-fin s m e x-is) (as-fin t n d y-is) =
         sum-rounds s (m * up e * down d) t (n * up d * down e) (down e * down d) (mag (fin s m e)) (mag (fin t n d))
         (widen (m * up e) (down e) (down d) (mag (fin s m e)) x-is)
-        (widen (n * up d) (down d) (down e) (mag (fin t n d)) y-is ∙ ap (λ (x : ℕ). mag (fin t n d) * x) (mul-comm (down d) (down e)))
+        (widen (n * up d) (down d) (down e) (mag (fin t n d)) y-is ∙ ap (λ (x : ℕ). mag (fin t n d) * x)
+        (mul-comm (down d) (down e)))
         (mul-pos (down-pos e) (down-pos d))
 
 pub sub-rounds : {x y : Float} → F32 x → F32 y → Rounds (sub binary32 x y) (val x ⊟ val y) metre
@@ -111,7 +116,8 @@ mul-rounds x-f32 y-f32 = of-fins (f32-as-fin x-f32) (f32-as-fin y-f32)
       negative = unlike s t;
       size = mag (fin s m e) * mag (fin t n d);
       den-pos = mul-pos metre-pos metre-pos;
-      is = round-same binary32 (unlike s t) (m * up e * (n * up d)) (down e * down d) (mag (fin s m e) * mag (fin t n d)) (metre * metre)
+      is = round-same binary32 (unlike s t) (m * up e * (n * up d)) (down e * down d) (mag (fin s m e) * mag (fin t n d))
+          (metre * metre)
           (mul-pos (down-pos e) (down-pos d)) (mul-pos metre-pos metre-pos)
           (square (m * up e) (n * up d) (down e) (down d) (mag (fin s m e)) (mag (fin t n d)) x-is y-is);
       exact = signed-product s t (mag (fin s m e)) (mag (fin t n d));
@@ -142,7 +148,8 @@ quotient-fraction a b c d m n h k =
     omega arith)
 
 digits-pos : (n : ℕ) (d : ℤ) (g : ℕ) → n * up d * metre ≡ g * down d → 0 < g → 0 < n
-digits-pos zero d g h g-pos = absurd (none (g * down d) (mul-pos g-pos (down-pos d)) (sym h ∙ (rw (zero-mul, zero-mul) refl)))
+digits-pos zero d g h g-pos = absurd (none (g * down d) (mul-pos g-pos (down-pos d))
+    (sym h ∙ (rw (zero-mul, zero-mul) refl)))
   where
     none : (k : ℕ) → 0 < k → k ≡ 0 → ⊥
     none k p e = omega arith
@@ -163,8 +170,10 @@ div-rounds x-f32 y-f32 y-pos = of-fins (f32-as-fin x-f32) (f32-as-fin y-f32) y-p
           negative = unlike s t;
           size = mag (fin s m e);
           den-pos = y-pos;
-          is = not-zero n n-pos (cond (eqb m 0) nan (inf (unlike s t))) (round binary32 (unlike s t) (m * up e * down d) (n * up d * down e))
-              ∙ round-same binary32 (unlike s t) (m * up e * down d) (n * up d * down e) (mag (fin s m e)) (mag (fin t n d))
+          is = not-zero n n-pos (cond (eqb m 0) nan (inf (unlike s t)))
+              (round binary32 (unlike s t) (m * up e * down d) (n * up d * down e))
+              ∙ round-same binary32 (unlike s t) (m * up e * down d) (n * up d * down e) (mag (fin s m e))
+              (mag (fin t n d))
               (mul-pos (mul-pos n-pos (up-pos d)) (down-pos e)) y-pos
               (quotient-fraction (m * up e) (n * up d) (down e) (down d) (mag (fin s m e)) (mag (fin t n d)) x-is y-is);
           exact = signed-quotient s t (mag (fin s m e));

@@ -39,12 +39,14 @@ rounded-mono a b c d b-pos d-pos h high =
     elim (decLe (2 ^ 277) (rounded a b)) [
       | yes over ↦ absurd
           (infinity-not-le (f32-as-fin right) (subst (λ (x : Float). T (le x (round binary32 false c d)))
-          (round-is binary32 false a b ∙ units-infinite (kept 24 (a * 2 ^ 149) b) (drop 24 (a * 2 ^ 149) b) over) le-rounds))
+          (round-is binary32 false a b ∙ units-infinite (kept 24 (a * 2 ^ 149) b)
+          (drop 24 (a * 2 ^ 149) b) over) le-rounds))
       | no not-over ↦
           let low = lt-of-not-le not-over in
           positive (rounded a b) (rounded c d) (val (round binary32 false a b)) (val (round binary32 false c d))
           (val-of-value (round binary32 false a b) false (rounded a b) (round-value false a b low))
-          (val-of-value (round binary32 false c d) false (rounded c d) (round-value false c d high)) (le-val (round-f32 false a b low) right le-rounds)
+          (val-of-value (round binary32 false c d) false (rounded c d) (round-value false c d high))
+          (le-val (round-f32 false a b low) right le-rounds)
     ]
   where
     positive : (g h : ℕ) (v w : Z) → v ≡ signed false g → w ≡ signed false h → v ≼ w → g ≤ h
@@ -56,8 +58,10 @@ rounded-zero den den-pos = rounded-exact 0 den 0 0 den-pos (lit< tt) (sym (zero-
 -- ---- one rounding: num / den ≤ num' / den'
 signed-mono : (s t : Bool) (w d w' d' : ℕ) → 0 < d → 0 < d' → rounded w d < 2 ^ 277 → rounded w' d' < 2 ^ 277
     → d' ⊛ signed s w ≼ d ⊛ signed t w' → signed s (rounded w d) ≼ signed t (rounded w' d')
-signed-mono false false w d w' d' d-pos d'-pos low low' h = let l = rounded-mono w d w' d' d-pos d'-pos (omega arith) low' in omega arith
-signed-mono true true w d w' d' d-pos d'-pos low low' h = let l = rounded-mono w' d' w d d'-pos d-pos (omega arith) low in omega arith
+signed-mono false false w d w' d' d-pos d'-pos low low' h = let l =
+    rounded-mono w d w' d' d-pos d'-pos (omega arith) low' in omega arith
+signed-mono true true w d w' d' d-pos d'-pos low low' h = let l =
+    rounded-mono w' d' w d d'-pos d-pos (omega arith) low in omega arith
 signed-mono true false w d w' d' d-pos d'-pos low low' h = omega arith
 signed-mono false true w d w' d' d-pos d'-pos low low' h =
     let w-zero : w ≡ 0 = eq-of-mul-eq-mul-right d' d'-pos w 0 (omega arith) in
@@ -72,7 +76,8 @@ module _ {z z' : Float} {num num' : Z} {den den' : ℕ} (r : Rounds z num den) (
       let v = signed (r .negative) (r .size) in
       let v' = signed (r' .negative) (r' .size) in
       rw (rounds-val r z-f32, rounds-val r' z'-f32)
-      (signed-mono (r .negative) (r' .negative) (r .size) den (r' .size) den' (r .den-pos) (r' .den-pos) (f32-rounded r z-f32) (f32-rounded r' z'-f32)
+      (signed-mono (r .negative) (r' .negative) (r .size) den (r' .size) den' (r .den-pos) (r' .den-pos)
+      (f32-rounded r z-f32) (f32-rounded r' z'-f32)
       (le-resp (den' ⊛ num) (den' ⊛ v) (den ⊛ num') (den ⊛ v') (multiple-same den' num v (same-sym v num (r .exact)))
       (multiple-same den num' v' (same-sym v' num' (r' .exact))) h))
 
@@ -81,17 +86,20 @@ module _ {x y x' y' : Float} (x-f32 : F32 x) (y-f32 : F32 y) (x'-f32 : F32 x') (
   pub add-mono : F32 (add binary32 x y) → F32 (add binary32 x' y') → val x ⊞ val y ≼ val x' ⊞ val y'
       → val (add binary32 x y) ≼ val (add binary32 x' y')
   add-mono own own' h =
-      rounds-mono (add-rounds x-f32 y-f32) (add-rounds x'-f32 y'-f32) own own' (multiple-mono metre (val x ⊞ val y) (val x' ⊞ val y') h)
+      rounds-mono (add-rounds x-f32 y-f32) (add-rounds x'-f32 y'-f32) own own'
+      (multiple-mono metre (val x ⊞ val y) (val x' ⊞ val y') h)
 
   pub sub-mono : F32 (sub binary32 x y) → F32 (sub binary32 x' y') → val x ⊟ val y ≼ val x' ⊟ val y'
       → val (sub binary32 x y) ≼ val (sub binary32 x' y')
   sub-mono own own' h =
-      rounds-mono (sub-rounds x-f32 y-f32) (sub-rounds x'-f32 y'-f32) own own' (multiple-mono metre (val x ⊟ val y) (val x' ⊟ val y') h)
+      rounds-mono (sub-rounds x-f32 y-f32) (sub-rounds x'-f32 y'-f32) own own'
+      (multiple-mono metre (val x ⊟ val y) (val x' ⊟ val y') h)
 
   pub mul-mono : F32 (mul binary32 x y) → F32 (mul binary32 x' y') → val x ⊠ val y ≼ val x' ⊠ val y'
       → val (mul binary32 x y) ≼ val (mul binary32 x' y')
   mul-mono own own' h =
-      rounds-mono (mul-rounds x-f32 y-f32) (mul-rounds x'-f32 y'-f32) own own' (multiple-mono (metre * metre) (val x ⊠ val y) (val x' ⊠ val y') h)
+      rounds-mono (mul-rounds x-f32 y-f32) (mul-rounds x'-f32 y'-f32) own own'
+      (multiple-mono (metre * metre) (val x ⊠ val y) (val x' ⊠ val y') h)
 
   -- x / y ≤ x' / y', for divisors above 0
   pub div-mono : F32 (div binary32 x y) → F32 (div binary32 x' y') → whole 0 ≺ val y → whole 0 ≺ val y'

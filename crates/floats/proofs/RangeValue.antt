@@ -50,9 +50,11 @@ within-value {limit} {x} limit-f32 x-fits h =
     between v l n low high size = omega arith
 
 -- for a limit that is not negative
-pub value-within : {limit x : Float} → F32 limit → val limit ≡ whole (mag limit) → F32 x → Abs (val x) (mag limit) → T (within limit x)
+pub value-within : {limit x : Float} → F32 limit → val limit ≡ whole (mag limit) → F32 x → Abs (val x) (mag limit)
+    → T (within limit x)
 value-within {limit} {x} limit-f32 limit-is x-f32 x-abs =
-    and-i (le (neg limit) x) (le x limit) (val-le (neg-f32 limit-f32) x-f32 (rw (val-neg limit, limit-is) (low (val x) x-abs)))
+    and-i (le (neg limit) x) (le x limit) (val-le (neg-f32 limit-f32) x-f32
+    (rw (val-neg limit, limit-is) (low (val x) x-abs)))
     (val-le x-f32 limit-f32 (rw limit-is (high (val x) x-abs)))
   where
     low : (v : Z) → Abs v (mag limit) → opp (whole (mag limit)) ≼ v
@@ -67,11 +69,13 @@ pub record Limit (limit : Float) (h : ℕ) : Type 0 where
   pub size : mag limit ≡ h * metre
   pub is : val limit ≡ whole (mag limit)
 
-limit-of-bits : (b h : ℕ) → T (ltb (bits-field b) 255) → T (eqb (bits-units b) (h * 2 ^ 149)) → T (not (bits-sign b)) → Limit (ofBits binary32 b) h
+limit-of-bits : (b h : ℕ) → T (ltb (bits-field b) 255) → T (eqb (bits-units b) (h * 2 ^ 149)) → T (not (bits-sign b))
+    → Limit (ofBits binary32 b) h
 limit-of-bits b h low units plus = record {
   own = bits-f32 b low;
   size = bits-mag b low ∙ eqb→eq (bits-units b) (h * 2 ^ 149) units ∙ ap (λ (m : ℕ). h * m) (sym metre-is);
-  is = bits-val b low ∙ ap (λ (s : Bool). signed s (bits-units b)) (is-false (bits-sign b) plus) ∙ ap whole (sym (bits-mag b low));
+  is = bits-val b low ∙ ap (λ (s : Bool). signed s (bits-units b)) (is-false (bits-sign b) plus) ∙ ap whole
+      (sym (bits-mag b low));
 }
 
 pub normal-limit-is : Limit normal-limit 2
@@ -87,7 +91,8 @@ pub contact-limit-is : Limit contact-limit (2 ^ 30)
 contact-limit-is = limit-of-bits 0x4e80_0000 (2 ^ 30) tt tt tt
 
 -- within h metres, and back
-pub limit-value : {limit x : Float} {h : ℕ} → Limit limit h → T (fits binary32 x) → T (within limit x) → Bounded x (h * metre)
+pub limit-value : {limit x : Float} {h : ℕ} → Limit limit h → T (fits binary32 x) → T (within limit x)
+    → Bounded x (h * metre)
 limit-value l x-fits h = let v = within-value (l .own) x-fits h in record { own = v .own; abs = rw (← l .size) (v .abs) }
 
 pub value-limit : {limit x : Float} {h : ℕ} → Limit limit h → F32 x → Abs (val x) (h * metre) → T (within limit x)
@@ -113,4 +118,9 @@ radius-value {r} r-fits h =
     let at-least = and-l (le zero32 r) (le r shape-limit) h in
     let at-most = and-r (le zero32 r) (le r shape-limit) h in
     let own : F32 r = record { in-format = r-fits; is-finite = radius-finite r (f32-as-fin (l .own)) at-least at-most } in
-    record { own = own; low = rw zero-val at (le-val zero-f32 own at-least); high = rw (l .is ∙ ap whole (l .size)) at (le-val own (l .own) at-most) }
+    record {
+      own = own;
+      low = rw zero-val at (le-val zero-f32 own at-least);
+      high = rw (l .is ∙ ap whole (l .size)) at
+          (le-val own (l .own) at-most);
+    }

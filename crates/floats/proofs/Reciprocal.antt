@@ -31,7 +31,8 @@ above-zero : (p l : ℕ) → metre ≤ p * l → 0 < l
 above-zero p zero h = absurd (let m = metre-pos in omega arith)
 above-zero p (suc l) h = zero-lt-suc l
 
-pub reciprocal : {l : Float} → F32 l → metre ≤ 2 ^ 127 * mag l → mag l ≤ 2 ^ 126 * metre → Reciprocal (div binary32 one32 l) l
+pub reciprocal : {l : Float} → F32 l → metre ≤ 2 ^ 127 * mag l → mag l ≤ 2 ^ 126 * metre
+    → Reciprocal (div binary32 one32 l) l
 reciprocal {l} l-f32 low high =
     let i = div binary32 one32 l in
     let l-pos = above-zero (2 ^ 127) (mag l) low in
@@ -40,12 +41,19 @@ reciprocal {l} l-f32 low high =
     let err : Abs (val i ⊠ val l ⊟ whole (metre * metre)) (2 * tick * metre) =
     abs-unscale (2 ^ 24) (2 * tick * metre) (val i ⊠ val l ⊟ whole (metre * metre)) (lit< tt)
     (in-ticks (val i ⊠ val l) (rw (one-val, one-mag) at relative)) in
-    record { own = own; err = err; size = by-signs (sign i) (sign l) (mag i) (mag l) (2 * tick * metre) (rw (val-signed i, val-signed l) at err) }
+    record {
+      own = own;
+      err = err;
+      size = by-signs (sign i) (sign l) (mag i) (mag l) (2 * tick * metre)
+          (rw (val-signed i, val-signed l) at err);
+    }
   where
-    in-ticks : (v : Z) → Abs (2 ^ 24 ⊛ (v ⊟ metre ⊛ whole metre)) (metre * metre) → Abs (2 ^ 24 ⊛ (v ⊟ whole (metre * metre))) (2 ^ 24 * (2 * tick * metre))
+    in-ticks : (v : Z) → Abs (2 ^ 24 ⊛ (v ⊟ metre ⊛ whole metre)) (metre * metre)
+        → Abs (2 ^ 24 ⊛ (v ⊟ whole (metre * metre))) (2 ^ 24 * (2 * tick * metre))
     in-ticks v h = let e : metre * metre ≡ 2 ^ 25 * tick * metre = ap (λ (n : ℕ). n * metre) metre-ticks in omega arith
 
-    by-signs : (s t : Bool) (m n e : ℕ) → Abs (signed s m ⊠ signed t n ⊟ whole (metre * metre)) e → m * n ≤ metre * metre + e
+    by-signs : (s t : Bool) (m n e : ℕ) → Abs (signed s m ⊠ signed t n ⊟ whole (metre * metre)) e
+        → m * n ≤ metre * metre + e
     by-signs true true m n e h = omega arith
     by-signs true false m n e h = omega arith
     by-signs false true m n e h = omega arith

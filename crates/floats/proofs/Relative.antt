@@ -22,7 +22,8 @@ sum-apart : (w : ℕ) → Apart (2 ^ 24 * (rounded w metre * metre)) (2 ^ 24 * (
 sum-apart w = elim (decLe (2 ^ 23) w) [
   | yes normal ↦ rounded-relative w metre metre-pos (mul-le-mul-right metre normal)
   | no small ↦
-      let e : rounded w metre ≡ w * 2 ^ 0 = rounded-exact w metre w 0 metre-pos (lt-trans (lt-of-not-le small) (lit< tt)) (units w) in
+      let e : rounded w metre ≡ w * 2 ^ 0 =
+      rounded-exact w metre w 0 metre-pos (lt-trans (lt-of-not-le small) (lit< tt)) (units w) in
       same (rounded w metre) (e ∙ mul-one w)
 ]
   where
@@ -35,16 +36,19 @@ sum-apart w = elim (decLe (2 ^ 23) w) [
 sum-relative : {z : Float} {v : Z} (n : ℕ) → Rounds z v metre → F32 z → Abs v n → Abs (2 ^ 24 ⊛ (val z ⊟ v)) n
 sum-relative {z} {v} n r z-f32 v-abs =
     abs-widen (2 ^ 24 ⊛ (val z ⊟ v)) (r .size) n
-    (sum-error (2 ^ 24) (r .size) (val z) v (rounds-error r z-f32 (2 ^ 24) (r .size * metre) (sum-apart (r .size)))) (size-le r n v-abs)
+    (sum-error (2 ^ 24) (r .size) (val z) v (rounds-error r z-f32 (2 ^ 24) (r .size * metre) (sum-apart (r .size))))
+    (size-le r n v-abs)
 
 square-pos : 0 < metre * metre
 square-pos = mul-pos metre-pos metre-pos
 
 module _ {x y : Float} (x-f32 : F32 x) (y-f32 : F32 y) where
-  pub add-relative : (n : ℕ) → F32 (add binary32 x y) → Abs (val x ⊞ val y) n → Abs (2 ^ 24 ⊛ (val (add binary32 x y) ⊟ (val x ⊞ val y))) n
+  pub add-relative : (n : ℕ) → F32 (add binary32 x y) → Abs (val x ⊞ val y) n
+      → Abs (2 ^ 24 ⊛ (val (add binary32 x y) ⊟ (val x ⊞ val y))) n
   add-relative n own h = sum-relative n (add-rounds x-f32 y-f32) own h
 
-  pub sub-relative : (n : ℕ) → F32 (sub binary32 x y) → Abs (val x ⊟ val y) n → Abs (2 ^ 24 ⊛ (val (sub binary32 x y) ⊟ (val x ⊟ val y))) n
+  pub sub-relative : (n : ℕ) → F32 (sub binary32 x y) → Abs (val x ⊟ val y) n
+      → Abs (2 ^ 24 ⊛ (val (sub binary32 x y) ⊟ (val x ⊟ val y))) n
   sub-relative n own h = sum-relative n (sub-rounds x-f32 y-f32) own h
 
   -- ---- products
@@ -54,7 +58,8 @@ module _ {x y : Float} (x-f32 : F32 x) (y-f32 : F32 y) where
       let n = mag x * mag y in
       product-error (2 ^ 24) n (val (mul binary32 x y)) (val x ⊠ val y)
       (rounds-error (mul-rounds x-f32 y-f32) own (2 ^ 24) (n * metre)
-      (rw (mul-size x-f32 y-f32) (rounded-relative n (metre * metre) square-pos (le-trans (le-of-eq (sym (mul-assoc (2 ^ 23) metre metre))) (mul-le-mul-right metre normal)))))
+      (rw (mul-size x-f32 y-f32) (rounded-relative n (metre * metre) square-pos
+      (le-trans (le-of-eq (sym (mul-assoc (2 ^ 23) metre metre))) (mul-le-mul-right metre normal)))))
 
   pub mul-mixed : F32 (mul binary32 x y)
       → Abs (2 ^ 24 ⊛ (metre ⊛ val (mul binary32 x y) ⊟ val x ⊠ val y)) (mag x * mag y + 2 ^ 23 * metre)
@@ -69,7 +74,8 @@ module _ {x y : Float} (x-f32 : F32 x) (y-f32 : F32 y) where
 
   -- ---- quotients
   module _ (y-pos : 0 < mag y) (own : F32 (div binary32 x y)) where
-    pub div-relative : 2 ^ 23 * mag y ≤ mag x * metre → Abs (2 ^ 24 ⊛ (val (div binary32 x y) ⊠ val y ⊟ metre ⊛ val x)) (mag x * metre)
+    pub div-relative : 2 ^ 23 * mag y ≤ mag x * metre
+        → Abs (2 ^ 24 ⊛ (val (div binary32 x y) ⊠ val y ⊟ metre ⊛ val x)) (mag x * metre)
     div-relative normal =
         quotient-error (2 ^ 24) (mag x * metre) (val (div binary32 x y)) (val x) y
         (rounds-error (div-rounds x-f32 y-f32 y-pos) own (2 ^ 24) (mag x * metre)

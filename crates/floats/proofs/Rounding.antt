@@ -40,7 +40,8 @@ nearest-near Ordering·eq q r a b e l c = tie (q % 2) (parity q)
 nearest-near Ordering·gt q r a b e l c = omega arith
 
 closest-near : (a b : ℕ) → 0 < b → Nearest (closest a b) a b
-closest-near a b b-pos = nearest-near (compare (a % b * 2) b) (a / b) (a % b) a b (div-add-mod' a b) (mod-lt a b-pos) (compared (a % b * 2) b)
+closest-near a b b-pos = nearest-near (compare (a % b * 2) b) (a / b) (a % b) a b (div-add-mod' a b) (mod-lt a b-pos)
+    (compared (a % b * 2) b)
 
 -- 0 where a / b is below 1/2; else b / 2 is at most a
 closest-double : (a b : ℕ) → 0 < b → closest a b * b ≤ 2 * a
@@ -84,20 +85,25 @@ rounded-double num den den-pos =
 -- ---- the last digit
 -- below 2^(24 + j) units it is at most 2^j
 pub drop-le : (num den j : ℕ) → 0 < den → num * 2 ^ 149 < 2 ^ (24 + j) * den → drop 24 (num * 2 ^ 149) den ≤ j
-drop-le num den j den-pos h = few (size (num * 2 ^ 149 / den)) (size-le (num * 2 ^ 149 / den) (24 + j) (div-lt-iff-lt-mul den-pos .1 h))
+drop-le num den j den-pos h = few (size (num * 2 ^ 149 / den))
+    (size-le (num * 2 ^ 149 / den) (24 + j) (div-lt-iff-lt-mul den-pos .1 h))
   where
     few : (z : ℕ) → z ≤ 24 + j → z - 24 ≤ j
     few z h = omega arith
 
 -- a fraction of at most 24 digits is kept
-pub rounded-exact : (num den q j : ℕ) → 0 < den → q < 2 ^ 24 → num * 2 ^ 149 ≡ q * 2 ^ j * den → rounded num den ≡ q * 2 ^ j
+pub rounded-exact : (num den q j : ℕ) → 0 < den → q < 2 ^ 24 → num * 2 ^ 149 ≡ q * 2 ^ j * den
+    → rounded num den ≡ q * 2 ^ j
 rounded-exact num den q j den-pos small e =
     let n = num * 2 ^ 149 in
     let k = drop 24 n den in
-    let few : k ≤ j = drop-le num den j den-pos (lt-of-le-of-lt (le-of-eq e) (mul-lt-mul-of-pos-right (shl-lt 24 j small) den-pos)) in
+    let few : k ≤ j = drop-le num den j den-pos
+    (lt-of-le-of-lt (le-of-eq e) (mul-lt-mul-of-pos-right (shl-lt 24 j small) den-pos)) in
     let r = q * 2 ^ (j - k) in
-    let again : r * 2 ^ k ≡ q * 2 ^ j = mul-assoc q (2 ^ (j - k)) (2 ^ k) ∙ ap (λ (x : ℕ). q * x) (sym (pow-add 2 (j - k) k) ∙ ap (λ (x : ℕ). 2 ^ x) (back j k few)) in
-    let whole : n ≡ r * (den * 2 ^ k) = e ∙ ap (λ (x : ℕ). x * den) (sym again) ∙ mul-assoc r (2 ^ k) den ∙ ap (λ (x : ℕ). r * x) (mul-comm (2 ^ k) den) in
+    let again : r * 2 ^ k ≡ q * 2 ^ j = mul-assoc q (2 ^ (j - k)) (2 ^ k) ∙ ap (λ (x : ℕ). q * x)
+    (sym (pow-add 2 (j - k) k) ∙ ap (λ (x : ℕ). 2 ^ x) (back j k few)) in
+    let whole : n ≡ r * (den * 2 ^ k) = e ∙ ap (λ (x : ℕ). x * den) (sym again) ∙ mul-assoc r (2 ^ k) den ∙ ap
+    (λ (x : ℕ). r * x) (mul-comm (2 ^ k) den) in
     ap (λ (x : ℕ). x * 2 ^ k) (closest-exact n (den * 2 ^ k) r (mul-pos den-pos (pow-pos k)) whole) ∙ again
 
 -- it is one unit, or at most 2^-23 of the fraction
@@ -108,9 +114,11 @@ digit-small num den den-pos = elim (eq-zero-or-pos (drop 24 (num * 2 ^ 149) den)
   | inr some ↦
       let n = num * 2 ^ 149 in
       let k = drop 24 n den in
-      let reach : 2 ^ (23 + k) * den ≤ n = le-div-iff-mul-le den-pos .0 (size-reaches (n / den) (23 + k) (in-use (size (n / den)) some)) in
+      let reach : 2 ^ (23 + k) * den ≤ n = le-div-iff-mul-le den-pos .0
+      (size-reaches (n / den) (23 + k) (in-use (size (n / den)) some)) in
       let move : 2 ^ 23 * (den * 2 ^ k) ≡ 2 ^ (23 + k) * den =
-      ap (λ (x : ℕ). 2 ^ 23 * x) (mul-comm den (2 ^ k)) ∙ sym (mul-assoc (2 ^ 23) (2 ^ k) den) ∙ ap (λ (x : ℕ). x * den) (sym (pow-add 2 23 k)) in
+      ap (λ (x : ℕ). 2 ^ 23 * x) (mul-comm den (2 ^ k)) ∙ sym (mul-assoc (2 ^ 23) (2 ^ k) den) ∙ ap (λ (x : ℕ). x * den)
+      (sym (pow-add 2 23 k)) in
       inr (le-trans (le-of-eq move) reach)
 ]
   where
@@ -121,30 +129,37 @@ digit-small num den den-pos = elim (eq-zero-or-pos (drop 24 (num * 2 ^ 149) den)
 kept-le : (n den : ℕ) → kept 24 n den ≤ 2 ^ 24
 kept-le n den =
     let u = den * 2 ^ drop 24 n den in
-    le-trans (nearest-le (n / u) (compare (n % u * 2) u)) (subst (λ (x : ℕ). x < 2 ^ 24) (div-div-eq-div-mul n den (2 ^ drop 24 n den)) (kept-lt 24 (n / den)))
+    le-trans (nearest-le (n / u) (compare (n % u * 2) u))
+    (subst (λ (x : ℕ). x < 2 ^ 24) (div-div-eq-div-mul n den (2 ^ drop 24 n den)) (kept-lt 24 (n / den)))
 
 -- below 2^127 m
-pub rounded-high : (num den j : ℕ) → 0 < den → num * 2 ^ 149 < 2 ^ (24 + j) * den → 24 + j < 277 → rounded num den < 2 ^ 277
+pub rounded-high : (num den j : ℕ) → 0 < den → num * 2 ^ 149 < 2 ^ (24 + j) * den → 24 + j < 277
+    → rounded num den < 2 ^ 277
 rounded-high num den j den-pos h j-low =
     let n = num * 2 ^ 149 in
     let digit : 2 ^ drop 24 n den ≤ 2 ^ j = pow-mono (drop-le num den j den-pos h) in
     lt-of-le-of-lt (le-trans (mul-le-mul (kept-le n den) digit) (le-of-eq (sym (pow-add 2 24 j)))) (pow-lt j-low)
 
-pub round-value : (s : Bool) (num den : ℕ) → rounded num den < 2 ^ 277 → HasValue (round binary32 s num den) s (rounded num den) metre
+pub round-value : (s : Bool) (num den : ℕ) → rounded num den < 2 ^ 277
+    → HasValue (round binary32 s num den) s (rounded num den) metre
 round-value s num den h =
-    rw (metre-is, round-is binary32 s num den) (units-val binary32 s (kept 24 (num * 2 ^ 149) den) (drop 24 (num * 2 ^ 149) den) h)
+    rw (metre-is, round-is binary32 s num den)
+    (units-val binary32 s (kept 24 (num * 2 ^ 149) den) (drop 24 (num * 2 ^ 149) den) h)
 
 pub round-f32 : (s : Bool) (num den : ℕ) → rounded num den < 2 ^ 277 → F32 (round binary32 s num den)
-round-f32 s num den h = f32-of-value (round binary32 s num den) s (rounded num den) (round-fits binary32 s num den) (round-value s num den h)
+round-f32 s num den h = f32-of-value (round binary32 s num den) s (rounded num den) (round-fits binary32 s num den)
+    (round-value s num den h)
 
 units-high : (s : Bool) (q k : ℕ) → T (finite (units binary32 s q k)) → q * 2 ^ k < 2 ^ 277
 unfolding units
 units-high s q k = by-test (ltb (q * 2 ^ k) (2 ^ 277)) (ltb→lt (q * 2 ^ k) (2 ^ 277))
   where
-    by-test : (b : Bool) → (T b → q * 2 ^ k < 2 ^ 277) → T (finite (cond b (odd 25 s q k 149) (inf s))) → q * 2 ^ k < 2 ^ 277
+    by-test : (b : Bool) → (T b → q * 2 ^ k < 2 ^ 277) → T (finite (cond b (odd 25 s q k 149) (inf s)))
+        → q * 2 ^ k < 2 ^ 277
     by-test true below t = below tt
     by-test false below t = absurd t
 
 pub finite-rounded : (s : Bool) (num den : ℕ) → T (finite (round binary32 s num den)) → rounded num den < 2 ^ 277
 finite-rounded s num den t =
-    units-high s (kept 24 (num * 2 ^ 149) den) (drop 24 (num * 2 ^ 149) den) (subst (λ (z : Float). T (finite z)) (round-is binary32 s num den) t)
+    units-high s (kept 24 (num * 2 ^ 149) den) (drop 24 (num * 2 ^ 149) den)
+    (subst (λ (z : Float). T (finite z)) (round-is binary32 s num den) t)

@@ -23,7 +23,8 @@ module _ {z : Float} {num : Z} {den : ℕ} (r : Rounds z num den) where
   rounds-f32 h = rw (r .is) (round-f32 (r .negative) (r .size) den h)
 
   pub f32-rounded : F32 z → rounded (r .size) den < 2 ^ 277
-  f32-rounded own = finite-rounded (r .negative) (r .size) den (subst (λ (x : Float). T (finite x)) (r .is) (own .is-finite))
+  f32-rounded own = finite-rounded (r .negative) (r .size) den
+      (subst (λ (x : Float). T (finite x)) (r .is) (own .is-finite))
 
   pub size-le : (n : ℕ) → Abs num n → r .size ≤ n
   size-le n h =
@@ -32,7 +33,8 @@ module _ {z : Float} {num : Z} {den : ℕ} (r : Rounds z num den) where
 
   pub abs-size : Abs num (r .size)
   abs-size =
-      abs-same (signed (r .negative) (r .size)) num (r .size) (r .exact) (abs-signed (r .negative) (r .size) (r .size) (le-refl (r .size)))
+      abs-same (signed (r .negative) (r .size)) num (r .size) (r .exact)
+      (abs-signed (r .negative) (r .size) (r .size) (le-refl (r .size)))
 
 module _ {z : Float} {num : Z} {den : ℕ} (r : Rounds z num den) (z-f32 : F32 z) where
   pub rounds-val : val z ≡ signed (r .negative) (rounded (r .size) den)
@@ -54,7 +56,8 @@ signed-size false false m n e = omega arith
 signed-size true false m n e = omega arith
 signed-size false true m n e = omega arith
 
-pub rounds-size : {z : Float} {num : Z} {den : ℕ} (r : Rounds z num den) (s : Bool) (n : ℕ) → signed s n ≐ num → r .size ≡ n
+pub rounds-size : {z : Float} {num : Z} {den : ℕ} (r : Rounds z num den) (s : Bool) (n : ℕ) → signed s n ≐ num
+    → r .size ≡ n
 rounds-size {num = num} r s n e =
     signed-size (r .negative) s (r .size) n
     (same-trans (signed (r .negative) (r .size)) num (signed s n) (r .exact) (same-sym (signed s n) num e))
@@ -67,10 +70,12 @@ module _ {x y : Float} (x-f32 : F32 x) (y-f32 : F32 y) where
 
   pub div-size : (y-pos : 0 < mag y) → div-rounds x-f32 y-f32 y-pos .size ≡ mag x
   div-size y-pos =
-      rounds-size (div-rounds x-f32 y-f32 y-pos) (unlike (sign x) (sign y)) (mag x) (rw (val-signed x) (signed-quotient (sign x) (sign y) (mag x)))
+      rounds-size (div-rounds x-f32 y-f32 y-pos) (unlike (sign x) (sign y)) (mag x)
+      (rw (val-signed x) (signed-quotient (sign x) (sign y) (mag x)))
 
 -- ---- errors
-signed-apart : (s : Bool) (k d m g w e : ℕ) (v : Z) → signed s w ≐ v → Apart (k * (g * d)) (k * (w * m)) e → Abs (k ⊛ (d ⊛ signed s g ⊟ m ⊛ v)) e
+signed-apart : (s : Bool) (k d m g w e : ℕ) (v : Z) → signed s w ≐ v → Apart (k * (g * d)) (k * (w * m)) e
+    → Abs (k ⊛ (d ⊛ signed s g ⊟ m ⊛ v)) e
 signed-apart true k d m g w e v exact apart =
     let h : k * m * (0 + v .1) ≡ k * m * (v .0 + w) = ap (λ (x : ℕ). k * m * x) exact in omega arith
 signed-apart false k d m g w e v exact apart =
@@ -84,13 +89,23 @@ rounds-error {z} {num} {den} r z-f32 k e apart =
 
 -- without the metre of a sum, and one of the two of a product
 pub sum-error : (k e : ℕ) (z v : Z) → Abs (k ⊛ (metre ⊛ z ⊟ metre ⊛ v)) (e * metre) → Abs (k ⊛ (z ⊟ v)) e
-sum-error k e z v h = (le-of-mul-le-mul-right {k = metre} (omega arith) metre-pos, le-of-mul-le-mul-right {k = metre} (omega arith) metre-pos)
+sum-error k e z v h = (
+  le-of-mul-le-mul-right {k = metre} (omega arith) metre-pos,
+  le-of-mul-le-mul-right {k = metre}
+      (omega arith) metre-pos,
+)
 
-pub product-error : (k e : ℕ) (z v : Z) → Abs (k ⊛ ((metre * metre) ⊛ z ⊟ metre ⊛ v)) (e * metre) → Abs (k ⊛ (metre ⊛ z ⊟ v)) e
-product-error k e z v h = (le-of-mul-le-mul-right {k = metre} (omega arith) metre-pos, le-of-mul-le-mul-right {k = metre} (omega arith) metre-pos)
+pub product-error : (k e : ℕ) (z v : Z) → Abs (k ⊛ ((metre * metre) ⊛ z ⊟ metre ⊛ v)) (e * metre)
+    → Abs (k ⊛ (metre ⊛ z ⊟ v)) e
+product-error k e z v h = (
+  le-of-mul-le-mul-right {k = metre} (omega arith) metre-pos,
+  le-of-mul-le-mul-right {k = metre}
+      (omega arith) metre-pos,
+)
 
 -- with the divisor's sign
-pub quotient-error : (k e : ℕ) (z v : Z) (y : Float) → Abs (k ⊛ (mag y ⊛ z ⊟ metre ⊛ turned (sign y) v)) e → Abs (k ⊛ (z ⊠ val y ⊟ metre ⊛ v)) e
+pub quotient-error : (k e : ℕ) (z v : Z) (y : Float) → Abs (k ⊛ (mag y ⊛ z ⊟ metre ⊛ turned (sign y) v)) e
+    → Abs (k ⊛ (z ⊠ val y ⊟ metre ⊛ v)) e
 quotient-error k e z v y h = rw val-signed (by-sign (sign y) (mag y) h)
   where
     by-sign : (s : Bool) (g : ℕ) → Abs (k ⊛ (g ⊛ z ⊟ metre ⊛ turned s v)) e → Abs (k ⊛ (z ⊠ signed s g ⊟ metre ⊛ v)) e

@@ -44,7 +44,11 @@ module _ {z : Float} {num : Z} {den : ℕ} (r : Rounds z num den) where
 
   size-pos : 0 < mag z → 0 < r .size
   size-pos z-pos =
-      let own : F32 z = record { in-format = rw (r .is) (round-fits binary32 (r .negative) (r .size) den); is-finite = finite-of-mag z z-pos } in
+      let own : F32 z = record {
+        in-format = rw (r .is)
+            (round-fits binary32 (r .negative) (r .size) den);
+        is-finite = finite-of-mag z z-pos;
+      } in
       from (r .size) (mul-pos z-pos (r .den-pos)) (rounds-double r own)
     where
       from : (w : ℕ) → 0 < mag z * den → mag z * den ≤ 2 * (w * metre) → 0 < w
@@ -112,4 +116,5 @@ opposite-signed false true m n h =
 pub mul-negative : {x y : Float} → F32 x → F32 y → val (mul binary32 x y) ≺ whole 0 → Opposite (val x) (val y)
 mul-negative {x} {y} x-f32 y-f32 h =
     rw (val-signed x, val-signed y)
-    (opposite-signed (sign x) (sign y) (mag x) (mag y) (rw (val-signed x, val-signed y) at (rounds-negative (mul-rounds x-f32 y-f32) h)))
+    (opposite-signed (sign x) (sign y) (mag x) (mag y)
+    (rw (val-signed x, val-signed y) at (rounds-negative (mul-rounds x-f32 y-f32) h)))

@@ -25,15 +25,18 @@ module _ {x : Float} (x-f32 : F32 x) (x-pos : whole 0 ≺ val x) where
   pub sqrt-is : sqrt binary32 x ≡ rounded-root binary32 (mag x * metre)
   sqrt-is =
       let p = positive-sign x x-pos in
-      sqrt-of-units x (mag x) (subst (λ (m : ℕ). HasValue x false (mag x) m) metre-is (subst (λ (s : Bool). HasValue x s (mag x) metre) (p .plus) (has-value x-f32))) (p .mag-pos)
+      sqrt-of-units x (mag x) (subst (λ (m : ℕ). HasValue x false (mag x) m) metre-is
+      (subst (λ (s : Bool). HasValue x s (mag x) metre) (p .plus) (has-value x-f32))) (p .mag-pos)
       ∙ ap (λ (m : ℕ). rounded-root binary32 (mag x * m)) (sym metre-is)
 
   pub sqrt-rounded : RoundedRoot (sqrt binary32 x) (mag x * metre)
   sqrt-rounded =
       subst (λ (r : Float). RoundedRoot r (mag x * metre)) (sym sqrt-is)
       (rounded-root-is (mag x * metre)
-      (le-trans (subst (λ (m : ℕ). 2 ^ 48 ≤ m) (sym metre-is) (lit≤ tt)) (le-trans (le-of-eq (sym (one-mul metre))) (mul-le-mul-right metre (positive-sign x x-pos .mag-pos))))
-      (lt-of-lt-of-le (mul-lt-mul-of-pos-right (mag-high x-f32) metre-pos) (le-of-eq (ap (λ (m : ℕ). 2 ^ 277 * m) metre-is))))
+      (le-trans (subst (λ (m : ℕ). 2 ^ 48 ≤ m) (sym metre-is) (lit≤ tt))
+      (le-trans (le-of-eq (sym (one-mul metre))) (mul-le-mul-right metre (positive-sign x x-pos .mag-pos))))
+      (lt-of-lt-of-le (mul-lt-mul-of-pos-right (mag-high x-f32) metre-pos)
+      (le-of-eq (ap (λ (m : ℕ). 2 ^ 277 * m) metre-is))))
 
 -- ---- its value
 module _ {r : Float} {y : ℕ} (root : RoundedRoot r y) where
@@ -86,4 +89,5 @@ sqrt-zero {x} x-f32 x-zero = of-fin x x-f32 (f32-as-fin x-f32) (rw val-signed at
     of-fin _ own (as-fin s zero e is) x-zero = record { own = own; is = rw (val-zero s e) refl }
     of-fin _ own (as-fin s (suc m) e is) x-zero =
         absurd (none s (mag (fin s (suc m) e)) x-zero
-        (some (suc m * up e * metre) (down e) (mag (fin s (suc m) e)) (mul-pos (mul-pos (zero-lt-suc m) (up-pos e)) metre-pos) is))
+        (some (suc m * up e * metre) (down e) (mag (fin s (suc m) e))
+        (mul-pos (mul-pos (zero-lt-suc m) (up-pos e)) metre-pos) is))

@@ -26,7 +26,8 @@ use Rattle.floats.proofs.SqrtLaw.{sqrt-is, sqrt-rounded, root-mag, root
 module _ (h r : ℕ) (h-pos : 0 < h) where
   -- √y < √y', rounded to r and r'
   scale-mono : (y y' r' : ℕ) → y < y' → HalfUnit y h r → HalfUnit y' h r' → r' < r → ⊥
-  scale-mono y y' r' less near near' over = let d = le-dest over in past (d .0) (subst (λ (n : ℕ). HalfUnit y h n) (sym (d .1)) near)
+  scale-mono y y' r' less near near' over = let d =
+      le-dest over in past (d .0) (subst (λ (n : ℕ). HalfUnit y h n) (sym (d .1)) near)
     where
       past : (d : ℕ) → HalfUnit y h (suc r' + d) → ⊥
       past d near = let n = near .0 in let n' = near' .1 in omega arith
@@ -61,7 +62,8 @@ roots-mono {y = y} {y' = y'} root root' less =
       | inr fewer ↦
           le-trans (mul-le-mul-right (2 ^ k) (root .digits-high))
           (le-trans (le-of-eq (sym (pow-add 2 24 k)))
-          (le-trans (pow-mono (one-more k k' fewer)) (le-trans (le-of-eq (pow-add 2 23 k')) (mul-le-mul-right (2 ^ k') (root' .digits-low)))))
+          (le-trans (pow-mono (one-more k k' fewer))
+          (le-trans (le-of-eq (pow-add 2 23 k')) (mul-le-mul-right (2 ^ k') (root' .digits-low)))))
     ]
   where
     scales : (z z' k k' : ℕ) → z ≤ z' → k ≡ (z + 1) / 2 - 24 → k' ≡ (z' + 1) / 2 - 24 → k ≤ k'
@@ -76,9 +78,11 @@ module _ {x : Float} {y : ℕ} (root : RoundedRoot x y) (q j : ℕ) (small : q <
   as-digits : root .scale ≤ j → q * 2 ^ (j - root .scale) * 2 ^ root .scale ≡ q * 2 ^ j
   as-digits le =
       mul-assoc q (2 ^ (j - root .scale)) (2 ^ root .scale)
-      ∙ ap (λ (n : ℕ). q * n) (sym (pow-add 2 (j - root .scale) (root .scale)) ∙ ap (λ (n : ℕ). 2 ^ n) (back j (root .scale) le))
+      ∙ ap (λ (n : ℕ). q * n) (sym (pow-add 2 (j - root .scale) (root .scale)) ∙ ap (λ (n : ℕ). 2 ^ n)
+      (back j (root .scale) le))
 
-  as-square : root .scale ≤ j → q * 2 ^ (j - root .scale) * (q * 2 ^ (j - root .scale)) * 4 ^ root .scale ≡ q * 2 ^ j * (q * 2 ^ j)
+  as-square : root .scale ≤ j
+      → q * 2 ^ (j - root .scale) * (q * 2 ^ (j - root .scale)) * 4 ^ root .scale ≡ q * 2 ^ j * (q * 2 ^ j)
   as-square le =
       let c = q * 2 ^ (j - root .scale) in
       ap (λ (n : ℕ). c * c * n) (four-pow (root .scale)) ∙ mul-mul-mul-comm c c (2 ^ root .scale) (2 ^ root .scale)
@@ -96,7 +100,8 @@ module _ {x : Float} {y : ℕ} (root : RoundedRoot x y) (q j : ℕ) (small : q <
     | yes fine ↦ elim (decLe (q * 2 ^ (j - root .scale)) (root .digits)) [
       | yes le ↦ le-trans (le-of-eq (sym (as-digits fine))) (mul-le-mul-right (2 ^ root .scale) le)
       | no over ↦ absurd
-          (scale-above (4 ^ root .scale) (root .digits) (four-pow-pos (root .scale)) y (q * 2 ^ (j - root .scale)) (root .half-unit)
+          (scale-above (4 ^ root .scale) (root .digits) (four-pow-pos (root .scale)) y (q * 2 ^ (j - root .scale))
+          (root .half-unit)
           (le-trans (le-of-eq (as-square fine)) h) (lt-of-not-le over))
     ]
     | no short ↦
@@ -109,7 +114,8 @@ module _ {x : Float} {y : ℕ} (root : RoundedRoot x y) (q j : ℕ) (small : q <
     | yes fine ↦ elim (decLe (root .digits) (q * 2 ^ (j - root .scale))) [
       | yes le ↦ le-trans (mul-le-mul-right (2 ^ root .scale) le) (le-of-eq (as-digits fine))
       | no over ↦ absurd
-          (scale-below (4 ^ root .scale) (root .digits) (four-pow-pos (root .scale)) y (q * 2 ^ (j - root .scale)) (root .half-unit)
+          (scale-below (4 ^ root .scale) (root .digits) (four-pow-pos (root .scale)) y (q * 2 ^ (j - root .scale))
+          (root .half-unit)
           (le-trans h (le-of-eq (sym (as-square fine)))) (lt-of-not-le over))
     ]
     | no short ↦ absurd (not-le-of-lt (below (lt-of-not-le short)) (le-trans (reached (lt-of-not-le short)) h))
@@ -122,27 +128,33 @@ module _ {x : Float} {y : ℕ} (root : RoundedRoot x y) (q j : ℕ) (small : q <
       halves k = omega arith
 
       reached : j < root .scale → 2 ^ (46 + (root .scale + root .scale)) ≤ y
-      reached less = size-reaches y (46 + (root .scale + root .scale)) (all-in-use (size y) (root .scale) (lt-of-le-of-lt zero-le less) (root .scale-is))
+      reached less = size-reaches y (46 + (root .scale + root .scale))
+          (all-in-use (size y) (root .scale) (lt-of-le-of-lt zero-le less) (root .scale-is))
 
       below : j < root .scale → q * 2 ^ j * (q * 2 ^ j) < 2 ^ (46 + (root .scale + root .scale))
       below less =
           lt-of-lt-of-le
-          (lt-of-le-of-lt (mul-le-mul-right (q * 2 ^ j) (le-of-lt (coarse less))) (mul-lt-mul-of-pos-left (coarse less) (pow-pos (23 + root .scale))))
-          (le-of-eq (sym (pow-add 2 (23 + root .scale) (23 + root .scale)) ∙ ap (λ (n : ℕ). 2 ^ n) (halves (root .scale))))
+          (lt-of-le-of-lt (mul-le-mul-right (q * 2 ^ j) (le-of-lt (coarse less)))
+          (mul-lt-mul-of-pos-left (coarse less) (pow-pos (23 + root .scale))))
+          (le-of-eq (sym (pow-add 2 (23 + root .scale) (23 + root .scale)) ∙ ap (λ (n : ℕ). 2 ^ n)
+          (halves (root .scale))))
 
 -- ---- the root of a number above 0
 whole-le : (a b : Z) (m n : ℕ) → a ≡ whole m → b ≡ whole n → m ≤ n → a ≼ b
 whole-le a b m n a-is b-is h = rw (a-is, b-is) (omega arith)
 
-pub sqrt-mono : {x x' : Float} → F32 x → F32 x' → whole 0 ≺ val x → val x ≼ val x' → val (sqrt binary32 x) ≼ val (sqrt binary32 x')
+pub sqrt-mono : {x x' : Float} → F32 x → F32 x' → whole 0 ≺ val x → val x ≼ val x'
+    → val (sqrt binary32 x) ≼ val (sqrt binary32 x')
 sqrt-mono {x} {x'} x-f32 x'-f32 x-pos h =
     let x'-pos : whole 0 ≺ val x' = omega arith in
     let root = sqrt-rounded x-f32 x-pos in
     let root' = sqrt-rounded x'-f32 x'-pos in
     let le : mag x ≤ mag x' = sizes (mag x) (mag x') (rw (positive-sign x x-pos .is, positive-sign x' x'-pos .is) at h) in
-    whole-le (val (sqrt binary32 x)) (val (sqrt binary32 x')) (mag (sqrt binary32 x)) (mag (sqrt binary32 x')) (root-val root) (root-val root')
+    whole-le (val (sqrt binary32 x)) (val (sqrt binary32 x')) (mag (sqrt binary32 x)) (mag (sqrt binary32 x'))
+    (root-val root) (root-val root')
     (elim (eq-or-lt-of-le le) [
-      | inl same ↦ le-of-eq (ap mag (sqrt-is x-f32 x-pos ∙ ap (λ (n : ℕ). rounded-root binary32 (n * metre)) same ∙ sym (sqrt-is x'-f32 x'-pos)))
+      | inl same ↦ le-of-eq (ap mag (sqrt-is x-f32 x-pos ∙ ap (λ (n : ℕ). rounded-root binary32 (n * metre)) same ∙ sym
+          (sqrt-is x'-f32 x'-pos)))
       | inr less ↦ rw (root-mag root, root-mag root') (roots-mono root root' (mul-lt-mul-of-pos-right less metre-pos))
     ])
   where
@@ -159,10 +171,12 @@ module _ {x : Float} (x-f32 : F32 x) (x-pos : whole 0 ≺ val x) where
 
 module _ {x r : Float} (x-f32 : F32 x) (x-pos : whole 0 ≺ val x) (r-f32 : F32 r) where
   pub sqrt-above : mag r * mag r ≤ mag x * metre → mag r ≤ mag (sqrt binary32 x)
-  sqrt-above h = let d = digits r-f32 in rw (d .is) (sqrt-above-digits x-f32 x-pos (d .q) (d .j) (d .small) (rw (d .is) at h))
+  sqrt-above h = let d = digits r-f32 in rw (d .is)
+      (sqrt-above-digits x-f32 x-pos (d .q) (d .j) (d .small) (rw (d .is) at h))
 
   pub sqrt-below : mag x * metre ≤ mag r * mag r → mag (sqrt binary32 x) ≤ mag r
-  sqrt-below h = let d = digits r-f32 in rw (d .is) (sqrt-below-digits x-f32 x-pos (d .q) (d .j) (d .small) (rw (d .is) at h))
+  sqrt-below h = let d = digits r-f32 in rw (d .is)
+      (sqrt-below-digits x-f32 x-pos (d .q) (d .j) (d .small) (rw (d .is) at h))
 
 -- at least 2^-2i m: at least 2^-i m; at most 2^2i m: at most 2^i m
 module _ {x : Float} (i : ℕ) (x-f32 : F32 x) (x-pos : whole 0 ≺ val x) where
@@ -170,9 +184,11 @@ module _ {x : Float} (i : ℕ) (x-f32 : F32 x) (x-pos : whole 0 ≺ val x) where
   sqrt-low i-low h =
       let p = 2 ^ i in
       let g = 1 * 2 ^ (149 - i) in
-      let split : metre ≡ g * p = metre-is ∙ ap (λ (n : ℕ). 2 ^ n) (sym (back 149 i (leb→le i 149 i-low))) ∙ pow-add 2 (149 - i) i ∙ ap (λ (n : ℕ). n * p) (sym (one-mul (2 ^ (149 - i)))) in
+      let split : metre ≡ g * p = metre-is ∙ ap (λ (n : ℕ). 2 ^ n) (sym (back 149 i (leb→le i 149 i-low))) ∙ pow-add 2
+      (149 - i) i ∙ ap (λ (n : ℕ). n * p) (sym (one-mul (2 ^ (149 - i)))) in
       over g p (mag (sqrt binary32 x)) split
-      (sqrt-above-digits x-f32 x-pos 1 (149 - i) (lit< tt) (square g p (mag x) (pow-pos i) split (subst (λ (n : ℕ). metre ≤ n * mag x) (pow-add 2 i i) h)))
+      (sqrt-above-digits x-f32 x-pos 1 (149 - i) (lit< tt)
+      (square g p (mag x) (pow-pos i) split (subst (λ (n : ℕ). metre ≤ n * mag x) (pow-add 2 i i) h)))
     where
       square : (g p n : ℕ) → 0 < p → metre ≡ g * p → metre ≤ p * p * n → g * g ≤ n * metre
       square g p n p-pos e h =
@@ -187,8 +203,10 @@ module _ {x : Float} (i : ℕ) (x-f32 : F32 x) (x-pos : whole 0 ≺ val x) where
   pub sqrt-high : mag x ≤ 2 ^ (i + i) * metre → mag (sqrt binary32 x) ≤ 2 ^ i * metre
   sqrt-high h =
       let g = 1 * 2 ^ (i + 149) in
-      let split : g ≡ 2 ^ i * metre = one-mul (2 ^ (i + 149)) ∙ pow-add 2 i 149 ∙ ap (λ (n : ℕ). 2 ^ i * n) (sym metre-is) in
-      le-trans (sqrt-below-digits x-f32 x-pos 1 (i + 149) (lit< tt) (square g (2 ^ i) (mag x) split (subst (λ (n : ℕ). mag x ≤ n * metre) (pow-add 2 i i) h)))
+      let split : g ≡ 2 ^ i * metre = one-mul (2 ^ (i + 149)) ∙ pow-add 2 i 149 ∙ ap (λ (n : ℕ). 2 ^ i * n)
+      (sym metre-is) in
+      le-trans (sqrt-below-digits x-f32 x-pos 1 (i + 149) (lit< tt)
+      (square g (2 ^ i) (mag x) split (subst (λ (n : ℕ). mag x ≤ n * metre) (pow-add 2 i i) h)))
       (le-of-eq split)
     where
       square : (g p n : ℕ) → g ≡ p * metre → n ≤ p * p * metre → n * metre ≤ g * g

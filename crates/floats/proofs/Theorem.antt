@@ -38,7 +38,8 @@ exact-results x-f32 y-f32 r-f32 = record {
 -- ---- F2: an exact result of at most 2^k m gives a finite one that is at most 2^k ticks away
 pub record NearResults (k : ℕ) (x y : Float) : Type 0 where
   pub sum : (n : ℕ) → Abs (val x ⊞ val y) n → n ≤ 2 ^ k * metre → Near (add binary32 x y) (val x ⊞ val y) (2 ^ k * tick)
-  pub difference : (n : ℕ) → Abs (val x ⊟ val y) n → n ≤ 2 ^ k * metre → Near (sub binary32 x y) (val x ⊟ val y) (2 ^ k * tick)
+  pub difference : (n : ℕ) → Abs (val x ⊟ val y) n → n ≤ 2 ^ k * metre
+      → Near (sub binary32 x y) (val x ⊟ val y) (2 ^ k * tick)
   pub product : (m n : ℕ) → Abs (val x) m → Abs (val y) n → m * n ≤ 2 ^ k * (metre * metre)
       → NearProduct (mul binary32 x y) (val x ⊠ val y) (2 ^ k * tick)
   pub quotient : 0 < mag y → mag x ≤ 2 ^ k * mag y → NearQuotient (div binary32 x y) x y (2 ^ k * tick)
@@ -53,8 +54,10 @@ near-results k k-low x-f32 y-f32 = record {
 
 -- and relative to the exact result: 2^-24 of it; half a unit more for products and quotients below the normal range
 pub record RelativeResults (x y : Float) : Type 0 where
-  pub sum : (n : ℕ) → F32 (add binary32 x y) → Abs (val x ⊞ val y) n → Abs (2 ^ 24 ⊛ (val (add binary32 x y) ⊟ (val x ⊞ val y))) n
-  pub difference : (n : ℕ) → F32 (sub binary32 x y) → Abs (val x ⊟ val y) n → Abs (2 ^ 24 ⊛ (val (sub binary32 x y) ⊟ (val x ⊟ val y))) n
+  pub sum : (n : ℕ) → F32 (add binary32 x y) → Abs (val x ⊞ val y) n
+      → Abs (2 ^ 24 ⊛ (val (add binary32 x y) ⊟ (val x ⊞ val y))) n
+  pub difference : (n : ℕ) → F32 (sub binary32 x y) → Abs (val x ⊟ val y) n
+      → Abs (2 ^ 24 ⊛ (val (sub binary32 x y) ⊟ (val x ⊟ val y))) n
   pub product : F32 (mul binary32 x y) → 2 ^ 23 * metre ≤ mag x * mag y
       → Abs (2 ^ 24 ⊛ (metre ⊛ val (mul binary32 x y) ⊟ val x ⊠ val y)) (mag x * mag y)
   pub product-mixed : F32 (mul binary32 x y)
@@ -82,8 +85,10 @@ pub record OrderedResults (x y r : Float) : Type 0 where
   pub difference-above : F32 (sub binary32 x y) → val r ≼ val x ⊟ val y → val r ≼ val (sub binary32 x y)
   pub product-below : F32 (mul binary32 x y) → val x ⊠ val y ≼ metre ⊛ val r → val (mul binary32 x y) ≼ val r
   pub product-above : F32 (mul binary32 x y) → metre ⊛ val r ≼ val x ⊠ val y → val r ≼ val (mul binary32 x y)
-  pub quotient-below : whole 0 ≺ val y → F32 (div binary32 x y) → metre ⊛ val x ≼ val r ⊠ val y → val (div binary32 x y) ≼ val r
-  pub quotient-above : whole 0 ≺ val y → F32 (div binary32 x y) → val r ⊠ val y ≼ metre ⊛ val x → val r ≼ val (div binary32 x y)
+  pub quotient-below : whole 0 ≺ val y → F32 (div binary32 x y) → metre ⊛ val x ≼ val r ⊠ val y
+      → val (div binary32 x y) ≼ val r
+  pub quotient-above : whole 0 ≺ val y → F32 (div binary32 x y) → val r ⊠ val y ≼ metre ⊛ val x
+      → val r ≼ val (div binary32 x y)
 
 pub ordered-results : {x y r : Float} → F32 x → F32 y → F32 r → OrderedResults x y r
 ordered-results x-f32 y-f32 r-f32 = record {
@@ -130,7 +135,8 @@ pub root-of-positive : {x : Float} → F32 x → whole 0 ≺ val x → SqrtLaw x
 root-of-positive = sqrt-law
 
 -- ---- F6: the reciprocal of a number from 2^-127 m to 2^126 m is within a relative 2^-24
-pub reciprocal-near : {l : Float} → F32 l → metre ≤ 2 ^ 127 * mag l → mag l ≤ 2 ^ 126 * metre → Reciprocal (div binary32 one32 l) l
+pub reciprocal-near : {l : Float} → F32 l → metre ≤ 2 ^ 127 * mag l → mag l ≤ 2 ^ 126 * metre
+    → Reciprocal (div binary32 one32 l) l
 reciprocal-near = reciprocal
 
 -- ---- F7: a product below 0 has factors of opposite signs

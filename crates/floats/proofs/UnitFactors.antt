@@ -22,10 +22,12 @@ module _ {u x : Float} (u-f32 : F32 u) (x-f32 : F32 x) where
 
   pub minus-one-mul-exact : val u ≐ opp (whole metre) → Is (mul binary32 u x) (opp (val x))
   minus-one-mul-exact e =
-      rw val-neg at (mul-exact u-f32 x-f32 (neg-f32 x-f32) (rw val-neg (factor (val u) (opp (whole metre)) (val x) (metre ⊛ opp (val x)) e (omega arith))))
+      rw val-neg at (mul-exact u-f32 x-f32 (neg-f32 x-f32)
+      (rw val-neg (factor (val u) (opp (whole metre)) (val x) (metre ⊛ opp (val x)) e (omega arith))))
 
   pub zero-mul-exact : val u ≐ whole 0 → Is (mul binary32 u x) (whole 0)
-  zero-mul-exact e = rw zero-val at (mul-exact u-f32 x-f32 zero-f32 (rw zero-val (factor (val u) (whole 0) (val x) (metre ⊛ whole 0) e (omega arith))))
+  zero-mul-exact e = rw zero-val at (mul-exact u-f32 x-f32 zero-f32
+      (rw zero-val (factor (val u) (whole 0) (val x) (metre ⊛ whole 0) e (omega arith))))
 
 module _ {x y : Float} (x-f32 : F32 x) (y-f32 : F32 y) where
   pub add-zero-exact : val y ≐ whole 0 → Is (add binary32 x y) (val x)
@@ -38,4 +40,5 @@ module _ {x y : Float} (x-f32 : F32 x) (y-f32 : F32 y) where
   sub-zero-exact e = same (val x ⊟ val y) (val x) (omega arith) (sub-exact x-f32 y-f32 x-f32 (omega arith))
 
   pub zero-sub-exact : val x ≐ whole 0 → Is (sub binary32 x y) (opp (val y))
-  zero-sub-exact e = same (val x ⊟ val y) (opp (val y)) (omega arith) (sub-exact x-f32 y-f32 (neg-f32 y-f32) (rw val-neg (omega arith)))
+  zero-sub-exact e = same (val x ⊟ val y) (opp (val y)) (omega arith)
+      (sub-exact x-f32 y-f32 (neg-f32 y-f32) (rw val-neg (omega arith)))

@@ -90,13 +90,17 @@ exponent-le i j h = by-test (leb i j) (leb→le i j) (nleb→lt i j)
 
 metre-down : (e : ℤ) → down e ≤ 2 ^ 149 → (c : ℕ) × (metre ≡ c * down e)
 metre-down (pos k) h = (metre, sym (mul-one metre))
-metre-down (negsuc k) h =
-    (2 ^ (149 - suc k), metre-is ∙ ap (λ (x : ℕ). 2 ^ x) (sym (back 149 (suc k) (exponent-le (suc k) 149 h))) ∙ pow-add 2 (149 - suc k) (suc k))
+metre-down (negsuc k) h = (
+  2 ^ (149 - suc k),
+  metre-is ∙ ap (λ (x : ℕ). 2 ^ x) (sym (back 149 (suc k) (exponent-le (suc k) 149 h))) ∙ pow-add 2
+      (149 - suc k) (suc k),
+)
 
 whole-units : (m : ℕ) (e : ℤ) → down e ≤ 2 ^ 149 → m * up e * metre ≡ m * up e * metre / down e * down e
 whole-units m e h =
     let c = metre-down e h .0 in
-    let p : m * up e * metre ≡ m * up e * c * down e = ap (λ (x : ℕ). m * up e * x) (metre-down e h .1) ∙ sym (mul-assoc (m * up e) c (down e)) in
+    let p : m * up e * metre ≡ m * up e * c * down e =
+    ap (λ (x : ℕ). m * up e * x) (metre-down e h .1) ∙ sym (mul-assoc (m * up e) c (down e)) in
     p ∙ ap (λ (x : ℕ). x * down e) (sym (mag-is m e (m * up e * c) p))
 
 -- a zero that fits has the exponent 0
@@ -116,8 +120,11 @@ has-value {x = fin s (suc m) e} h =
     let odd : Bool = eqb (suc m % 2) 1 in
     let short : Bool = ltb (suc m) (2 ^ 24) in
     let fine : Bool = leb (down e) (2 ^ 149) in
-    let low : Bool = ltb (suc m * up e) (2 ^ 128 * down e) in
-    (refl, whole-units (suc m) e (leb→le (down e) (2 ^ 149) (and-r (odd && short) fine (and-l (odd && short && fine) low (h .in-format)))))
+    let low : Bool = ltb (suc m * up e) (2 ^ 128 * down e) in (
+      refl,
+      whole-units (suc m) e (leb→le (down e) (2 ^ 149)
+          (and-r (odd && short) fine (and-l (odd && short && fine) low (h .in-format)))),
+    )
 
 -- a finite number of the format, as m 2^e
 pub data AsFin : Float → Type 0 where

@@ -84,7 +84,8 @@ root-of-one : SqrtLaw one32 (sqrt binary32 one32)
 root-of-one = root-of-positive one-f32 one-pos
 
 reciprocal-of-one : Reciprocal (div binary32 one32 one32) one32
-reciprocal-of-one = reciprocal-near one-f32 (rw one-mag (at-least (2 ^ 127) (lit≤ tt))) (rw one-mag (at-least (2 ^ 126) (lit≤ tt)))
+reciprocal-of-one = reciprocal-near one-f32 (rw one-mag (at-least (2 ^ 127) (lit≤ tt)))
+    (rw one-mag (at-least (2 ^ 126) (lit≤ tt)))
   where
     at-least : (n : ℕ) → 1 ≤ n → metre ≤ n * metre
     at-least n h = le-trans (le-of-eq (sym (one-mul metre))) (mul-le-mul-right metre h)
@@ -93,7 +94,8 @@ reciprocal-of-one = reciprocal-near one-f32 (rw one-mag (at-least (2 ^ 127) (lit
 minus-one-product : Opposite (val (neg one32)) (val one32)
 minus-one-product =
     product-negative (neg-f32 one-f32) one-f32
-    (let z = minus-one-mul-exact (neg-f32 one-f32) one-f32 (rw (val-neg one32, one-val) refl) .is in let p = one-pos in omega arith)
+    (let z = minus-one-mul-exact (neg-f32 one-f32) one-f32
+    (rw (val-neg one32, one-val) refl) .is in let p = one-pos in omega arith)
 
 -- ---- F8
 half-quotient : InUnit (div binary32 half32 one32)
@@ -101,7 +103,8 @@ half-quotient = quotient-in-unit half-f32 one-f32 (inl (let p = half-pos in omeg
 
 -- ---- DOT
 one-product-abs : (h : ℕ) → 1 ≤ h → Abs (val one32 ⊠ val one32) (h * (metre * metre))
-one-product-abs h h-pos = rw one-val (let m : 1 * (metre * metre) ≤ h * (metre * metre) = mul-le-mul-right (metre * metre) h-pos in omega arith)
+one-product-abs h h-pos = rw one-val (let m : 1 * (metre * metre) ≤ h * (metre * metre) = mul-le-mul-right
+    (metre * metre) h-pos in omega arith)
 
 ones-dot-5 : DotNear (dot one32 one32 one32 one32) (val one32 ⊠ val one32 ⊞ val one32 ⊠ val one32) 5 32
 ones-dot-5 = dot-near-5 one-f32 one-f32 one-f32 one-f32 (one-product-abs 32 (lit≤ tt)) (one-product-abs 32 (lit≤ tt))
