@@ -1,13 +1,13 @@
 -- F3 against a number r of the format: an exact result of at most r rounds to at most r, one of at least r to at least r, and one
 -- between two such numbers to a finite result. One law for every rounding, then the four operations. Assumes nothing.
 use mathlib.Core.Path.{_≡_, refl, sym, ap, _∙_, subst}
-use Prim.Native.Nat.{ℕ, _*_, _^_, _≤_}
+use Prim.Native.Nat.{ℕ, _+_, _*_, _^_, _≤_}
 use native.Mathlib.Nat.{lt-of-le-of-lt}
 use native.Mathlib.Omega.{arith}
 use mathlib.Core.Bool.{Bool, true, false}
 use lib.Ieee.{Float, binary32, round, add, sub, mul, div}
 use Rattle.algebra.specs.Integer.{Z, whole, signed, _⊞_, _⊟_, _⊠_, _⊛_, _≐_, _≼_, _≺_}
-use Rattle.algebra.proofs.Integer.{le-resp, same-refl, same-sym, multiple-same, multiple-mono, multiple-of-multiple}
+use Rattle.algebra.proofs.Integer.{same-refl, multiple-mono, multiple-of-multiple}
 use Rattle.floats.specs.Value.{metre, F32, sign, mag, val}
 use Rattle.floats.proofs.Value.{metre-is, metre-pos, val-signed, positive-sign}
 use Rattle.floats.proofs.Digits.{digits, mag-high}
@@ -37,8 +37,8 @@ module _ {r : Float} (r-f32 : F32 r) where
   itself-f32 = rounds-f32 itself (rw (rounded-itself r-f32) (mag-high r-f32))
 
   itself-val : val (round binary32 (sign r) (mag r) metre) ≡ val r
-  itself-val = rounds-val itself itself-f32 ∙ ap (λ (g : ℕ). signed (sign r) g) (rounded-itself r-f32) ∙ sym
-      (val-signed r)
+  itself-val =
+      rounds-val itself itself-f32 ∙ ap (λ (g : ℕ). signed (sign r) g) (rounded-itself r-f32) ∙ sym (val-signed r)
 
 -- ---- one rounding
 module _ {z r : Float} {num : Z} {den : ℕ} (rounds : Rounds z num den) (r-f32 : F32 r) where
@@ -57,44 +57,24 @@ module _ {z r : Float} {num : Z} {den : ℕ} (rounds : Rounds z num den) (r-f32 
       (rw (rounded-itself r-f32) (mag-high r-f32)))
       (rw (rounded-itself r-f32) (mag-high r-f32)))
 
+-- a size against a lower bound, for a negative exact result v, and against an upper one
+low-size : (t : Bool) (g d w : ℕ) (v : Z) → signed true w ≐ v → d ⊛ signed t g ≼ metre ⊛ v → w * metre ≤ g * d
+low-size true g d w v e h = let m : metre * (0 + v .1) ≡ metre * (v .0 + w) = ap (λ (n : ℕ). metre * n) e in omega arith
+low-size false g d w v e h = let m : metre * (0 + v .1) ≡ metre * (v .0 + w) = ap (λ (n : ℕ). metre * n) e in omega arith
+
+high-size : (t : Bool) (g d w : ℕ) (v : Z) → signed false w ≐ v → metre ⊛ v ≼ d ⊛ signed t g → w * metre ≤ g * d
+high-size true g d w v e h = let m : metre * (w + v .1) ≡ metre * (v .0 + 0) = ap (λ (n : ℕ). metre * n) e in omega arith
+high-size false g d w v e h = let m : metre * (w + v .1) ≡ metre * (v .0 + 0) = ap (λ (n : ℕ). metre * n) e in omega arith
+
 pub rounds-finite : {z low high : Float} {num : Z} {den : ℕ} → Rounds z num den → F32 low → F32 high
     → den ⊛ val low ≼ metre ⊛ num → metre ⊛ num ≼ den ⊛ val high → F32 z
 rounds-finite {z} {low} {high} {num} {den} rounds low-f32 high-f32 above below =
-    by-sign (rounds .negative) (size-finite rounds low-f32) (size-finite rounds high-f32)
-    (from-low (rounds .negative) (rounds .size) (sign low) (mag low)
-    (rw val-signed at (le-resp (den ⊛ val low) (den ⊛ val low) (metre ⊛ num) (metre ⊛ v)
-    (same-refl (den ⊛ val low)) same above)))
-    (to-high (rounds .negative) (rounds .size) (sign high) (mag high)
-    (rw val-signed at (le-resp (metre ⊛ num) (metre ⊛ v) (den ⊛ val high) (den ⊛ val high) same
-    (same-refl (den ⊛ val high)) below)))
+    by-sign (rounds .negative) (rounds .size) (rounds .exact) (size-finite rounds low-f32) (size-finite rounds high-f32)
   where
-    v : Z
-    v = signed (rounds .negative) (rounds .size)
-
-    same : metre ⊛ num ≐ metre ⊛ v
-    same = multiple-same metre num v (same-sym v num (rounds .exact))
-
-    from-low : (s : Bool) (w : ℕ) (t : Bool) (g : ℕ) → den ⊛ signed t g ≼ metre ⊛ signed s w → s ≡ true
-        → w * metre ≤ g * den
-    from-low s w t g h e = at t (rw e at h)
-      where
-        at : (t : Bool) → den ⊛ signed t g ≼ metre ⊛ signed true w → w * metre ≤ g * den
-        at true h = omega arith
-        at false h = omega arith
-
-    to-high : (s : Bool) (w : ℕ) (t : Bool) (g : ℕ) → metre ⊛ signed s w ≼ den ⊛ signed t g → s ≡ false
-        → w * metre ≤ g * den
-    to-high s w t g h e = at t (rw e at h)
-      where
-        at : (t : Bool) → metre ⊛ signed false w ≼ den ⊛ signed t g → w * metre ≤ g * den
-        at true h = omega arith
-        at false h = omega arith
-
-    by-sign : (s : Bool) → (rounds .size * metre ≤ mag low * den → F32 z)
-        → (rounds .size * metre ≤ mag high * den → F32 z)
-        → (s ≡ true → rounds .size * metre ≤ mag low * den) → (s ≡ false → rounds .size * metre ≤ mag high * den) → F32 z
-    by-sign true of-low of-high low-le high-le = of-low (low-le refl)
-    by-sign false of-low of-high low-le high-le = of-high (high-le refl)
+    by-sign : (s : Bool) (w : ℕ) → signed s w ≐ num → (w * metre ≤ mag low * den → F32 z) → (w * metre ≤ mag high * den → F32 z)
+        → F32 z
+    by-sign true w e of-low of-high = of-low (low-size (sign low) (mag low) den w num e (rw val-signed at above))
+    by-sign false w e of-low of-high = of-high (high-size (sign high) (mag high) den w num e (rw val-signed at below))
 
 -- ---- the operations
 module _ {x y r : Float} (x-f32 : F32 x) (y-f32 : F32 y) (r-f32 : F32 r) where

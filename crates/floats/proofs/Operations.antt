@@ -40,7 +40,13 @@ module _ (a b c m n : ℕ) (a-is : a * metre ≡ m * c) (b-is : b * metre ≡ n 
 over-metre : (s : Bool) (w c size : ℕ) {num : Z} → 0 < c → w * metre ≡ size * c → signed s size ≐ num
     → Rounds (round binary32 s w c) num metre
 over-metre s w c size c-pos e exact =
-    record { negative = s; size = size; den-pos = metre-pos; is = round-same binary32 s w c size metre c-pos metre-pos e; exact = exact }
+    record {
+      negative = s;
+      size = size;
+      den-pos = metre-pos;
+      is = round-same binary32 s w c size metre c-pos metre-pos e;
+      exact = exact;
+    }
 
 -- signs that differ: the larger decides; less and more say whether a < b and b < a
 opposite-rounds : (s : Bool) (a b c m n : ℕ) (less more : Bool) → (T less → a < b) → (T (not less) → b ≤ a)
