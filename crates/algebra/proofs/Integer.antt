@@ -59,6 +59,16 @@ sign-cases a = elim (decLt (a .1) (a .0)) [
   | no not-above ↦ elim (decLt (a .0) (a .1)) [ yes below ↦ inr (inr (omega arith)) | no not-below ↦ inr (inl (omega arith)) ]
 ]
 
+pub lt-trans : (a b c : Z) → a ≺ b → b ≺ c → a ≺ c
+lt-trans a b c h k = omega arith
+
+-- two numbers: the one is below, the same, or above
+pub compare-cases : (a b : Z) → (a ≺ b) ⊎ ((a ≐ b) ⊎ (b ≺ a))
+compare-cases a b = elim (decLt (a .0 + b .1) (b .0 + a .1)) [
+  | yes below ↦ inl below
+  | no not-below ↦ elim (decLt (b .0 + a .1) (a .0 + b .1)) [ yes above ↦ inr (inr above) | no not-above ↦ inr (inl (omega arith)) ]
+]
+
 -- two numbers: the one is at most the other, or above it
 pub order-cases : (a b : Z) → (a ≼ b) ⊎ (b ≺ a)
 order-cases a b = elim (decLt (b .0 + a .1) (a .0 + b .1)) [ yes above ↦ inr above | no not-above ↦ inl (omega arith) ]

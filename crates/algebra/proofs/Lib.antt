@@ -1,4 +1,5 @@
 pub mod Integer
+pub mod Signs
 pub mod Magnitude
 pub mod Products
 pub mod Squares

@@ -1,6 +1,6 @@
 -- Lists without repeats and their places: a list without repeats whose elements all lie in another is no longer than it (the
 -- pigeonhole), an element that is not there may be added at the end, and each place holds an element of its own. Assumes nothing.
-use mathlib.Core.Path.{_≡_, refl, sym, ap, _∙_}
+use mathlib.Core.Path.{_≡_, refl, sym, ap, _∙_, subst}
 use mathlib.Core.List.{
   List,
   [],
@@ -12,12 +12,14 @@ use mathlib.Core.List.{
   List·Memᴰ·append-cases,
   List·Memᴰ·eq-of-singleton,
   Memᴰ·cast,
+  Memᴰ·append-left,
+  Memᴰ·append-right,
 }
 use mathlib.Core.List as L
 use mathlib.Core.Logic.{_⊎_, inl, inr}
 use Prim.Native.Nat.{ℕ, zero, suc, _≤_, _<_, zero-le}
 use native.Mathlib.Omega.{arith}
-use lib.ListN.{length, getD}
+use lib.ListN.{length, getD, take, drop, set, take-append-drop}
 use Rattle.algebra.specs.Lists.{Once}
 
 module _ {A : Type 0} where
@@ -83,3 +85,31 @@ module _ {A : Type 0} where
   once-place (a ∷ l) d once zero (suc j) i<n j<n e = absurd (once .0 (Memᴰ·cast e (getD-mem l j d (omega arith))))
   once-place (a ∷ l) d once (suc i) zero i<n j<n e = absurd (once .0 (Memᴰ·cast (sym e) (getD-mem l i d (omega arith))))
   once-place (a ∷ l) d once (suc i) (suc j) i<n j<n e = ap suc (once-place l d (once .1) i j (omega arith) (omega arith) e)
+
+  -- what holds at every place holds of every element
+  pub all-of-places : (P : A → Type 0) (l : List A) (d : A) → ((i : ℕ) → i < length l → P (getD l i d)) → (a : A) → List·Memᴰ a l → P a
+  all-of-places P l d at a m = let h = place-of-mem l a d m in subst P (h .2) (at (h .0) (h .1))
+
+  -- ---- elements of a part, and after a store
+  pub mem-of-take : (n : ℕ) (l : List A) (a : A) → List·Memᴰ a (take n l) → List·Memᴰ a l
+  mem-of-take n l a m = subst (List·Memᴰ a) (take-append-drop n l) (Memᴰ·append-left (drop n l) m)
+
+  pub mem-of-drop : (n : ℕ) (l : List A) (a : A) → List·Memᴰ a (drop n l) → List·Memᴰ a l
+  mem-of-drop n l a m = subst (List·Memᴰ a) (take-append-drop n l) (Memᴰ·append-right (take n l) m)
+
+  pub mem-set-cases : (l : List A) (i : ℕ) (a b : A) → List·Memᴰ a (set l i b) → (a ≡ b) ⊎ List·Memᴰ a l
+  mem-set-cases [] i a b m = inr m
+  mem-set-cases (c ∷ l) zero a b m = go (List·Memᴰ·cases-cons m)
+    where
+      go : (a ≡ b) ⊎ List·Memᴰ a l → (a ≡ b) ⊎ List·Memᴰ a (c ∷ l)
+      go (inl e) = inl e
+      go (inr k) = inr (L.List·Memᴰ·tail k)
+  mem-set-cases (c ∷ l) (suc i) a b m = go (mem-set-cases l i a b) (List·Memᴰ·cases-cons m)
+    where
+      later : (a ≡ b) ⊎ List·Memᴰ a l → (a ≡ b) ⊎ List·Memᴰ a (c ∷ l)
+      later (inl e) = inl e
+      later (inr k) = inr (L.List·Memᴰ·tail k)
+
+      go : (List·Memᴰ a (set l i b) → (a ≡ b) ⊎ List·Memᴰ a l) → (a ≡ c) ⊎ List·Memᴰ a (set l i b) → (a ≡ b) ⊎ List·Memᴰ a (c ∷ l)
+      go ih (inl e) = inr (L.List·Memᴰ·head e)
+      go ih (inr k) = later (ih k)

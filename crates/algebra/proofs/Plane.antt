@@ -1,8 +1,8 @@
 -- Identities of cross and dot products, each by `ring`: Lagrange's, the one that orders directions in a half plane (three-crosses),
 -- and those that move an orientation from one corner of a triangle to another. Assumes nothing.
 use mathlib.Core.List.{List, [], _∷_}
-use Rattle.algebra.specs.Integer.{Z, _⊞_, _⊠_, opp, _≐_}
-use Rattle.algebra.specs.Polynomial.{Expr, var, neg, _:+_, _:-_, _:*_}
+use Rattle.algebra.specs.Integer.{Z, whole, _⊞_, _⊠_, opp, _≐_}
+use Rattle.algebra.specs.Polynomial.{Expr, var, num, neg, _:+_, _:-_, _:*_}
 use Rattle.algebra.specs.Plane.{Point, from-to, cross, dot, orient}
 use Rattle.algebra.proofs.Ring.{ring}
 
@@ -76,7 +76,23 @@ module _ (p q r : Point) where
   pub orientation-reversed : orient p q r ≐ opp (orient p r q)
   orientation-reversed = ring (orient-expr point₀ point₁ point₂) (neg (orient-expr point₀ point₂ point₁)) three tt
 
+  pub orientation-back : orient q p r ≐ opp (orient p q r)
+  orientation-back = ring (orient-expr point₁ point₀ point₂) (neg (orient-expr point₀ point₁ point₂)) three tt
+
+  pub orientation-swapped : orient r q p ≐ opp (orient p q r)
+  orientation-swapped = ring (orient-expr point₂ point₁ point₀) (neg (orient-expr point₀ point₁ point₂)) three tt
+
   -- measured from the second point
   pub orientation-from-end : orient p q r ≐ cross (from-to p q) (from-to q r)
   orientation-from-end =
       ring (orient-expr point₀ point₁ point₂) (cross-expr (from-to-expr point₀ point₁) (from-to-expr point₁ point₂)) three tt
+
+-- two of the three equal: 0
+pub orient-first-twice : (p r : Point) → orient p p r ≐ whole 0
+orient-first-twice p r = ring (orient-expr point₀ point₀ point₁) (num 0) (coordinates (p ∷ r ∷ [])) tt
+
+pub orient-begin : (p q : Point) → orient p q p ≐ whole 0
+orient-begin p q = ring (orient-expr point₀ point₁ point₀) (num 0) (coordinates (p ∷ q ∷ [])) tt
+
+pub orient-end : (p q : Point) → orient p q q ≐ whole 0
+orient-end p q = ring (orient-expr point₀ point₁ point₁) (num 0) (coordinates (p ∷ q ∷ [])) tt

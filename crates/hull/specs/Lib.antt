@@ -1,0 +1,4 @@
+pub mod Hull
+pub mod Loops
+pub mod Outline
+pub mod Places

@@ -1,0 +1,89 @@
+-- The outline builder on points with whole coordinates, step by step as document 01, "Outlines", has it: weld, start at the largest x,
+-- smallest y among equals, walk; refusals 3 and 4 in that order. On grid numbers the f32 builder takes the same steps. Definitions only.
+use mathlib.Core.Path.{_≡_}
+use mathlib.Core.List.{List, [], _∷_}
+use mathlib.Core.Logic.{_⊎_}
+use mathlib.Core.Bool.{Bool, _&&_, _||_}
+use mathlib.Core.Option.{Option, none, some}
+use Prim.Native.Nat.{ℕ}
+use Rattle.algebra.specs.Integer.{whole, _≐?_, _≺?_}
+use Rattle.algebra.specs.Plane.{Point, from-to, dot, orient}
+use Rattle.hull.specs.Hull.{IsHull, ThreeDifferent}
+use Rattle.hull.specs.Loops.{weld, search, walk}
+
+-- equal by value
+abbrev pub same-point : Point → Point → Bool
+same-point p q = (p .x ≐? q .x) && (p .y ≐? q .y)
+
+-- the start: j replaces e where its x is larger, or its x is equal and its y smaller
+abbrev pub starts-before : Point → Point → Bool
+starts-before e j = (e .x ≺? j .x) || ((j .x ≐? e .x) && (j .y ≺? e .y))
+
+-- the corner after p: j replaces e where the cross product is below 0, or equals 0 and j is farther; and unseen where e is p itself
+abbrev pub farther : Point → Point → Point → Bool
+farther p e j = dot (from-to p e) (from-to p e) ≺? dot (from-to p j) (from-to p j)
+
+abbrev pub wraps-closer : Point → Point → Point → Bool
+wraps-closer p e j = (orient p e j ≺? whole 0) || ((orient p e j ≐? whole 0) && farther p e j)
+
+abbrev pub replaces : Point → Point → Point → Bool
+replaces p e j = same-point e p || wraps-closer p e j
+
+abbrev pub next-corner : Point → List Point → Point → Point
+next-corner e js p = search (replaces p) e js
+
+abbrev pub start : Point → List Point → Point
+start e js = search starts-before e js
+
+-- the walk around the points e ∷ js
+abbrev pub wrap : ℕ → Point → List Point → Option (List Point)
+wrap fuel e js = walk same-point (next-corner e js) (start e js) fuel (start e js)
+
+-- ---- the answer
+pub data Answer : Type 0 where
+  refusal : ℕ → Answer
+  corners : List Point → Answer
+
+-- 4: not back, or back with fewer than three corners
+abbrev pub closed : Option (List Point) → Answer
+closed none = refusal 4
+closed (some []) = refusal 4
+closed (some (a ∷ [])) = refusal 4
+closed (some (a ∷ b ∷ [])) = refusal 4
+closed (some (a ∷ b ∷ c ∷ row)) = corners (a ∷ b ∷ c ∷ row)
+
+-- 3: fewer than three points after welding
+abbrev pub wrapped : ℕ → List Point → Answer
+wrapped fuel [] = refusal 3
+wrapped fuel (a ∷ []) = refusal 3
+wrapped fuel (a ∷ b ∷ []) = refusal 3
+wrapped fuel (a ∷ b ∷ c ∷ kept) = closed (wrap fuel a (b ∷ c ∷ kept))
+
+-- with at most `fuel` corners
+abbrev pub outline-within : ℕ → List Point → Answer
+outline-within fuel l = wrapped fuel (weld same-point [] l)
+
+-- the builder's own limit
+abbrev pub most-corners : ℕ
+most-corners = 8
+
+abbrev pub outline : List Point → Answer
+outline l = outline-within most-corners l
+
+-- ---- the two outcomes: see proofs/Theorem
+-- the list is accepted, and the built corners are its exact hull, in that order
+pub record AcceptedWithin (fuel : ℕ) (l : List Point) : Type 0 where
+  pub first : Point
+  pub rest : List Point
+  pub is : outline-within fuel l ≡ corners (first ∷ rest)
+  pub hull : IsHull l first rest
+
+abbrev pub Accepted : List Point → Type 0
+Accepted l = AcceptedWithin most-corners l
+
+-- the list is turned down: with 3 where it has no three different points, with 4 where it has
+abbrev pub TurnedDownWithin : ℕ → List Point → Type 0
+TurnedDownWithin fuel l = ((¬ ThreeDifferent l) × (outline-within fuel l ≡ refusal 3)) ⊎ (ThreeDifferent l × (outline-within fuel l ≡ refusal 4))
+
+abbrev pub TurnedDown : List Point → Type 0
+TurnedDown l = TurnedDownWithin most-corners l
