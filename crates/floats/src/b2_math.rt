@@ -34,7 +34,7 @@ pub struct B2Transform {
     pub q: B2Rot,
 }
 
-// The square root, correctly rounded. Patterns from 2^23 to 255 * 2^23 are the normal numbers; from 2^31 on the sign is set.
+// The square root, correctly rounded, by the kind of the operand: NaN, normal, below 0, infinity or -0, +0, subnormal.
 pub fn b2_sqrt(x: f32) -> f32
     ensures { λ r. ⌜ r ≡ b2-sqrt x ⌝ }
 {
@@ -42,11 +42,11 @@ pub fn b2_sqrt(x: f32) -> f32
         return x;
     }
     let b = f32::to_bits(x) as u64;
-    if b >= 8388608 {
-        if b < 2139095040 {
+    if b >= root::LEADING {
+        if b < root::INFINITE {
             return root::normal_root(b);
         }
-        if b > 2147483648 {
+        if b > root::SIGN {
             return 0.0 / 0.0;
         }
         return x;

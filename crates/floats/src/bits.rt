@@ -2,11 +2,16 @@
 ghost use mathlib.Core.Path.{_≡_};
 ghost use lib.Ieee.{binary32, ofBits, toBits, nanBits};
 
+// 2^23, what the exponent counts, and 2^31, the sign.
+const LEADING: u32 = 8388608;
+
+const SIGN: u32 = 2147483648;
+
 // Whether n is the pattern of a NaN: the exponent all ones, and some digit.
 pub fn is_nan_bits(n: u32) -> bool
     ensures { λ r. ⌜ r ≡ nanBits binary32 n ⌝ }
 {
-    n % 2147483648 / 8388608 == 255 && n % 8388608 != 0
+    n % SIGN / LEADING == 255 && n % LEADING != 0
 }
 
 // The f32 of any pattern.

@@ -6,8 +6,14 @@ ghost use lib.Ieee.{binary32, ofBits};
 ghost use Rattle.floats.specs.Sqrt.{rounded-root, sqrt};
 ghost use Rattle.floats.specs.Root.{NearestRoot};
 
-// 2^23: the first digit of a significand, and what a pattern's exponent counts.
+// Bit patterns. 2^23, the first digit of a significand, is what the exponent counts: from there on numbers are normal.
 pub const LEADING: u64 = 8388608;
+
+// 255 * 2^23: infinity.
+pub const INFINITE: u64 = 2139095040;
+
+// 2^31: -0.
+pub const SIGN: u64 = 2147483648;
 
 // √n to the nearest whole number, by halving an interval.
 fn bisected_root(n: u64) -> u64
@@ -40,7 +46,7 @@ fn nearest_root(n: u64, r: u64) -> u64
     bisected_root(n)
 }
 
-// About √u, for u from 1 to 2: off by less than 1 in 80,000.
+// About √u, for u from 1 to 2: off by less than 1 in 100,000.
 fn approximate_root(u: f64) -> f64 {
     let u2 = u * u;
     let low = 0.3239538318660443 + 0.9197118811443168 * u;
