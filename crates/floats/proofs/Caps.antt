@@ -8,6 +8,7 @@ use lib.Pow.{pow-pos}
 use lib.Ieee.{Float, binary32, add, sub, mul, div}
 use Rattle.algebra.specs.Integer.{Z, _⊞_, _⊟_, _⊠_, Abs}
 use Rattle.algebra.proofs.Magnitude.{abs-product, abs-widen}
+use lib.Ieee.Scale.{overflow}
 use Rattle.floats.specs.Value.{metre, F32, sign, mag, val}
 use Rattle.floats.proofs.Value.{metre-is, abs-mag}
 use Rattle.floats.proofs.Rounding.{rounded}
@@ -30,7 +31,7 @@ rounds-cap h n {z} {num} {den} h-low r num-abs n-low =
     let le : rounded (r .size) den ≤ h * 2 ^ 149 =
     le-trans (rounded-mono (r .size) den h (2 ^ 0) (r .den-pos) (pow-pos 0)
     (le-trans (le-of-eq (mul-one (r .size))) (le-trans (size-le r n num-abs) n-low))
-    (subst (λ (g : ℕ). g < 2 ^ 277) (sym is-h) high)) (le-of-eq is-h) in
+    (subst (λ (g : ℕ). g < overflow binary32) (sym is-h) high)) (le-of-eq is-h) in
     let own = rounds-f32 r (lt-of-le-of-lt le high) in
     record {
       own = own;

@@ -8,9 +8,10 @@ use mathlib.Core.Bool.{Bool, _&&_}
 use lib.IntN.{ℤ, pos, negsuc}
 use lib.Dec.{leb, ltb, eqb, leb→le, ltb→lt, lit<, lit≤}
 use lib.Pow.{pow-add, pow-pos, pow-mono}
-use lib.Ieee.{Float, nan, inf, fin, up, down, fits}
+use lib.Ieee.{Float, binary32, nan, inf, fin, up, down, fits}
 use lib.Ieee.Digits.{back}
 use lib.Ieee.Fits.{and-l, and-r}
+use lib.Ieee.Scale.{overflow}
 use Rattle.floats.specs.Value.{metre, F32, mag}
 use Rattle.floats.proofs.Value.{metre-is, has-value, mag-zero, exponent-le}
 
@@ -18,7 +19,7 @@ pub record Digits (x : Float) : Type 0 where
   pub q : ℕ
   pub j : ℕ
   pub small : q < 2 ^ 24
-  pub high : q * 2 ^ j < 2 ^ 277
+  pub high : q * 2 ^ j < overflow binary32
   pub is : mag x ≡ q * 2 ^ j
 
 -- m 2^e, of at most 24 digits and at least 2^-149 in its last one
@@ -69,5 +70,5 @@ digits {x = fin s (suc m) e} h =
     (ltb→lt (suc m * up e) (2 ^ 128 * down e) (and-r (odd && short && fine) low (h .in-format)))
 
 -- below 2^128 m
-pub mag-high : {x : Float} → F32 x → mag x < 2 ^ 277
+pub mag-high : {x : Float} → F32 x → mag x < overflow binary32
 mag-high h = let d = digits h in rw (d .is) (d .high)

@@ -16,6 +16,7 @@ use Rattle.algebra.proofs.Integer.{multiple-mono-lt, multiple-cancel, multiple-
 use Rattle.algebra.proofs.Integer.{product-of-multiples, multiple-of-multiple}
 use Rattle.algebra.proofs.Magnitude.{Sized, sized, sized-abs}
 use Rattle.algebra.proofs.Products.{product-same}
+use lib.Ieee.Scale.{overflow}
 use Rattle.floats.specs.Value.{metre, F32, val}
 use Rattle.floats.proofs.Value.{metre-is, metre-pos, val-neg, neg-f32}
 use Rattle.floats.proofs.Rounding.{rounded, rounded-exact}
@@ -46,7 +47,7 @@ rounded-dyadic q t q-low t-low =
           rounded-exact q (2 ^ t) q j (pow-pos t) below (ap (λ (n : ℕ). q * n) split ∙ sym (mul-assoc q (2 ^ j) (2 ^ t)))
     ]
 
-pub dyadic-finite : (q t : ℕ) → q ≤ 2 ^ 24 → q * 2 ^ (149 - t) < 2 ^ 277
+pub dyadic-finite : (q t : ℕ) → q ≤ 2 ^ 24 → q * 2 ^ (149 - t) < overflow binary32
 dyadic-finite q t h =
     lt-of-le-of-lt (mul-le-mul h (pow-mono {i = 149 - t} {j = 149} (sub-le 149 t))) (lit< tt)
   where
@@ -68,7 +69,7 @@ dyadic-float c t t-low c-abs =
     let rounds : Rounds x c (2 ^ t) =
     record { negative = s; size = q; den-pos = pow-pos t; is = refl; exact = size .is } in
     let is-rounded = rounded-dyadic q t q-low t-le in
-    let own : F32 x = rounds-f32 rounds (subst (λ (n : ℕ). n < 2 ^ 277) (sym is-rounded) (dyadic-finite q t q-low)) in
+    let own : F32 x = rounds-f32 rounds (subst (λ (n : ℕ). n < overflow binary32) (sym is-rounded) (dyadic-finite q t q-low)) in
     let x-val : val x ≡ signed s (q * 2 ^ (149 - t)) = rounds-val rounds own ∙ ap (λ (n : ℕ). signed s n) is-rounded in
     record {
       number = x;

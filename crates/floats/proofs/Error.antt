@@ -8,10 +8,11 @@ use native.Mathlib.Nat.{mul-lt-mul-of-pos-right, eq-or-lt-of-le}
 use native.Mathlib.Omega.{arith}
 use lib.Dec.{lit<}
 use lib.Pow.{pow-add, pow-pos, pow-mono, pow-lt}
-use lib.Ieee.Order.{drop}
+use lib.Ieee.{binary32}
+use lib.Ieee.Scale.{overflow}
 use Rattle.floats.specs.Value.{metre, tick}
 use Rattle.floats.proofs.Value.{metre-is}
-use Rattle.floats.proofs.Rounding.{rounded, rounded-near, rounded-exact, rounded-high, drop-le, digit-small}
+use Rattle.floats.proofs.Rounding.{dropped, rounded, rounded-near, rounded-exact, rounded-high, drop-le, digit-small}
 
 -- |a - b| ≤ e
 abbrev pub Apart : ℕ → ℕ → ℕ → Type 0
@@ -22,17 +23,17 @@ in-metres num = ap (λ (x : ℕ). num * x) (sym metre-is)
 
 -- half a last digit
 half-digit : (num den : ℕ) → 0 < den
-    → Apart (2 * (rounded num den * den)) (2 * (num * metre)) (den * 2 ^ drop 24 (num * 2 ^ 149) den)
+    → Apart (2 * (rounded num den * den)) (2 * (num * metre)) (den * 2 ^ dropped num den)
 half-digit num den den-pos =
-    subst (λ (n : ℕ). Apart (2 * (rounded num den * den)) (2 * n) (den * 2 ^ drop 24 (num * 2 ^ 149) den))
+    subst (λ (n : ℕ). Apart (2 * (rounded num den * den)) (2 * n) (den * 2 ^ dropped num den))
     (in-metres num) (rounded-near num den den-pos)
 
 -- ---- at most 2^k m
 below-power : (num den k : ℕ) → num < 2 ^ k * den → num * 2 ^ 149 < 2 ^ (24 + (125 + k)) * den
 below-power num den k h =
     lt-of-lt-of-le (mul-lt-mul-of-pos-right h (pow-pos 149))
-    (le-of-eq (mul-right-comm (2 ^ k) den (2 ^ 149) ∙ ap (λ (x : ℕ). x * den)
-    (sym (pow-add 2 k 149) ∙ ap (λ (x : ℕ). 2 ^ x) (sum k))))
+    (le-of-eq (mul-right-comm (2 ^ k) den (2 ^ 149)
+    ∙ ap (λ (x : ℕ). x * den) (sym (pow-add 2 k 149) ∙ ap (λ (x : ℕ). 2 ^ x) (sum k))))
   where
     sum : (k : ℕ) → k + 149 ≡ 24 + (125 + k)
     sum k = omega arith
@@ -49,10 +50,10 @@ rounded-at-power num den k den-pos e =
     back : (p q : ℕ) → q ≡ p * metre → 1 * q ≡ p * metre
     back p q h = omega arith
 
-pub rounded-low : (num den k : ℕ) → 0 < den → k ≤ 127 → num ≤ 2 ^ k * den → rounded num den < 2 ^ 277
+pub rounded-low : (num den k : ℕ) → 0 < den → k ≤ 127 → num ≤ 2 ^ k * den → rounded num den < overflow binary32
 rounded-low num den k den-pos k-low h = elim (eq-or-lt-of-le h) [
   | inl at ↦ rw (rounded-at-power num den k den-pos at)
-      (rw metre-is (subst (λ (x : ℕ). x < 2 ^ 277) (pow-add 2 k 149) (pow-lt (room k k-low))))
+      (rw metre-is (subst (λ (x : ℕ). x < overflow binary32) (pow-add 2 k 149) (pow-lt (room k k-low))))
   | inr lt ↦ rounded-high num den (125 + k) den-pos (below-power num den k lt) (room' k k-low)
 ]
   where
@@ -75,7 +76,7 @@ pub rounded-absolute : (num den k : ℕ) → 0 < den → num ≤ 2 ^ k * den
 rounded-absolute num den k den-pos h = elim (eq-or-lt-of-le h) [
   | inl at ↦ level (rounded num den) (2 ^ k) (rounded-at-power num den k den-pos at) at
   | inr lt ↦
-      halve (2 ^ drop 24 (num * 2 ^ 149) den) (2 ^ k * tick) (half-digit num den den-pos)
+      halve (2 ^ dropped num den) (2 ^ k * tick) (half-digit num den den-pos)
       (le-trans (pow-mono (drop-le num den (125 + k) den-pos (below-power num den k lt))) (le-of-eq (two-ticks k)))
 ]
   where
@@ -105,10 +106,10 @@ scaled a b d n h k = omega arith
 pub rounded-mixed : (num den : ℕ) → 0 < den
     → Apart (2 ^ 24 * (rounded num den * den)) (2 ^ 24 * (num * metre)) (num * metre + 2 ^ 23 * den)
 rounded-mixed num den den-pos =
-    let d = den * 2 ^ drop 24 (num * 2 ^ 149) den in
+    let d = den * 2 ^ dropped num den in
     scaled (rounded num den * den) (num * metre) d (num * metre + 2 ^ 23 * den) (half-digit num den den-pos)
     (elim (digit-small num den den-pos) [
-      | inl none ↦ le-trans (le-of-eq (one-unit den (drop 24 (num * 2 ^ 149) den) none))
+      | inl none ↦ le-trans (le-of-eq (one-unit den (dropped num den) none))
           (le-right (num * metre) (2 ^ 23 * den))
       | inr small ↦ le-trans small (le-trans (le-of-eq (in-metres num)) (le-left (num * metre) (2 ^ 23 * den)))
     ])
@@ -116,9 +117,9 @@ rounded-mixed num den den-pos =
 pub rounded-relative : (num den : ℕ) → 0 < den → 2 ^ 23 * den ≤ num * metre
     → Apart (2 ^ 24 * (rounded num den * den)) (2 ^ 24 * (num * metre)) (num * metre)
 rounded-relative num den den-pos normal =
-    let d = den * 2 ^ drop 24 (num * 2 ^ 149) den in
+    let d = den * 2 ^ dropped num den in
     scaled (rounded num den * den) (num * metre) d (num * metre) (half-digit num den den-pos)
     (elim (digit-small num den den-pos) [
-      | inl none ↦ le-trans (le-of-eq (one-unit den (drop 24 (num * 2 ^ 149) den) none)) normal
+      | inl none ↦ le-trans (le-of-eq (one-unit den (dropped num den) none)) normal
       | inr small ↦ le-trans small (le-of-eq (in-metres num))
     ])

@@ -9,22 +9,23 @@ use mathlib.Core.Bool.{Bool, true, false, cond}
 use lib.Dec.{T, ltb, ltb→lt, lit<}
 use lib.Ieee.{Float, inf, binary32, odd, units, round, add, sub, mul, div, le}
 use lib.Ieee.Fits.{round-is}
-use lib.Ieee.Order.{drop, kept, round-mono}
+use lib.Ieee.Order.{round-mono}
 use Rattle.algebra.specs.Integer.{Z, whole, signed, _⊞_, _⊟_, _⊠_, _⊛_, _≼_, _≺_}
 use Rattle.algebra.proofs.Integer.{le-resp, same-sym, multiple-same, multiple-mono}
+use lib.Ieee.Scale.{overflow}
 use Rattle.floats.specs.Value.{metre, F32, mag, val}
 use Rattle.floats.proofs.Value.{positive-sign, val-of-value, AsFin, as-fin, f32-as-fin}
-use Rattle.floats.proofs.Rounding.{rounded, rounded-exact, round-f32, round-value}
+use Rattle.floats.proofs.Rounding.{dropped, kept-digits, rounded, rounded-exact, round-f32, round-value}
 use Rattle.floats.proofs.Operations.{Rounds, add-rounds, sub-rounds, mul-rounds, div-rounds}
 use Rattle.floats.proofs.Comparison.{le-val}
 use Rattle.floats.proofs.Rounds.{f32-rounded, rounds-val}
 
 -- ---- sizes
-units-infinite : (q k : ℕ) → 2 ^ 277 ≤ q * 2 ^ k → units binary32 false q k ≡ inf false
+units-infinite : (q k : ℕ) → overflow binary32 ≤ q * 2 ^ k → units binary32 false q k ≡ inf false
 unfolding units
-units-infinite q k h = by-test (ltb (q * 2 ^ k) (2 ^ 277)) (ltb→lt (q * 2 ^ k) (2 ^ 277))
+units-infinite q k h = by-test (ltb (q * 2 ^ k) (overflow binary32)) (ltb→lt (q * 2 ^ k) (overflow binary32))
   where
-    by-test : (b : Bool) → (T b → q * 2 ^ k < 2 ^ 277) → cond b (odd 25 false q k 149) (inf false) ≡ inf false
+    by-test : (b : Bool) → (T b → q * 2 ^ k < overflow binary32) → cond b (odd 25 false q k 149) (inf false) ≡ inf false
     by-test true below = absurd (not-le-of-lt (below tt) h)
     by-test false below = refl
 
@@ -32,15 +33,15 @@ infinity-not-le : {y : Float} → AsFin y → T (le (inf false) y) → ⊥
 unfolding le
 infinity-not-le (as-fin s m e is) h = h
 
-pub rounded-mono : (a b c d : ℕ) → 0 < b → 0 < d → a * d ≤ c * b → rounded c d < 2 ^ 277 → rounded a b ≤ rounded c d
+pub rounded-mono : (a b c d : ℕ) → 0 < b → 0 < d → a * d ≤ c * b → rounded c d < overflow binary32 → rounded a b ≤ rounded c d
 rounded-mono a b c d b-pos d-pos h high =
     let le-rounds = round-mono binary32 a b c d b-pos d-pos h in
     let right = round-f32 false c d high in
-    elim (decLe (2 ^ 277) (rounded a b)) [
+    elim (decLe (overflow binary32) (rounded a b)) [
       | yes over ↦ absurd
           (infinity-not-le (f32-as-fin right) (subst (λ (x : Float). T (le x (round binary32 false c d)))
-          (round-is binary32 false a b ∙ units-infinite (kept 24 (a * 2 ^ 149) b)
-          (drop 24 (a * 2 ^ 149) b) over) le-rounds))
+          (round-is binary32 false a b ∙ units-infinite (kept-digits a b)
+          (dropped a b) over) le-rounds))
       | no not-over ↦
           let low = lt-of-not-le not-over in
           positive (rounded a b) (rounded c d) (val (round binary32 false a b)) (val (round binary32 false c d))
@@ -56,7 +57,7 @@ rounded-zero : (den : ℕ) → 0 < den → rounded 0 den ≡ 0
 rounded-zero den den-pos = rounded-exact 0 den 0 0 den-pos (lit< tt) (sym (zero-mul den))
 
 -- ---- one rounding: num / den ≤ num' / den'
-signed-mono : (s t : Bool) (w d w' d' : ℕ) → 0 < d → 0 < d' → rounded w d < 2 ^ 277 → rounded w' d' < 2 ^ 277
+signed-mono : (s t : Bool) (w d w' d' : ℕ) → 0 < d → 0 < d' → rounded w d < overflow binary32 → rounded w' d' < overflow binary32
     → d' ⊛ signed s w ≼ d ⊛ signed t w' → signed s (rounded w d) ≼ signed t (rounded w' d')
 signed-mono false false w d w' d' d-pos d'-pos low low' h = let l =
     rounded-mono w d w' d' d-pos d'-pos (omega arith) low' in omega arith

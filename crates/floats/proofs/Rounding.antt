@@ -18,7 +18,7 @@ use lib.Ieee.Fits.{nearest-le, kept-lt, round-is, round-fits}
 use lib.Ieee.Exact.{HasValue, units-val}
 use lib.Ieee.Nearest.{closest}
 use lib.Ieee.Order.{drop, kept}
-use lib.Ieee.Scale.{grid, finite}
+use lib.Ieee.Scale.{overflow, finite}
 use Rattle.floats.specs.Value.{metre, F32}
 use Rattle.floats.proofs.Value.{metre-is, f32-of-value}
 use Rattle.floats.proofs.Compared.{Compared, compared}
@@ -40,8 +40,8 @@ nearest-near Ordering·eq q r a b e l c = tie (q % 2) (parity q)
 nearest-near Ordering·gt q r a b e l c = omega arith
 
 closest-near : (a b : ℕ) → 0 < b → Nearest (closest a b) a b
-closest-near a b b-pos = nearest-near (compare (a % b * 2) b) (a / b) (a % b) a b (div-add-mod' a b) (mod-lt a b-pos)
-    (compared (a % b * 2) b)
+closest-near a b b-pos =
+    nearest-near (compare (a % b * 2) b) (a / b) (a % b) a b (div-add-mod' a b) (mod-lt a b-pos) (compared (a % b * 2) b)
 
 -- 0 where a / b is below 1/2; else b / 2 is at most a
 closest-double : (a b : ℕ) → 0 < b → closest a b * b ≤ 2 * a
@@ -59,34 +59,40 @@ closest-exact a b r b-pos e =
     let under : 2 * r ≤ 2 * closest a b + 1 = le-of-mul-le-mul-right {k = b} (omega arith) b-pos in
     omega arith
 
--- ---- the rounded size, in units
+-- ---- the rounded size, in units: how many digits are dropped, what is kept, and both
+abbrev pub dropped : ℕ → ℕ → ℕ
+dropped num den = drop 24 (num * 2 ^ 149) den
+
+abbrev pub kept-digits : ℕ → ℕ → ℕ
+kept-digits num den = kept 24 (num * 2 ^ 149) den
+
 abbrev pub rounded : ℕ → ℕ → ℕ
-rounded num den = grid binary32 num den
+rounded num den = kept-digits num den * 2 ^ dropped num den
 
 -- a whole number of last digits: the fraction over a digit's worth of den
-over-digit : (num den : ℕ) → rounded num den * den ≡ kept 24 (num * 2 ^ 149) den * (den * 2 ^ drop 24 (num * 2 ^ 149) den)
+over-digit : (num den : ℕ) → rounded num den * den ≡ kept-digits num den * (den * 2 ^ dropped num den)
 over-digit num den =
-    let q = kept 24 (num * 2 ^ 149) den in
-    let p = 2 ^ drop 24 (num * 2 ^ 149) den in
+    let q = kept-digits num den in
+    let p = 2 ^ dropped num den in
     mul-assoc q p den ∙ ap (λ (x : ℕ). q * x) (mul-comm p den)
 
 pub rounded-near : (num den : ℕ) → 0 < den
-    → (2 * (rounded num den * den) ≤ 2 * (num * 2 ^ 149) + den * 2 ^ drop 24 (num * 2 ^ 149) den)
-    × (2 * (num * 2 ^ 149) ≤ 2 * (rounded num den * den) + den * 2 ^ drop 24 (num * 2 ^ 149) den)
+    → (2 * (rounded num den * den) ≤ 2 * (num * 2 ^ 149) + den * 2 ^ dropped num den)
+    × (2 * (num * 2 ^ 149) ≤ 2 * (rounded num den * den) + den * 2 ^ dropped num den)
 rounded-near num den den-pos =
-    let k = drop 24 (num * 2 ^ 149) den in
+    let k = dropped num den in
     rw (over-digit num den) (closest-near (num * 2 ^ 149) (den * 2 ^ k) (mul-pos den-pos (pow-pos k)))
 
 pub rounded-double : (num den : ℕ) → 0 < den → rounded num den * den ≤ 2 * (num * 2 ^ 149)
 rounded-double num den den-pos =
-    let k = drop 24 (num * 2 ^ 149) den in
+    let k = dropped num den in
     rw (over-digit num den) (closest-double (num * 2 ^ 149) (den * 2 ^ k) (mul-pos den-pos (pow-pos k)))
 
 -- ---- the last digit
 -- below 2^(24 + j) units it is at most 2^j
-pub drop-le : (num den j : ℕ) → 0 < den → num * 2 ^ 149 < 2 ^ (24 + j) * den → drop 24 (num * 2 ^ 149) den ≤ j
-drop-le num den j den-pos h = few (size (num * 2 ^ 149 / den))
-    (size-le (num * 2 ^ 149 / den) (24 + j) (div-lt-iff-lt-mul den-pos .1 h))
+pub drop-le : (num den j : ℕ) → 0 < den → num * 2 ^ 149 < 2 ^ (24 + j) * den → dropped num den ≤ j
+drop-le num den j den-pos h =
+    few (size (num * 2 ^ 149 / den)) (size-le (num * 2 ^ 149 / den) (24 + j) (div-lt-iff-lt-mul den-pos .1 h))
   where
     few : (z : ℕ) → z ≤ 24 + j → z - 24 ≤ j
     few z h = omega arith
@@ -96,29 +102,30 @@ pub rounded-exact : (num den q j : ℕ) → 0 < den → q < 2 ^ 24 → num * 2 ^
     → rounded num den ≡ q * 2 ^ j
 rounded-exact num den q j den-pos small e =
     let n = num * 2 ^ 149 in
-    let k = drop 24 n den in
-    let few : k ≤ j = drop-le num den j den-pos
-    (lt-of-le-of-lt (le-of-eq e) (mul-lt-mul-of-pos-right (shl-lt 24 j small) den-pos)) in
+    let k = dropped num den in
+    let few : k ≤ j =
+    drop-le num den j den-pos (lt-of-le-of-lt (le-of-eq e) (mul-lt-mul-of-pos-right (shl-lt 24 j small) den-pos)) in
     let r = q * 2 ^ (j - k) in
-    let again : r * 2 ^ k ≡ q * 2 ^ j = mul-assoc q (2 ^ (j - k)) (2 ^ k) ∙ ap (λ (x : ℕ). q * x)
-    (sym (pow-add 2 (j - k) k) ∙ ap (λ (x : ℕ). 2 ^ x) (back j k few)) in
-    let whole : n ≡ r * (den * 2 ^ k) = e ∙ ap (λ (x : ℕ). x * den) (sym again) ∙ mul-assoc r (2 ^ k) den ∙ ap
-    (λ (x : ℕ). r * x) (mul-comm (2 ^ k) den) in
+    let again : r * 2 ^ k ≡ q * 2 ^ j =
+    mul-assoc q (2 ^ (j - k)) (2 ^ k)
+    ∙ ap (λ (x : ℕ). q * x) (sym (pow-add 2 (j - k) k) ∙ ap (λ (x : ℕ). 2 ^ x) (back j k few)) in
+    let whole : n ≡ r * (den * 2 ^ k) =
+    e ∙ ap (λ (x : ℕ). x * den) (sym again) ∙ mul-assoc r (2 ^ k) den ∙ ap (λ (x : ℕ). r * x) (mul-comm (2 ^ k) den) in
     ap (λ (x : ℕ). x * 2 ^ k) (closest-exact n (den * 2 ^ k) r (mul-pos den-pos (pow-pos k)) whole) ∙ again
 
 -- it is one unit, or at most 2^-23 of the fraction
 pub digit-small : (num den : ℕ) → 0 < den
-    → (drop 24 (num * 2 ^ 149) den ≡ 0) ⊎ (2 ^ 23 * (den * 2 ^ drop 24 (num * 2 ^ 149) den) ≤ num * 2 ^ 149)
-digit-small num den den-pos = elim (eq-zero-or-pos (drop 24 (num * 2 ^ 149) den)) [
+    → (dropped num den ≡ 0) ⊎ (2 ^ 23 * (den * 2 ^ dropped num den) ≤ num * 2 ^ 149)
+digit-small num den den-pos = elim (eq-zero-or-pos (dropped num den)) [
   | inl none ↦ inl none
   | inr some ↦
       let n = num * 2 ^ 149 in
-      let k = drop 24 n den in
-      let reach : 2 ^ (23 + k) * den ≤ n = le-div-iff-mul-le den-pos .0
-      (size-reaches (n / den) (23 + k) (in-use (size (n / den)) some)) in
+      let k = dropped num den in
+      let reach : 2 ^ (23 + k) * den ≤ n =
+      le-div-iff-mul-le den-pos .0 (size-reaches (n / den) (23 + k) (in-use (size (n / den)) some)) in
       let move : 2 ^ 23 * (den * 2 ^ k) ≡ 2 ^ (23 + k) * den =
-      ap (λ (x : ℕ). 2 ^ 23 * x) (mul-comm den (2 ^ k)) ∙ sym (mul-assoc (2 ^ 23) (2 ^ k) den) ∙ ap (λ (x : ℕ). x * den)
-      (sym (pow-add 2 23 k)) in
+      ap (λ (x : ℕ). 2 ^ 23 * x) (mul-comm den (2 ^ k)) ∙ sym (mul-assoc (2 ^ 23) (2 ^ k) den)
+      ∙ ap (λ (x : ℕ). x * den) (sym (pow-add 2 23 k)) in
       inr (le-trans (le-of-eq move) reach)
 ]
   where
@@ -134,32 +141,32 @@ kept-le n den =
 
 -- below 2^127 m
 pub rounded-high : (num den j : ℕ) → 0 < den → num * 2 ^ 149 < 2 ^ (24 + j) * den → 24 + j < 277
-    → rounded num den < 2 ^ 277
+    → rounded num den < overflow binary32
 rounded-high num den j den-pos h j-low =
     let n = num * 2 ^ 149 in
-    let digit : 2 ^ drop 24 n den ≤ 2 ^ j = pow-mono (drop-le num den j den-pos h) in
+    let digit : 2 ^ dropped num den ≤ 2 ^ j = pow-mono (drop-le num den j den-pos h) in
     lt-of-le-of-lt (le-trans (mul-le-mul (kept-le n den) digit) (le-of-eq (sym (pow-add 2 24 j)))) (pow-lt j-low)
 
-pub round-value : (s : Bool) (num den : ℕ) → rounded num den < 2 ^ 277
+pub round-value : (s : Bool) (num den : ℕ) → rounded num den < overflow binary32
     → HasValue (round binary32 s num den) s (rounded num den) metre
 round-value s num den h =
     rw (metre-is, round-is binary32 s num den)
-    (units-val binary32 s (kept 24 (num * 2 ^ 149) den) (drop 24 (num * 2 ^ 149) den) h)
+    (units-val binary32 s (kept-digits num den) (dropped num den) h)
 
-pub round-f32 : (s : Bool) (num den : ℕ) → rounded num den < 2 ^ 277 → F32 (round binary32 s num den)
-round-f32 s num den h = f32-of-value (round binary32 s num den) s (rounded num den) (round-fits binary32 s num den)
-    (round-value s num den h)
+pub round-f32 : (s : Bool) (num den : ℕ) → rounded num den < overflow binary32 → F32 (round binary32 s num den)
+round-f32 s num den h =
+    f32-of-value (round binary32 s num den) s (rounded num den) (round-fits binary32 s num den) (round-value s num den h)
 
-units-high : (s : Bool) (q k : ℕ) → T (finite (units binary32 s q k)) → q * 2 ^ k < 2 ^ 277
+units-high : (s : Bool) (q k : ℕ) → T (finite (units binary32 s q k)) → q * 2 ^ k < overflow binary32
 unfolding units
-units-high s q k = by-test (ltb (q * 2 ^ k) (2 ^ 277)) (ltb→lt (q * 2 ^ k) (2 ^ 277))
+units-high s q k = by-test (ltb (q * 2 ^ k) (overflow binary32)) (ltb→lt (q * 2 ^ k) (overflow binary32))
   where
-    by-test : (b : Bool) → (T b → q * 2 ^ k < 2 ^ 277) → T (finite (cond b (odd 25 s q k 149) (inf s)))
-        → q * 2 ^ k < 2 ^ 277
+    by-test : (b : Bool) → (T b → q * 2 ^ k < overflow binary32) → T (finite (cond b (odd 25 s q k 149) (inf s)))
+        → q * 2 ^ k < overflow binary32
     by-test true below t = below tt
     by-test false below t = absurd t
 
-pub finite-rounded : (s : Bool) (num den : ℕ) → T (finite (round binary32 s num den)) → rounded num den < 2 ^ 277
+pub finite-rounded : (s : Bool) (num den : ℕ) → T (finite (round binary32 s num den)) → rounded num den < overflow binary32
 finite-rounded s num den t =
-    units-high s (kept 24 (num * 2 ^ 149) den) (drop 24 (num * 2 ^ 149) den)
+    units-high s (kept-digits num den) (dropped num den)
     (subst (λ (z : Float). T (finite z)) (round-is binary32 s num den) t)

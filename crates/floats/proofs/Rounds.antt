@@ -7,7 +7,7 @@ use native.Mathlib.Omega.{arith}
 use mathlib.Core.Bool.{Bool, true, false}
 use lib.Dec.{T}
 use lib.Ieee.{Float, binary32, round, unlike}
-use lib.Ieee.Scale.{finite}
+use lib.Ieee.Scale.{overflow, finite}
 use Rattle.algebra.specs.Integer.{Z, signed, _⊟_, _⊠_, _⊛_, _≐_, Abs}
 use Rattle.algebra.proofs.Integer.{same-sym, same-trans}
 use Rattle.algebra.proofs.Magnitude.{abs-same, abs-signed, signed-abs}
@@ -19,10 +19,10 @@ use Rattle.floats.proofs.Operations.{Rounds, turned, mul-rounds, div-ro
 
 -- ---- value and size
 module _ {z : Float} {num : Z} {den : ℕ} (r : Rounds z num den) where
-  pub rounds-f32 : rounded (r .size) den < 2 ^ 277 → F32 z
+  pub rounds-f32 : rounded (r .size) den < overflow binary32 → F32 z
   rounds-f32 h = rw (r .is) (round-f32 (r .negative) (r .size) den h)
 
-  pub f32-rounded : F32 z → rounded (r .size) den < 2 ^ 277
+  pub f32-rounded : F32 z → rounded (r .size) den < overflow binary32
   f32-rounded own = finite-rounded (r .negative) (r .size) den
       (subst (λ (x : Float). T (finite x)) (r .is) (own .is-finite))
 

@@ -9,20 +9,20 @@ use mathlib.Core.Bool.{Bool, true, false, cond}
 use lib.Dec.{T, ltb}
 use lib.Ieee.{Float, nan, inf, fin, binary32, odd, units, add, sub, mul}
 use lib.Ieee.Fits.{round-is, round-fits}
-use lib.Ieee.Order.{drop, kept}
 use lib.Ieee.Positive.{first-pos}
-use lib.Ieee.Scale.{finite}
+use lib.Ieee.Scale.{overflow, finite}
 use Rattle.algebra.specs.Integer.{Z, whole, signed, _⊞_, _⊟_, _⊠_, _≐_, _≼_, _≺_}
 use Rattle.algebra.proofs.Integer.{order-cases}
 use Rattle.floats.specs.Value.{metre, F32, sign, mag, val}
 use Rattle.floats.proofs.Value.{val-signed}
 use Rattle.floats.proofs.Operations.{Rounds, add-rounds, sub-rounds, mul-rounds}
+use Rattle.floats.proofs.Rounding.{dropped, kept-digits}
 use Rattle.floats.proofs.Doubling.{rounds-double}
 
 -- ---- one rounding
 units-sign : (s : Bool) (q k : ℕ) → sign (units binary32 s q k) ≡ s
 unfolding units odd
-units-sign s q k = by-test (ltb (q * 2 ^ k) (2 ^ 277)) q
+units-sign s q k = by-test (ltb (q * 2 ^ k) (overflow binary32)) q
   where
     by-test : (b : Bool) (q : ℕ) → sign (cond b (odd 25 s q k 149) (inf s)) ≡ s
     by-test true zero = refl
@@ -40,7 +40,7 @@ module _ {z : Float} {num : Z} {den : ℕ} (r : Rounds z num den) where
       val-signed z
       ∙ ap (λ (s : Bool). signed s (mag z))
       (ap sign (r .is ∙ round-is binary32 (r .negative) (r .size) den)
-      ∙ units-sign (r .negative) (kept 24 (r .size * 2 ^ 149) den) (drop 24 (r .size * 2 ^ 149) den))
+      ∙ units-sign (r .negative) (kept-digits (r .size) den) (dropped (r .size) den))
 
   size-pos : 0 < mag z → 0 < r .size
   size-pos z-pos =
