@@ -1,0 +1,60 @@
+-- F6: the reciprocal i of a number l between 2^-127 m and 2^126 m is finite, and i l is within a relative 2^-24 of 1:
+-- |i l - metre²| ≤ 2 ticks, times a metre. Assumes nothing.
+use mathlib.Core.Path.{_≡_, sym, ap, _∙_}
+use Prim.Native.Nat.{ℕ, zero, suc, _+_, _*_, _^_, _≤_, _<_}
+use native.Mathlib.Nat.{le-trans, le-of-eq, mul-assoc, mul-le-mul-left, zero-lt-suc}
+use native.Mathlib.Omega.{arith}
+use mathlib.Core.Bool.{Bool, true, false}
+use lib.Dec.{lit<}
+use lib.Ieee.{Float, binary32, div}
+use Rattle.algebra.specs.Integer.{Z, whole, signed, _⊟_, _⊠_, _⊛_, Abs}
+use Rattle.algebra.proofs.Magnitude.{abs-unscale}
+use Rattle.floats.specs.Value.{metre, tick, F32, sign, mag, val}
+use Rattle.floats.specs.B2Common.{one32}
+use Rattle.floats.proofs.Value.{metre-is, metre-pos, metre-ticks, val-signed}
+use Rattle.floats.proofs.Near.{div-near}
+use Rattle.floats.proofs.Relative.{div-relative}
+use Rattle.floats.proofs.Literals.{one-f32, one-val, one-mag}
+
+pub record Reciprocal (i l : Float) : Type 0 where
+  pub own : F32 i
+  pub err : Abs (val i ⊠ val l ⊟ whole (metre * metre)) (2 * tick * metre)
+  pub size : mag i * mag l ≤ metre * metre + 2 * tick * metre
+
+-- 2^23 l ≤ metre²
+normal-range : (l : ℕ) → l ≤ 2 ^ 126 * metre → 2 ^ 23 * l ≤ metre * metre
+normal-range l h =
+    le-trans (mul-le-mul-left (2 ^ 23) h)
+    (le-of-eq (sym (mul-assoc (2 ^ 23) (2 ^ 126) metre) ∙ ap (λ (n : ℕ). n * metre) (sym metre-is)))
+
+above-zero : (p l : ℕ) → metre ≤ p * l → 0 < l
+above-zero p zero h = absurd (let m = metre-pos in omega arith)
+above-zero p (suc l) h = zero-lt-suc l
+
+pub reciprocal : {l : Float} → F32 l → metre ≤ 2 ^ 127 * mag l → mag l ≤ 2 ^ 126 * metre
+    → Reciprocal (div binary32 one32 l) l
+reciprocal {l} l-f32 low high =
+    let i = div binary32 one32 l in
+    let l-pos = above-zero (2 ^ 127) (mag l) low in
+    let own : F32 i = div-near 127 tt one-f32 l-f32 l-pos (rw one-mag low) .own in
+    let relative = div-relative one-f32 l-f32 l-pos own (rw one-mag (normal-range (mag l) high)) in
+    let err : Abs (val i ⊠ val l ⊟ whole (metre * metre)) (2 * tick * metre) =
+    abs-unscale (2 ^ 24) (2 * tick * metre) (val i ⊠ val l ⊟ whole (metre * metre)) (lit< tt)
+    (in-ticks (val i ⊠ val l) (rw (one-val, one-mag) at relative)) in
+    record {
+      own = own;
+      err = err;
+      size = by-signs (sign i) (sign l) (mag i) (mag l) (2 * tick * metre)
+          (rw (val-signed i, val-signed l) at err);
+    }
+  where
+    in-ticks : (v : Z) → Abs (2 ^ 24 ⊛ (v ⊟ metre ⊛ whole metre)) (metre * metre)
+        → Abs (2 ^ 24 ⊛ (v ⊟ whole (metre * metre))) (2 ^ 24 * (2 * tick * metre))
+    in-ticks v h = let e : metre * metre ≡ 2 ^ 25 * tick * metre = ap (λ (n : ℕ). n * metre) metre-ticks in omega arith
+
+    by-signs : (s t : Bool) (m n e : ℕ) → Abs (signed s m ⊠ signed t n ⊟ whole (metre * metre)) e
+        → m * n ≤ metre * metre + e
+    by-signs true true m n e h = omega arith
+    by-signs true false m n e h = omega arith
+    by-signs false true m n e h = omega arith
+    by-signs false false m n e h = omega arith
