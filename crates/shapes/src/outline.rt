@@ -75,7 +75,11 @@ fn earlier_of(ps: [B2vec2; 8], best: usize, i: usize) -> usize
     requires { ⌜ (best < 8) × (i < 8) ⌝ }
     ensures { λ r. ⌜ r ≡ cond (earlier ps best i) i best ⌝ }
 {
-    if comes_before(ps[best], ps[i]) { i } else { best }
+    if comes_before(ps[best], ps[i]) {
+        i
+    } else {
+        best
+    }
 }
 
 // The place of the largest x, smallest y among equals.

@@ -52,9 +52,12 @@ loop-again c =
     let ps = loop .before .args .t1 in
     let n = loop .before .args .n in
     let j = loop .loop .j in
-    let within : j < length (take n ps) = first-places n j ps (omega arith) (omega arith) in
-    (omega arith, omega arith, loop .loop .inv .2,
-     near-next too-near _ (take n ps) j _ _ within (sym (getD-take n ps j _ (omega arith))) (loop .loop .inv .3) (sym (c .before .too-near .ensures) ∙ c .if1 .left))
+    let within : j < length (take n ps) = first-places n j ps (omega arith) (omega arith) in (
+      omega arith,
+      omega arith,
+      loop .loop .inv .2,
+      near-next too-near _ (take n ps) j _ _ within (sym (getD-take n ps j _ (omega arith))) (loop .loop .inv .3) (sym (c .before .too-near .ensures) ∙ c .if1 .left),
+    )
 
 returns-2 : tie.Need-returns-2 Inv-loop μ-loop
 returns-2 c =
