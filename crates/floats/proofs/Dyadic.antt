@@ -9,7 +9,6 @@ use mathlib.Core.Bool.{Bool, true, false}
 use lib.Dec.{T, leb, leb→le, lit<}
 use lib.Pow.{pow-add, pow-pos, pow-mono}
 use lib.Ieee.{Float, binary32, round, add, sub, mul, neg}
-use lib.Ieee.Digits.{back}
 use Rattle.algebra.specs.Integer.{Z, signed, opp, _⊞_, _⊟_, _⊠_, _⊛_, _≐_, _≼_, _≺_, Abs}
 use Rattle.algebra.proofs.Integer.{same-sym, same-trans, multiple-same, multiple-cancel-same, multiple-mono}
 use Rattle.algebra.proofs.Integer.{multiple-mono-lt, multiple-cancel, multiple-cancel-lt, le-resp, lt-resp}
@@ -18,7 +17,7 @@ use Rattle.algebra.proofs.Magnitude.{Sized, sized, sized-abs}
 use Rattle.algebra.proofs.Products.{product-same}
 use lib.Ieee.Scale.{overflow}
 use Rattle.floats.specs.Value.{metre, F32, val}
-use Rattle.floats.proofs.Value.{metre-is, metre-pos, val-neg, neg-f32}
+use Rattle.floats.proofs.Value.{metre-is, metre-pos, metre-split, val-neg, neg-f32}
 use Rattle.floats.proofs.Rounding.{rounded, rounded-exact}
 use Rattle.floats.proofs.Operations.{Rounds}
 use Rattle.floats.proofs.Rounds.{rounds-f32, rounds-val}
@@ -30,9 +29,6 @@ pub record Dyadic (x : Float) (c : Z) (t : ℕ) : Type 0 where
   pub is : 2 ^ t ⊛ val x ≐ metre ⊛ c
 
 -- ---- each is there
-metre-split : (t : ℕ) → t ≤ 149 → metre ≡ 2 ^ (149 - t) * 2 ^ t
-metre-split t h = metre-is ∙ ap (λ (n : ℕ). 2 ^ n) (sym (back 149 t h)) ∙ pow-add 2 (149 - t) t
-
 pub rounded-dyadic : (q t : ℕ) → q ≤ 2 ^ 24 → t ≤ 149 → rounded q (2 ^ t) ≡ q * 2 ^ (149 - t)
 rounded-dyadic q t q-low t-low =
     let j = 149 - t in

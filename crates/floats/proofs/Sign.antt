@@ -7,15 +7,15 @@ use native.Mathlib.Nat.{mul-comm, mul-pos}
 use native.Mathlib.Omega.{arith}
 use mathlib.Core.Bool.{Bool, true, false, cond}
 use lib.Dec.{T, ltb}
-use lib.Ieee.{Float, nan, inf, fin, binary32, odd, units, add, sub, mul}
+use lib.Ieee.{Float, nan, inf, fin, binary32, odd, units, add, sub, mul, div}
 use lib.Ieee.Fits.{round-is, round-fits}
 use lib.Ieee.Positive.{first-pos}
 use lib.Ieee.Scale.{overflow, finite}
 use Rattle.algebra.specs.Integer.{Z, whole, signed, _⊞_, _⊟_, _⊠_, _≐_, _≼_, _≺_}
 use Rattle.algebra.proofs.Integer.{order-cases}
 use Rattle.floats.specs.Value.{metre, F32, sign, mag, val}
-use Rattle.floats.proofs.Value.{val-signed}
-use Rattle.floats.proofs.Operations.{Rounds, add-rounds, sub-rounds, mul-rounds}
+use Rattle.floats.proofs.Value.{val-signed, positive-sign}
+use Rattle.floats.proofs.Operations.{Rounds, add-rounds, sub-rounds, mul-rounds, div-rounds}
 use Rattle.floats.proofs.Rounding.{dropped, kept-digits}
 use Rattle.floats.proofs.Doubling.{rounds-double}
 
@@ -93,6 +93,11 @@ module _ {x y : Float} (x-f32 : F32 x) (y-f32 : F32 y) where
 
   pub mul-not-negative : whole 0 ≼ val x ⊠ val y → whole 0 ≼ val (mul binary32 x y)
   mul-not-negative h = rounds-not-negative (mul-rounds x-f32 y-f32) h
+
+  pub div-not-negative : whole 0 ≼ val x → whole 0 ≺ val y → whole 0 ≼ val (div binary32 x y)
+  div-not-negative h y-pos =
+      let p = positive-sign y y-pos in
+      rounds-not-negative (div-rounds x-f32 y-f32 (p .mag-pos)) (rw (p .plus) h)
 
 -- ---- F7
 -- one above 0, the other below
