@@ -1,3 +1,4 @@
+pub mod Controls
 pub mod Integer
 pub mod Signs
 pub mod Magnitude
@@ -6,4 +7,3 @@ pub mod Squares
 pub mod Ring
 pub mod Plane
 pub mod Lists
-pub mod Controls

@@ -4,15 +4,15 @@ use mathlib.Core.Path.{_≡_, refl, sym, ap, ap₂, _∙_, subst}
 use mathlib.Core.List.{List, [], _∷_, _++_, List·Memᴰ, List·Memᴰ·append-cases, List·Memᴰ·eq-of-singleton, map}
 use mathlib.Core.List as L
 use mathlib.Core.Logic.{_⊎_, inl, inr}
-use mathlib.Core.Bool.{Bool, true, false, _||_}
+use mathlib.Core.Bool.{Bool, true, false, cond, _||_}
 use mathlib.Core.Option.{Option, none, some, Option·map}
 use Prim.Native.Nat.{ℕ, zero, suc}
-use Rattle.hull.specs.Loops.{either, near-any, keep-unless, weld, search, stop-or, walk}
+use Rattle.hull.specs.Loops.{near-any, keep-unless, weld, search, stop-or, walk}
 
 module _ {A B : Type 0} (g : A → B) where
-  either-map : (t : Bool) (a b : A) → either t (g a) (g b) ≡ g (either t a b)
-  either-map true a b = refl
-  either-map false a b = refl
+  cond-map : (t : Bool) (a b : A) → cond t (g a) (g b) ≡ g (cond t a b)
+  cond-map true a b = refl
+  cond-map false a b = refl
 
   keep-map : (t : Bool) (kept : List A) (a : A) → keep-unless t (map g kept) (g a) ≡ map g (keep-unless t kept a)
   keep-map true kept a = refl
@@ -30,17 +30,17 @@ module _ {A B : Type 0} (g : A → B) where
   -- the points in question
   module _ (In : A → Type 0) where
     -- ---- the search
-    either-in : (t : Bool) (a b : A) → In a → In b → In (either t a b)
-    either-in true a b a-in b-in = a-in
-    either-in false a b a-in b-in = b-in
+    cond-in : (t : Bool) (a b : A) → In a → In b → In (cond t a b)
+    cond-in true a b a-in b-in = a-in
+    cond-in false a b a-in b-in = b-in
 
     module _ (testA : A → A → Bool) (testB : B → B → Bool) (same-test : (e j : A) → In e → In j → testB (g e) (g j) ≡ testA e j) where
       pub search-map : (js : List A) (e : A) → In e → ((j : A) → List·Memᴰ j js → In j) → search testB (g e) (map g js) ≡ g (search testA e js)
       search-map [] e e-in js-in = refl
       search-map (j ∷ js) e e-in js-in =
           ap (λ (a : B). search testB a (map g js))
-          (ap (λ (t : Bool). either t (g j) (g e)) (same-test e j e-in (js-in j (L.List·Memᴰ·head refl))) ∙ either-map (testA e j) j e)
-          ∙ search-map js (either (testA e j) j e) (either-in (testA e j) j e (js-in j (L.List·Memᴰ·head refl)) e-in) (λ a m. js-in a (L.List·Memᴰ·tail m))
+          (ap (λ (t : Bool). cond t (g j) (g e)) (same-test e j e-in (js-in j (L.List·Memᴰ·head refl))) ∙ cond-map (testA e j) j e)
+          ∙ search-map js (cond (testA e j) j e) (cond-in (testA e j) j e (js-in j (L.List·Memᴰ·head refl)) e-in) (λ a m. js-in a (L.List·Memᴰ·tail m))
 
       -- ---- welding
       near-map : (a : A) (kept : List A) → In a → ((k : A) → List·Memᴰ k kept → In k) → near-any testB (g a) (map g kept) ≡ near-any testA a kept

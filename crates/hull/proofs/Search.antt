@@ -4,16 +4,16 @@ use mathlib.Core.Path.{_≡_, refl, sym, subst}
 use mathlib.Core.List.{List, [], _∷_, List·Memᴰ, List·Memᴰ·cases-cons, List·Memᴰ·not-nil}
 use mathlib.Core.List as L
 use mathlib.Core.Logic.{_⊎_, inl, inr}
-use mathlib.Core.Bool.{Bool, true, false, not}
+use mathlib.Core.Bool.{Bool, true, false, not, cond}
 use lib.Dec.{T}
-use Rattle.hull.specs.Loops.{either, search}
+use Rattle.hull.specs.Loops.{search}
 
 module _ {A : Type 0} (replaces : A → A → Bool) where
   pub search-mem : (js : List A) (e : A) → List·Memᴰ (search replaces e js) (e ∷ js)
   search-mem [] e = L.List·Memᴰ·head refl
-  search-mem (j ∷ js) e = go (replaces e j) (List·Memᴰ·cases-cons (search-mem js (either (replaces e j) j e)))
+  search-mem (j ∷ js) e = go (replaces e j) (List·Memᴰ·cases-cons (search-mem js (cond (replaces e j) j e)))
     where
-      go : {a : A} (t : Bool) → (a ≡ either t j e) ⊎ List·Memᴰ a js → List·Memᴰ a (e ∷ j ∷ js)
+      go : {a : A} (t : Bool) → (a ≡ cond t j e) ⊎ List·Memᴰ a js → List·Memᴰ a (e ∷ j ∷ js)
       go true (inl h) = L.List·Memᴰ·tail (L.List·Memᴰ·head h)
       go false (inl h) = L.List·Memᴰ·head h
       go t (inr h) = L.List·Memᴰ·tail (L.List·Memᴰ·tail h)
@@ -28,27 +28,27 @@ module _ {A : Type 0} (replaces : A → A → Bool) where
     search-best [] e r e-good js-good r-good (inl h) = h
     search-best [] e r e-good js-good r-good (inr m) = absurd (List·Memᴰ·not-nil m)
     search-best (j ∷ js) e r e-good js-good r-good h =
-        search-best js (either (replaces e j) j e) r (good (replaces e j)) (λ i m. js-good i (L.List·Memᴰ·tail m)) r-good (seen h)
+        search-best js (cond (replaces e j) j e) r (good (replaces e j)) (λ i m. js-good i (L.List·Memᴰ·tail m)) r-good (seen h)
       where
         j-good : Good j
         j-good = js-good j (L.List·Memᴰ·head refl)
 
-        good : (t : Bool) → Good (either t j e)
+        good : (t : Bool) → Good (cond t j e)
         good true = j-good
         good false = e-good
 
-        old : (t : Bool) → (T t → T (replaces e j)) → Better e r → Better (either t j e) r
+        old : (t : Bool) → (T t → T (replaces e j)) → Better e r → Better (cond t j e) r
         old true is k = replaced e j r e-good j-good r-good (is tt) k
         old false is k = k
 
-        new : (t : Bool) → (T (not t) → T (not (replaces e j))) → Better (either t j e) j
+        new : (t : Bool) → (T (not t) → T (not (replaces e j))) → Better (cond t j e) j
         new true is = own j
         new false is = kept e j e-good j-good (is tt)
 
-        now : (r ≡ j) ⊎ List·Memᴰ r js → Better (either (replaces e j) j e) r ⊎ List·Memᴰ r js
-        now (inl k) = inl (subst (Better (either (replaces e j) j e)) (sym k) (new (replaces e j) (λ t. t)))
+        now : (r ≡ j) ⊎ List·Memᴰ r js → Better (cond (replaces e j) j e) r ⊎ List·Memᴰ r js
+        now (inl k) = inl (subst (Better (cond (replaces e j) j e)) (sym k) (new (replaces e j) (λ t. t)))
         now (inr m) = inr m
 
-        seen : Better e r ⊎ List·Memᴰ r (j ∷ js) → Better (either (replaces e j) j e) r ⊎ List·Memᴰ r js
+        seen : Better e r ⊎ List·Memᴰ r (j ∷ js) → Better (cond (replaces e j) j e) r ⊎ List·Memᴰ r js
         seen (inl k) = inl (old (replaces e j) (λ t. t) k)
         seen (inr m) = now (List·Memᴰ·cases-cons m)

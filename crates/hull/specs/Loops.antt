@@ -2,15 +2,11 @@
 -- later one replaces, and walk from corner to corner until the start is met. The tests are arguments, so that the builder over floats,
 -- over places of an array, and over whole numbers are one text. Definitions only.
 use mathlib.Core.List.{List, [], _∷_, _++_}
-use mathlib.Core.Bool.{Bool, true, false, _||_}
-use mathlib.Core.Option.{Option, none, some}
+use mathlib.Core.Bool.{Bool, true, false, cond, _||_}
+use mathlib.Core.Option.{Option, none, some, Option·map}
 use Prim.Native.Nat.{ℕ, zero, suc}
 
 module _ {A : Type 0} where
-  abbrev pub either : Bool → A → A → A
-  either true a b = a
-  either false a b = b
-
   -- ---- welding
   abbrev pub near-any : (A → A → Bool) → A → List A → Bool
   near-any near a [] = false
@@ -28,16 +24,12 @@ module _ {A : Type 0} where
   -- ---- a search through all places: the candidate is replaced by a later one where the test says so
   abbrev pub search : (A → A → Bool) → A → List A → A
   search replaces candidate [] = candidate
-  search replaces candidate (j ∷ js) = search replaces (either (replaces candidate j) j candidate) js
+  search replaces candidate (j ∷ js) = search replaces (cond (replaces candidate j) j candidate) js
 
   -- ---- the walk: at most `fuel` corners, and nothing where it is not back by then
-  abbrev pub after : A → Option (List A) → Option (List A)
-  after p none = none
-  after p (some row) = some (p ∷ row)
-
   abbrev pub stop-or : Bool → A → Option (List A) → Option (List A)
   stop-or true p rest = some (p ∷ [])
-  stop-or false p rest = after p rest
+  stop-or false p rest = Option·map (_∷_ p) rest
 
   abbrev pub walk : (A → A → Bool) → (A → A) → A → ℕ → A → Option (List A)
   walk same next start zero p = none
