@@ -55,8 +55,8 @@ within-value {limit} {x} limit-f32 x-fits h =
 pub value-within : {limit x : Float} → F32 limit → val limit ≡ whole (mag limit) → F32 x → Abs (val x) (mag limit)
     → T (within limit x)
 value-within {limit} {x} limit-f32 limit-is x-f32 x-abs =
-    and-i (le (neg limit) x) (le x limit) (val-le (neg-f32 limit-f32) x-f32
-    (rw (val-neg limit, limit-is) (low (val x) x-abs)))
+    and-i (le (neg limit) x) (le x limit)
+    (val-le (neg-f32 limit-f32) x-f32 (rw (val-neg limit, limit-is) (low (val x) x-abs)))
     (val-le x-f32 limit-f32 (rw limit-is (high (val x) x-abs)))
   where
     low : (v : Z) → Abs v (mag limit) → opp (whole (mag limit)) ≼ v
@@ -76,8 +76,8 @@ limit-of-bits : (b h : ℕ) → T (ltb (bits-field b) 255) → T (eqb (bits-unit
 limit-of-bits b h low units plus = record {
   own = bits-f32 b low;
   size = bits-mag b low ∙ eqb→eq (bits-units b) (h * 2 ^ 149) units ∙ ap (λ (m : ℕ). h * m) (sym metre-is);
-  is = bits-val b low ∙ ap (λ (s : Bool). signed s (bits-units b)) (is-false (bits-sign b) plus) ∙ ap whole
-      (sym (bits-mag b low));
+  is = bits-val b low
+      ∙ ap (λ (s : Bool). signed s (bits-units b)) (is-false (bits-sign b) plus) ∙ ap whole (sym (bits-mag b low));
 }
 
 pub one-limit-is : Limit one32 1
@@ -142,3 +142,10 @@ radius-value {r} r-fits h =
       high = rw (l .is ∙ ap whole (l .size)) at
           (le-val own (l .own) at-most);
     }
+
+pub value-radius : {r : Float} → Radius r → T (radius-in-range r)
+unfolding radius-in-range
+value-radius {r} h =
+    let l = shape-limit-is in
+    and-i (le zero32 r) (le r shape-limit) (val-le zero-f32 (h .own) (rw zero-val (h .low)))
+    (val-le (h .own) (l .own) (rw (l .is ∙ ap whole (l .size)) (h .high)))

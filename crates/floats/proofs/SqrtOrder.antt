@@ -26,21 +26,23 @@ use Rattle.floats.proofs.SqrtLaw.{sqrt-is, sqrt-rounded, root-mag, root
 module _ (h r : ℕ) (h-pos : 0 < h) where
   -- √y < √y', rounded to r and r'
   scale-mono : (y y' r' : ℕ) → y < y' → HalfUnit y h r → HalfUnit y' h r' → r' < r → ⊥
-  scale-mono y y' r' less near near' over = let d =
-      le-dest over in past (d .0) (subst (λ (n : ℕ). HalfUnit y h n) (sym (d .1)) near)
+  scale-mono y y' r' less near near' over =
+      let d = le-dest over in past (d .0) (subst (λ (n : ℕ). HalfUnit y h n) (sym (d .1)) near)
     where
       past : (d : ℕ) → HalfUnit y h (suc r' + d) → ⊥
       past d near = let n = near .0 in let n' = near' .1 in omega arith
 
   -- √y ≤ c √h, and so r ≤ c
   scale-below : (y c : ℕ) → HalfUnit y h r → y ≤ c * c * h → c < r → ⊥
-  scale-below y c near le over = let d = le-dest over in past (d .0) (subst (λ (n : ℕ). HalfUnit y h n) (sym (d .1)) near)
+  scale-below y c near le over =
+      let d = le-dest over in past (d .0) (subst (λ (n : ℕ). HalfUnit y h n) (sym (d .1)) near)
     where
       past : (d : ℕ) → HalfUnit y h (suc c + d) → ⊥
       past d near = let n = near .0 in omega arith
 
   scale-above : (y c : ℕ) → HalfUnit y h r → c * c * h ≤ y → r < c → ⊥
-  scale-above y c near le over = let d = le-dest over in past (d .0) (subst (λ (n : ℕ). n * n * h ≤ y) (sym (d .1)) le)
+  scale-above y c near le over =
+      let d = le-dest over in past (d .0) (subst (λ (n : ℕ). n * n * h ≤ y) (sym (d .1)) le)
     where
       past : (d : ℕ) → (suc r + d) * (suc r + d) * h ≤ y → ⊥
       past d le = let n = near .1 in omega arith
