@@ -7,7 +7,7 @@ use native.Mathlib.Nat.{le-refl, mul-assoc, mul-one, mul-div-cancel, not-le-of-l
 use native.Mathlib.Omega.{arith}
 use mathlib.Core.Bool.{Bool, true, false, not, _&&_}
 use lib.IntN.{ℤ, pos, negsuc}
-use lib.Dec.{T, leb, ltb, eqb, leb→le, nleb→lt, eqb→eq}
+use lib.Dec.{T, leb, ltb, eqb, leb→le, nleb→lt, eqb→eq, lit<}
 use lib.Pow.{pow-add, pow-pos, pow-lt}
 use lib.Ieee.{Float, nan, inf, fin, binary32, up, down, neg, fits}
 use lib.Ieee.Digits.{back}
@@ -24,11 +24,11 @@ metre-is = refl
 
 pub metre-pos : 0 < metre
 unfolding metre
-metre-pos = pow-pos 149
+metre-pos = lit< tt
 
 pub tick-pos : 0 < tick
 unfolding tick
-tick-pos = pow-pos 124
+tick-pos = lit< tt
 
 pub metre-ticks : metre ≡ 2 ^ 25 * tick
 unfolding metre tick
