@@ -9,11 +9,10 @@ use lib.IntN.{ℤ, pos, negsuc}
 use lib.Dec.{leb, ltb, eqb, leb→le, ltb→lt, lit<, lit≤}
 use lib.Pow.{pow-add, pow-pos, pow-mono}
 use lib.Ieee.{Float, binary32, nan, inf, fin, up, down, fits}
-use lib.Ieee.Digits.{back}
 use lib.Ieee.Fits.{and-l, and-r}
 use lib.Ieee.Scale.{overflow}
 use Rattle.floats.specs.Value.{metre, F32, mag}
-use Rattle.floats.proofs.Value.{metre-is, has-value, mag-zero, exponent-le}
+use Rattle.floats.proofs.Value.{metre-is, metre-split, has-value, mag-zero, exponent-le}
 
 pub record Digits (x : Float) : Type 0 where
   pub q : ℕ
@@ -38,8 +37,7 @@ digits-of-fin s m (pos k) own small fine low =
     }
 digits-of-fin s m (negsuc k) own small fine low =
     let j = 149 - suc k in
-    let split : metre ≡ 2 ^ j * 2 ^ suc k =
-    metre-is ∙ ap (λ (x : ℕ). 2 ^ x) (sym (back 149 (suc k) (exponent-le (suc k) 149 fine))) ∙ pow-add 2 j (suc k) in
+    let split : metre ≡ 2 ^ j * 2 ^ suc k = metre-split (suc k) (exponent-le (suc k) 149 fine) in
     record {
       q = m;
       j = j;
@@ -47,8 +45,8 @@ digits-of-fin s m (negsuc k) own small fine low =
       high = lt-of-lt-of-le (mul-lt-mul-of-pos-right small (pow-pos j))
           (le-trans (mul-le-mul-left (2 ^ 24) (pow-mono {i = j} {j = 149} (sub-le 149 (suc k)))) (lit≤ tt));
       is = eq-of-mul-eq-mul-right (2 ^ suc k) (pow-pos (suc k)) (mag (fin s m (negsuc k))) (m * 2 ^ j)
-          (sym (has-value own .1) ∙ ap (λ (x : ℕ). x * metre) (mul-one m) ∙ ap (λ (x : ℕ). m * x) split ∙ sym
-          (mul-assoc m (2 ^ j) (2 ^ suc k)));
+          (sym (has-value own .1) ∙ ap (λ (x : ℕ). x * metre) (mul-one m) ∙ ap (λ (x : ℕ). m * x) split
+          ∙ sym (mul-assoc m (2 ^ j) (2 ^ suc k)));
     }
   where
     sub-le : (a l : ℕ) → a - l ≤ a

@@ -23,8 +23,7 @@ pub record DotNear (z : Float) (v : Z) (k h : ℕ) : Type 0 where
 
 -- two errors of e, and one of 2 e
 total : (e : ℕ) (p q z u v : Z) → Abs (metre ⊛ p ⊟ u) (e * metre) → Abs (metre ⊛ q ⊟ v) (e * metre)
-    → Abs (z ⊟ (p ⊞ q)) (2 * e)
-    → Abs (metre ⊛ z ⊟ (u ⊞ v)) (4 * e * metre)
+    → Abs (z ⊟ (p ⊞ q)) (2 * e) → Abs (metre ⊛ z ⊟ (u ⊞ v)) (4 * e * metre)
 total e p q z u v p-near q-near z-near =
     let over : metre * (z .0 + (p .1 + q .1)) ≤ metre * (z .1 + (p .0 + q .0) + 2 * e) =
     mul-le-mul-left metre (z-near .0) in
@@ -46,9 +45,9 @@ module _ (k h : ℕ) {ax ay bx by : Float} (k-low : T (leb (1 + k) 127)) (h-low 
       let q = product-near k (h * (metre * metre)) k-le ay-f32 by-f32 y-abs scaled in
       let p-cap = product-cap h h-le24 ax-f32 bx-f32 (h * (metre * metre)) x-abs (le-refl (h * (metre * metre))) in
       let q-cap = product-cap h h-le24 ay-f32 by-f32 (h * (metre * metre)) y-abs (le-refl (h * (metre * metre))) in
-      let P = val (mul binary32 ax bx) in
-      let Q = val (mul binary32 ay by) in
-      let sum-abs : Abs (P ⊞ Q) (h * metre + h * metre) = abs-sum P Q (h * metre) (h * metre) (p-cap .cap) (q-cap .cap) in
+      let px = val (mul binary32 ax bx) in
+      let py = val (mul binary32 ay by) in
+      let sum-abs : Abs (px ⊞ py) (h * metre + h * metre) = abs-sum px py (h * metre) (h * metre) (p-cap .cap) (q-cap .cap) in
       let z = add-near (1 + k) (h * metre + h * metre) k-low (p .own) (q .own) sum-abs
       (doubled (2 ^ k) (2 ^ (1 + k)) h-le (pow-add 2 1 k)) in
       let z-cap = add-cap (2 * h) h-few (p .own) (q .own) (h * metre + h * metre) sum-abs (twice h) in
@@ -56,8 +55,8 @@ module _ (k h : ℕ) {ax ay bx by : Float} (k-low : T (leb (1 + k) 127)) (h-low 
         own = z .own;
         err = subst (λ (e : ℕ). Abs (metre ⊛ val (dot ax ay bx by) ⊟ (val ax ⊠ val bx ⊞ val ay ⊠ val by)) (e * metre))
             (sym (mul-assoc 4 (2 ^ k) tick))
-            (total (2 ^ k * tick) P Q (val (dot ax ay bx by)) (val ax ⊠ val bx) (val ay ⊠ val by) (p .err) (q .err)
-            (subst (λ (e : ℕ). Abs (val (dot ax ay bx by) ⊟ (P ⊞ Q)) e) (ticks (2 ^ k) (2 ^ (1 + k)) (pow-add 2 1 k))
+            (total (2 ^ k * tick) px py (val (dot ax ay bx by)) (val ax ⊠ val bx) (val ay ⊠ val by) (p .err) (q .err)
+            (subst (λ (e : ℕ). Abs (val (dot ax ay bx by) ⊟ (px ⊞ py)) e) (ticks (2 ^ k) (2 ^ (1 + k)) (pow-add 2 1 k))
             (z .err)));
         cap = z-cap .cap;
       }
@@ -72,8 +71,10 @@ module _ (k h : ℕ) {ax ay bx by : Float} (k-low : T (leb (1 + k) 127)) (h-low 
       twice h = omega arith
 
       doubled : (p q : ℕ) → h ≤ p → q ≡ 2 * p → h * metre + h * metre ≤ q * metre
-      doubled p q l e = let m : h * metre ≤ p * metre = mul-le-mul-right metre l in let f : q * metre ≡ 2 * p * metre =
-          ap (λ (n : ℕ). n * metre) e in omega arith
+      doubled p q l e =
+          let m : h * metre ≤ p * metre = mul-le-mul-right metre l in
+          let f : q * metre ≡ 2 * p * metre = ap (λ (n : ℕ). n * metre) e in
+          omega arith
 
       ticks : (p q : ℕ) → q ≡ 2 * p → q * tick ≡ 2 * (p * tick)
       ticks p q e = ap (λ (n : ℕ). n * tick) e ∙ mul-assoc 2 p tick

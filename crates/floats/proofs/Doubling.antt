@@ -1,6 +1,6 @@
 -- F4: a finite result is at most twice the exact one in size: below half a unit it is 0, and from there on rounding up at most
 -- doubles. One law for every rounding, then the four operations. Assumes nothing.
-use mathlib.Core.Path.{_≡_, sym, ap, subst}
+use mathlib.Core.Path.{sym, subst}
 use Prim.Native.Nat.{ℕ, _*_, _≤_, _<_}
 use native.Mathlib.Nat.{le-trans, mul-le-mul-left, le-of-mul-le-mul-right}
 use native.Mathlib.Omega.{arith}
@@ -15,13 +15,14 @@ use Rattle.floats.proofs.Rounds.{rounds-mag, size-le, mul-size, div-siz
 
 pub rounds-double : {z : Float} {num : Z} {den : ℕ} (r : Rounds z num den) → F32 z → mag z * den ≤ 2 * (r .size * metre)
 rounds-double {z} {num} {den} r z-f32 =
-    rw (rounds-mag r z-f32) (subst (λ (m : ℕ). rounded (r .size) den * den ≤ 2 * (r .size * m)) (sym metre-is)
+    rw (rounds-mag r z-f32)
+    (subst (λ (m : ℕ). rounded (r .size) den * den ≤ 2 * (r .size * m)) (sym metre-is)
     (rounded-double (r .size) den (r .den-pos)))
 
 sum-double : {z : Float} {v : Z} (n : ℕ) → Rounds z v metre → F32 z → Abs v n → Abs (val z) (2 * n)
 sum-double {z} n r z-f32 v-abs =
-    let twice : mag z ≤ 2 * r .size = le-of-mul-le-mul-right {k = metre}
-    (let h = rounds-double r z-f32 in omega arith) metre-pos in
+    let h = rounds-double r z-f32 in
+    let twice : mag z ≤ 2 * r .size = le-of-mul-le-mul-right {k = metre} (omega arith) metre-pos in
     abs-widen (val z) (mag z) (2 * n) (abs-mag z) (le-trans twice (mul-le-mul-left 2 (size-le r n v-abs)))
 
 module _ {x y : Float} (x-f32 : F32 x) (y-f32 : F32 y) where
@@ -33,13 +34,14 @@ module _ {x y : Float} (x-f32 : F32 x) (y-f32 : F32 y) where
 
   pub mul-double : F32 (mul binary32 x y) → mag (mul binary32 x y) * metre ≤ 2 * (mag x * mag y)
   mul-double own =
-      le-of-mul-le-mul-right {k = metre}
-      (let h = rounds-double (mul-rounds x-f32 y-f32) own in let e = mul-size x-f32 y-f32 in cut (mag (mul binary32 x y))
-      (mul-rounds x-f32 y-f32 .size) (mag x * mag y) h e)
+      le-of-mul-le-mul-right
+      (one-metre-less (mag (mul binary32 x y)) (mag x * mag y)
+      (subst (λ (w : ℕ). mag (mul binary32 x y) * (metre * metre) ≤ 2 * (w * metre)) (mul-size x-f32 y-f32)
+      (rounds-double (mul-rounds x-f32 y-f32) own)))
       metre-pos
     where
-      cut : (z w p : ℕ) → z * (metre * metre) ≤ 2 * (w * metre) → w ≡ p → z * metre * metre ≤ 2 * p * metre
-      cut z w p h e = let f : w * metre ≡ p * metre = ap (λ (n : ℕ). n * metre) e in omega arith
+      one-metre-less : (z n : ℕ) → z * (metre * metre) ≤ 2 * (n * metre) → z * metre * metre ≤ 2 * n * metre
+      one-metre-less z n h = omega arith
 
   pub div-double : 0 < mag y → F32 (div binary32 x y) → mag (div binary32 x y) * mag y ≤ 2 * (mag x * metre)
   div-double y-pos own =

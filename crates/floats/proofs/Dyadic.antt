@@ -9,7 +9,6 @@ use mathlib.Core.Bool.{Bool, true, false}
 use lib.Dec.{T, leb, leb→le, lit<}
 use lib.Pow.{pow-add, pow-pos, pow-mono}
 use lib.Ieee.{Float, binary32, round, add, sub, mul, neg}
-use lib.Ieee.Digits.{back}
 use Rattle.algebra.specs.Integer.{Z, signed, opp, _⊞_, _⊟_, _⊠_, _⊛_, _≐_, _≼_, _≺_, Abs}
 use Rattle.algebra.proofs.Integer.{same-sym, same-trans, multiple-same, multiple-cancel-same, multiple-mono}
 use Rattle.algebra.proofs.Integer.{multiple-mono-lt, multiple-cancel, multiple-cancel-lt, le-resp, lt-resp}
@@ -18,7 +17,7 @@ use Rattle.algebra.proofs.Magnitude.{Sized, sized, sized-abs}
 use Rattle.algebra.proofs.Products.{product-same}
 use lib.Ieee.Scale.{overflow}
 use Rattle.floats.specs.Value.{metre, F32, val}
-use Rattle.floats.proofs.Value.{metre-is, metre-pos, val-neg, neg-f32}
+use Rattle.floats.proofs.Value.{metre-is, metre-pos, metre-split, val-neg, neg-f32}
 use Rattle.floats.proofs.Rounding.{rounded, rounded-exact}
 use Rattle.floats.proofs.Operations.{Rounds}
 use Rattle.floats.proofs.Rounds.{rounds-f32, rounds-val}
@@ -30,9 +29,6 @@ pub record Dyadic (x : Float) (c : Z) (t : ℕ) : Type 0 where
   pub is : 2 ^ t ⊛ val x ≐ metre ⊛ c
 
 -- ---- each is there
-metre-split : (t : ℕ) → t ≤ 149 → metre ≡ 2 ^ (149 - t) * 2 ^ t
-metre-split t h = metre-is ∙ ap (λ (n : ℕ). 2 ^ n) (sym (back 149 t h)) ∙ pow-add 2 (149 - t) t
-
 pub rounded-dyadic : (q t : ℕ) → q ≤ 2 ^ 24 → t ≤ 149 → rounded q (2 ^ t) ≡ q * 2 ^ (149 - t)
 rounded-dyadic q t q-low t-low =
     let j = 149 - t in
@@ -125,8 +121,7 @@ exact-sub {x} {y} {c} {e} t t-low x-is y-is bound =
     (λ r r-f32 h. sub-exact (x-is .own) (y-is .own) r-f32 h)
 
 pub exact-mul : {x y : Float} {c e : Z} (t u : ℕ) → T (leb (t + u) 149) → Dyadic x c t → Dyadic y e u
-    → Abs (c ⊠ e) (2 ^ 24)
-    → Dyadic (mul binary32 x y) (c ⊠ e) (t + u)
+    → Abs (c ⊠ e) (2 ^ 24) → Dyadic (mul binary32 x y) (c ⊠ e) (t + u)
 exact-mul {x} {y} {c} {e} t u low x-is y-is bound =
     let r = dyadic-float (c ⊠ e) (t + u) low bound in
     let v = val (r .number) in
@@ -143,15 +138,12 @@ exact-mul {x} {y} {c} {e} t u low x-is y-is bound =
     record { own = z .own; is = moved k (val (mul binary32 x y)) v (metre ⊛ (c ⊠ e)) (z .is) (r .dyadic .is) }
   where
     swapped : (k : ℕ) (v d : Z) → k ⊛ v ≐ metre ⊛ d → k ⊛ (metre ⊛ v) ≐ metre ⊛ (metre ⊛ d)
-    swapped k v d h = let m : metre * (k * v .0 + metre * d .1) ≡ metre * (metre * d .0 + k * v .1) =
-        ap (λ (n : ℕ). metre * n) h in omega arith
+    swapped k v d h =
+        let m : metre * (k * v .0 + metre * d .1) ≡ metre * (metre * d .0 + k * v .1) = ap (λ (n : ℕ). metre * n) h in
+        omega arith
 
 pub exact-neg : {x : Float} {c : Z} {t : ℕ} → Dyadic x c t → Dyadic (neg x) (opp c) t
-exact-neg {x} {c} {t} x-is = record {
-  own = neg-f32 (x-is .own);
-  is = rw val-neg
-      (let h = x-is .is in turn (2 ^ t) (val x) h);
-}
+exact-neg {x} {c} {t} x-is = record { own = neg-f32 (x-is .own); is = rw val-neg (turn (2 ^ t) (val x) (x-is .is)) }
   where
     turn : (k : ℕ) (v : Z) → k ⊛ v ≐ metre ⊛ c → k ⊛ opp v ≐ metre ⊛ opp c
     turn k v h = omega arith
@@ -165,8 +157,9 @@ dyadic-finer {x} {c} {t} k x-is = record {
 }
   where
     finer : (m n : ℕ) (v : Z) → m ⊛ v ≐ metre ⊛ c → (m * n) ⊛ v ≐ metre ⊛ (n ⊛ c)
-    finer m n v h = let e : n * (m * v .0 + metre * c .1) ≡ n * (metre * c .0 + m * v .1) =
-        ap (λ (x : ℕ). n * x) h in omega arith
+    finer m n v h =
+        let e : n * (m * v .0 + metre * c .1) ≡ n * (metre * c .0 + m * v .1) = ap (λ (x : ℕ). n * x) h in
+        omega arith
 
 -- ---- comparisons
 module _ {x y : Float} {c e : Z} {t : ℕ} (x-is : Dyadic x c t) (y-is : Dyadic y e t) where

@@ -3,7 +3,7 @@
 use mathlib.Core.Path.{_≡_, refl, sym, ap, _∙_, subst}
 use mathlib.Core.Logic.{inl, inr}
 use Prim.Native.Nat.{ℕ, _+_, _*_, _^_, _≤_, _<_}
-use native.Mathlib.Nat.{le-trans, le-of-eq, lt-of-lt-of-le, mul-one, mul-right-comm, mul-le-mul-left}
+use native.Mathlib.Nat.{le-trans, le-of-eq, lt-of-lt-of-le, one-mul, mul-one, mul-right-comm, mul-le-mul-left}
 use native.Mathlib.Nat.{mul-lt-mul-of-pos-right, eq-or-lt-of-le}
 use native.Mathlib.Omega.{arith}
 use lib.Dec.{lit<}
@@ -11,7 +11,7 @@ use lib.Pow.{pow-add, pow-pos, pow-mono, pow-lt}
 use lib.Ieee.{binary32}
 use lib.Ieee.Scale.{overflow}
 use Rattle.floats.specs.Value.{metre, tick}
-use Rattle.floats.proofs.Value.{metre-is}
+use Rattle.floats.proofs.Value.{metre-is, metre-power}
 use Rattle.floats.proofs.Rounding.{dropped, rounded, rounded-near, rounded-exact, rounded-high, drop-le, digit-small}
 
 -- |a - b| ≤ e
@@ -42,18 +42,15 @@ pub rounded-at-power : (num den k : ℕ) → 0 < den → num ≡ 2 ^ k * den →
 rounded-at-power num den k den-pos e =
     rounded-exact num den 1 (k + 149) den-pos (lit< tt)
     (ap (λ (x : ℕ). x * 2 ^ 149) e ∙ move (2 ^ k) (2 ^ 149) (2 ^ (k + 149)) (pow-add 2 k 149))
-    ∙ back (2 ^ k) (2 ^ (k + 149)) (pow-add 2 k 149 ∙ ap (λ (x : ℕ). 2 ^ k * x) (sym metre-is))
+    ∙ one-mul (2 ^ (k + 149)) ∙ metre-power k
   where
     move : (p m q : ℕ) → q ≡ p * m → p * den * m ≡ 1 * q * den
     move p m q h = rw h (omega arith)
 
-    back : (p q : ℕ) → q ≡ p * metre → 1 * q ≡ p * metre
-    back p q h = omega arith
-
 pub rounded-low : (num den k : ℕ) → 0 < den → k ≤ 127 → num ≤ 2 ^ k * den → rounded num den < overflow binary32
 rounded-low num den k den-pos k-low h = elim (eq-or-lt-of-le h) [
   | inl at ↦ rw (rounded-at-power num den k den-pos at)
-      (rw metre-is (subst (λ (x : ℕ). x < overflow binary32) (pow-add 2 k 149) (pow-lt (room k k-low))))
+      (rw (← metre-power k) (pow-lt (room k k-low)))
   | inr lt ↦ rounded-high num den (125 + k) den-pos (below-power num den k lt) (room' k k-low)
 ]
   where

@@ -13,8 +13,10 @@ use lib.Ieee.{Float, nan, inf, fin, binary32, up, down, unlike, round, neg, sum,
 use lib.Ieee.Fits.{up-pos, down-pos, add-fits, sub-fits, mul-fits, div-fits}
 use lib.Ieee.Scale.{finite, round-same}
 use Rattle.algebra.specs.Integer.{Z, signed, opp, _⊞_, _⊟_, _⊠_, _≐_, Abs}
+use Rattle.algebra.proofs.Integer.{same-sym}
+use Rattle.algebra.proofs.Magnitude.{abs-same, signed-abs}
 use Rattle.floats.specs.Value.{metre, F32, sign, mag, val}
-use Rattle.floats.proofs.Value.{metre-pos, val-neg, neg-f32, AsFin, as-fin, f32-as-fin}
+use Rattle.floats.proofs.Value.{metre-pos, val-signed, val-neg, neg-f32, AsFin, as-fin, f32-as-fin}
 
 pub record Rounds (z : Float) (num : Z) (den : ℕ) : Type 0 where
   pub negative : Bool
@@ -109,6 +111,14 @@ signed-product true true m n = omega arith
 signed-product true false m n = omega arith
 signed-product false true m n = omega arith
 signed-product false false m n = omega arith
+
+pub product-size : (x y : Float) (n : ℕ) → Abs (val x ⊠ val y) n → mag x * mag y ≤ n
+product-size x y n h =
+    let s = signed (unlike (sign x) (sign y)) (mag x * mag y) in
+    signed-abs (unlike (sign x) (sign y)) (mag x * mag y) n (abs-same (val x ⊠ val y) s n (same-sym s (val x ⊠ val y) product-is) h)
+  where
+    product-is : signed (unlike (sign x) (sign y)) (mag x * mag y) ≐ val x ⊠ val y
+    product-is = rw (val-signed x, val-signed y) (signed-product (sign x) (sign y) (mag x) (mag y))
 
 pub mul-rounds : {x y : Float} → F32 x → F32 y → Rounds (mul binary32 x y) (val x ⊠ val y) (metre * metre)
 unfolding mul val

@@ -39,9 +39,9 @@ rounded-mono a b c d b-pos d-pos h high =
     let right = round-f32 false c d high in
     elim (decLe (overflow binary32) (rounded a b)) [
       | yes over ↦ absurd
-          (infinity-not-le (f32-as-fin right) (subst (λ (x : Float). T (le x (round binary32 false c d)))
-          (round-is binary32 false a b ∙ units-infinite (kept-digits a b)
-          (dropped a b) over) le-rounds))
+          (infinity-not-le (f32-as-fin right)
+          (subst (λ (x : Float). T (le x (round binary32 false c d)))
+          (round-is binary32 false a b ∙ units-infinite (kept-digits a b) (dropped a b) over) le-rounds))
       | no not-over ↦
           let low = lt-of-not-le not-over in
           positive (rounded a b) (rounded c d) (val (round binary32 false a b)) (val (round binary32 false c d))
@@ -59,10 +59,10 @@ rounded-zero den den-pos = rounded-exact 0 den 0 0 den-pos (lit< tt) (sym (zero-
 -- ---- one rounding: num / den ≤ num' / den'
 signed-mono : (s t : Bool) (w d w' d' : ℕ) → 0 < d → 0 < d' → rounded w d < overflow binary32 → rounded w' d' < overflow binary32
     → d' ⊛ signed s w ≼ d ⊛ signed t w' → signed s (rounded w d) ≼ signed t (rounded w' d')
-signed-mono false false w d w' d' d-pos d'-pos low low' h = let l =
-    rounded-mono w d w' d' d-pos d'-pos (omega arith) low' in omega arith
-signed-mono true true w d w' d' d-pos d'-pos low low' h = let l =
-    rounded-mono w' d' w d d'-pos d-pos (omega arith) low in omega arith
+signed-mono false false w d w' d' d-pos d'-pos low low' h =
+    let l = rounded-mono w d w' d' d-pos d'-pos (omega arith) low' in omega arith
+signed-mono true true w d w' d' d-pos d'-pos low low' h =
+    let l = rounded-mono w' d' w d d'-pos d-pos (omega arith) low in omega arith
 signed-mono true false w d w' d' d-pos d'-pos low low' h = omega arith
 signed-mono false true w d w' d' d-pos d'-pos low low' h =
     let w-zero : w ≡ 0 = eq-of-mul-eq-mul-right d' d'-pos w 0 (omega arith) in

@@ -30,13 +30,14 @@ record Fraction (s : Bool) (n : ℕ) (a : Z) : Type 0 where
   at-most : turned s a ≼ whole n
 
 fraction : (s : Bool) (n : ℕ) (a : Z) → Between a (signed s n) → Fraction s n a
-fraction false n a (inl h) = let l = h .0 in let m = h .1 .0 in let p =
-    h .1 .1 in record { not-zero = omega arith; not-negative = l; at-most = m }
+fraction false n a (inl h) = let p = h .1 .1 in record { not-zero = omega arith; not-negative = h .0; at-most = h .1 .0 }
 fraction false n a (inr h) = absurd (let p = h .1 .1 in omega arith)
 fraction true n a (inl h) = absurd (let p = h .1 .1 in omega arith)
 fraction true n a (inr h) =
-    let l = h .0 in let m = h .1 .0 in let p =
-    h .1 .1 in record { not-zero = omega arith; not-negative = omega arith; at-most = omega arith }
+    let low = h .0 in
+    let high = h .1 .0 in
+    let p = h .1 .1 in
+    record { not-zero = omega arith; not-negative = omega arith; at-most = omega arith }
 
 pub div-in-unit : {x y : Float} → F32 x → F32 y → Between (val x) (val y) → InUnit (div binary32 x y)
 div-in-unit {x} {y} x-f32 y-f32 between =

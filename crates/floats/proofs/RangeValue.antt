@@ -11,8 +11,10 @@ use lib.Ieee.Fits.{and-i, and-l, and-r}
 use lib.Ieee.Scale.{finite}
 use Rattle.algebra.specs.Integer.{Z, whole, signed, opp, _≼_, Abs}
 use Rattle.floats.specs.Value.{metre, F32, mag, val}
-use Rattle.floats.specs.B2Common.{zero32}
-use Rattle.floats.specs.Ranges.{within, normal-limit, local-normal-limit, shape-limit, contact-limit, radius-in-range}
+use Rattle.floats.specs.declared.b2_math.B2vec2.{B2vec2}
+use Rattle.floats.specs.B2Common.{zero32, one32}
+use Rattle.floats.specs.Ranges.{within, vec2-within, normal-limit, local-normal-limit, shape-limit, contact-limit}
+use Rattle.floats.specs.Ranges.{radius-in-range}
 use Rattle.floats.proofs.Value.{metre-is, abs-mag, val-neg, neg-f32, AsFin, as-fin, f32-as-fin}
 use Rattle.floats.proofs.Comparison.{le-val, val-le}
 use Rattle.floats.proofs.Literals.{bits-sign, bits-field, bits-units, bits-f32, bits-mag, bits-val, zero-f32}
@@ -53,8 +55,8 @@ within-value {limit} {x} limit-f32 x-fits h =
 pub value-within : {limit x : Float} → F32 limit → val limit ≡ whole (mag limit) → F32 x → Abs (val x) (mag limit)
     → T (within limit x)
 value-within {limit} {x} limit-f32 limit-is x-f32 x-abs =
-    and-i (le (neg limit) x) (le x limit) (val-le (neg-f32 limit-f32) x-f32
-    (rw (val-neg limit, limit-is) (low (val x) x-abs)))
+    and-i (le (neg limit) x) (le x limit)
+    (val-le (neg-f32 limit-f32) x-f32 (rw (val-neg limit, limit-is) (low (val x) x-abs)))
     (val-le x-f32 limit-f32 (rw limit-is (high (val x) x-abs)))
   where
     low : (v : Z) → Abs v (mag limit) → opp (whole (mag limit)) ≼ v
@@ -74,9 +76,12 @@ limit-of-bits : (b h : ℕ) → T (ltb (bits-field b) 255) → T (eqb (bits-unit
 limit-of-bits b h low units plus = record {
   own = bits-f32 b low;
   size = bits-mag b low ∙ eqb→eq (bits-units b) (h * 2 ^ 149) units ∙ ap (λ (m : ℕ). h * m) (sym metre-is);
-  is = bits-val b low ∙ ap (λ (s : Bool). signed s (bits-units b)) (is-false (bits-sign b) plus) ∙ ap whole
-      (sym (bits-mag b low));
+  is = bits-val b low
+      ∙ ap (λ (s : Bool). signed s (bits-units b)) (is-false (bits-sign b) plus) ∙ ap whole (sym (bits-mag b low));
 }
+
+pub one-limit-is : Limit one32 1
+one-limit-is = limit-of-bits 0x3f80_0000 1 tt tt tt
 
 pub normal-limit-is : Limit normal-limit 2
 normal-limit-is = limit-of-bits 0x4000_0000 2 tt tt tt
@@ -97,6 +102,19 @@ limit-value l x-fits h = let v = within-value (l .own) x-fits h in record { own 
 
 pub value-limit : {limit x : Float} {h : ℕ} → Limit limit h → F32 x → Abs (val x) (h * metre) → T (within limit x)
 value-limit l x-f32 x-abs = value-within (l .own) (l .is) x-f32 (rw (l .size) x-abs)
+
+-- both coordinates of a vector
+pub limit-vec2 : {limit : Float} {v : B2vec2} {h : ℕ} → Limit limit h → T (fits binary32 (v .x)) → T (fits binary32 (v .y))
+    → T (vec2-within limit v) → Bounded (v .x) (h * metre) × Bounded (v .y) (h * metre)
+limit-vec2 {limit} {v} l x-fits y-fits h = (
+  limit-value l x-fits (and-l (within limit (v .x)) (within limit (v .y)) h),
+  limit-value l y-fits (and-r (within limit (v .x)) (within limit (v .y)) h),
+)
+
+pub vec2-limit : {limit : Float} {v : B2vec2} {h : ℕ} → Limit limit h → F32 (v .x) → F32 (v .y)
+    → Abs (val (v .x)) (h * metre) → Abs (val (v .y)) (h * metre) → T (vec2-within limit v)
+vec2-limit {limit} {v} l x-f32 y-f32 x-abs y-abs =
+    and-i (within limit (v .x)) (within limit (v .y)) (value-limit l x-f32 x-abs) (value-limit l y-f32 y-abs)
 
 -- ---- a radius: from 0, either zero, to 2^20 m
 pub record Radius (r : Float) : Type 0 where
@@ -124,3 +142,10 @@ radius-value {r} r-fits h =
       high = rw (l .is ∙ ap whole (l .size)) at
           (le-val own (l .own) at-most);
     }
+
+pub value-radius : {r : Float} → Radius r → T (radius-in-range r)
+unfolding radius-in-range
+value-radius {r} h =
+    let l = shape-limit-is in
+    and-i (le zero32 r) (le r shape-limit) (val-le zero-f32 (h .own) (rw zero-val (h .low)))
+    (val-le (h .own) (l .own) (rw (l .is ∙ ap whole (l .size)) (h .high)))

@@ -2,16 +2,17 @@
 -- |i l - metre²| ≤ 2 ticks, times a metre. Assumes nothing.
 use mathlib.Core.Path.{_≡_, sym, ap, _∙_}
 use Prim.Native.Nat.{ℕ, zero, suc, _+_, _*_, _^_, _≤_, _<_}
-use native.Mathlib.Nat.{le-trans, le-of-eq, mul-assoc, mul-le-mul-left, zero-lt-suc}
+use native.Mathlib.Nat.{le-refl, le-trans, le-of-eq, mul-assoc, mul-le-mul-left, mul-le-mul-right, zero-lt-suc}
 use native.Mathlib.Omega.{arith}
-use mathlib.Core.Bool.{Bool, true, false}
-use lib.Dec.{lit<}
+use lib.Dec.{T, leb, leb→le, lit<}
+use lib.Pow.{pow-mono}
 use lib.Ieee.{Float, binary32, div}
-use Rattle.algebra.specs.Integer.{Z, whole, signed, _⊟_, _⊠_, _⊛_, Abs}
-use Rattle.algebra.proofs.Magnitude.{abs-unscale}
-use Rattle.floats.specs.Value.{metre, tick, F32, sign, mag, val}
+use Rattle.algebra.specs.Integer.{Z, whole, _⊟_, _⊠_, _⊛_, Abs}
+use Rattle.algebra.proofs.Magnitude.{abs-unscale, abs-whole}
+use Rattle.floats.specs.Value.{metre, tick, F32, mag, val}
 use Rattle.floats.specs.B2Common.{one32}
-use Rattle.floats.proofs.Value.{metre-is, metre-pos, metre-ticks, val-signed}
+use Rattle.floats.proofs.Value.{metre-is, metre-pos, metre-ticks}
+use Rattle.floats.proofs.Operations.{product-size}
 use Rattle.floats.proofs.Near.{div-near}
 use Rattle.floats.proofs.Relative.{div-relative}
 use Rattle.floats.proofs.Literals.{one-f32, one-val, one-mag}
@@ -31,30 +32,29 @@ above-zero : (p l : ℕ) → metre ≤ p * l → 0 < l
 above-zero p zero h = absurd (let m = metre-pos in omega arith)
 above-zero p (suc l) h = zero-lt-suc l
 
-pub reciprocal : {l : Float} → F32 l → metre ≤ 2 ^ 127 * mag l → mag l ≤ 2 ^ 126 * metre
+-- l from 2^-j m to 2^k m
+pub reciprocal : (j k : ℕ) {l : Float} → T (leb j 127) → T (leb k 126) → F32 l → metre ≤ 2 ^ j * mag l → mag l ≤ 2 ^ k * metre
     → Reciprocal (div binary32 one32 l) l
-reciprocal {l} l-f32 low high =
+reciprocal j k {l} j-low k-low l-f32 low high =
     let i = div binary32 one32 l in
-    let l-pos = above-zero (2 ^ 127) (mag l) low in
-    let own : F32 i = div-near 127 tt one-f32 l-f32 l-pos (rw one-mag low) .own in
-    let relative = div-relative one-f32 l-f32 l-pos own (rw one-mag (normal-range (mag l) high)) in
+    let l-pos = above-zero (2 ^ j) (mag l) low in
+    let own : F32 i = div-near j j-low one-f32 l-f32 l-pos (rw one-mag low) .own in
+    let high' : mag l ≤ 2 ^ 126 * metre = le-trans high (mul-le-mul-right metre (pow-mono (leb→le k 126 k-low))) in
+    let relative = div-relative one-f32 l-f32 l-pos own (rw one-mag (normal-range (mag l) high')) in
     let err : Abs (val i ⊠ val l ⊟ whole (metre * metre)) (2 * tick * metre) =
     abs-unscale (2 ^ 24) (2 * tick * metre) (val i ⊠ val l ⊟ whole (metre * metre)) (lit< tt)
     (in-ticks (val i ⊠ val l) (rw (one-val, one-mag) at relative)) in
     record {
       own = own;
       err = err;
-      size = by-signs (sign i) (sign l) (mag i) (mag l) (2 * tick * metre)
-          (rw (val-signed i, val-signed l) at err);
+      size = product-size i l (metre * metre + 2 * tick * metre)
+          (total (val i ⊠ val l) (whole (metre * metre)) (metre * metre) (2 * tick * metre) err
+          (abs-whole (metre * metre) (metre * metre) (le-refl (metre * metre))));
     }
   where
     in-ticks : (v : Z) → Abs (2 ^ 24 ⊛ (v ⊟ metre ⊛ whole metre)) (metre * metre)
         → Abs (2 ^ 24 ⊛ (v ⊟ whole (metre * metre))) (2 ^ 24 * (2 * tick * metre))
     in-ticks v h = let e : metre * metre ≡ 2 ^ 25 * tick * metre = ap (λ (n : ℕ). n * metre) metre-ticks in omega arith
 
-    by-signs : (s t : Bool) (m n e : ℕ) → Abs (signed s m ⊠ signed t n ⊟ whole (metre * metre)) e
-        → m * n ≤ metre * metre + e
-    by-signs true true m n e h = omega arith
-    by-signs true false m n e h = omega arith
-    by-signs false true m n e h = omega arith
-    by-signs false false m n e h = omega arith
+    total : (v w : Z) (n e : ℕ) → Abs (v ⊟ w) e → Abs w n → Abs v (n + e)
+    total v w n e h k = omega arith

@@ -7,15 +7,15 @@ use native.Mathlib.Nat.{mul-comm, mul-pos}
 use native.Mathlib.Omega.{arith}
 use mathlib.Core.Bool.{Bool, true, false, cond}
 use lib.Dec.{T, ltb}
-use lib.Ieee.{Float, nan, inf, fin, binary32, odd, units, add, sub, mul}
+use lib.Ieee.{Float, fits, nan, inf, fin, binary32, odd, units, add, sub, mul, div}
 use lib.Ieee.Fits.{round-is, round-fits}
 use lib.Ieee.Positive.{first-pos}
 use lib.Ieee.Scale.{overflow, finite}
 use Rattle.algebra.specs.Integer.{Z, whole, signed, _⊞_, _⊟_, _⊠_, _≐_, _≼_, _≺_}
 use Rattle.algebra.proofs.Integer.{order-cases}
 use Rattle.floats.specs.Value.{metre, F32, sign, mag, val}
-use Rattle.floats.proofs.Value.{val-signed}
-use Rattle.floats.proofs.Operations.{Rounds, add-rounds, sub-rounds, mul-rounds}
+use Rattle.floats.proofs.Value.{val-signed, positive-sign}
+use Rattle.floats.proofs.Operations.{Rounds, add-rounds, sub-rounds, mul-rounds, div-rounds}
 use Rattle.floats.proofs.Rounding.{dropped, kept-digits}
 use Rattle.floats.proofs.Doubling.{rounds-double}
 
@@ -44,11 +44,8 @@ module _ {z : Float} {num : Z} {den : ℕ} (r : Rounds z num den) where
 
   size-pos : 0 < mag z → 0 < r .size
   size-pos z-pos =
-      let own : F32 z = record {
-        in-format = rw (r .is)
-            (round-fits binary32 (r .negative) (r .size) den);
-        is-finite = finite-of-mag z z-pos;
-      } in
+      let fit : T (fits binary32 z) = rw (r .is) (round-fits binary32 (r .negative) (r .size) den) in
+      let own : F32 z = record { in-format = fit; is-finite = finite-of-mag z z-pos } in
       from (r .size) (mul-pos z-pos (r .den-pos)) (rounds-double r own)
     where
       from : (w : ℕ) → 0 < mag z * den → mag z * den ≤ 2 * (w * metre) → 0 < w
@@ -94,24 +91,24 @@ module _ {x y : Float} (x-f32 : F32 x) (y-f32 : F32 y) where
   pub mul-not-negative : whole 0 ≼ val x ⊠ val y → whole 0 ≼ val (mul binary32 x y)
   mul-not-negative h = rounds-not-negative (mul-rounds x-f32 y-f32) h
 
+  pub div-not-negative : whole 0 ≼ val x → whole 0 ≺ val y → whole 0 ≼ val (div binary32 x y)
+  div-not-negative h y-pos =
+      let p = positive-sign y y-pos in
+      rounds-not-negative (div-rounds x-f32 y-f32 (p .mag-pos)) (rw (p .plus) h)
+
 -- ---- F7
 -- one above 0, the other below
 abbrev pub Opposite : Z → Z → Type 0
 Opposite a b = ((whole 0 ≺ a) × (b ≺ whole 0)) ⊎ ((a ≺ whole 0) × (whole 0 ≺ b))
 
+both-pos : (m n : ℕ) → 0 < m * n → (0 < m) × (0 < n)
+both-pos m n h = (first-pos m n h, first-pos n m (subst (λ (k : ℕ). 0 < k) (mul-comm m n) h))
+
 opposite-signed : (s t : Bool) (m n : ℕ) → signed s m ⊠ signed t n ≺ whole 0 → Opposite (signed s m) (signed t n)
 opposite-signed true true m n h = absurd (omega arith)
 opposite-signed false false m n h = absurd (omega arith)
-opposite-signed true false m n h =
-    let p : 0 < m * n = omega arith in
-    let m-pos = first-pos m n p in
-    let n-pos = first-pos n m (subst (λ (k : ℕ). 0 < k) (mul-comm m n) p) in
-    inr (omega arith, omega arith)
-opposite-signed false true m n h =
-    let p : 0 < m * n = omega arith in
-    let m-pos = first-pos m n p in
-    let n-pos = first-pos n m (subst (λ (k : ℕ). 0 < k) (mul-comm m n) p) in
-    inl (omega arith, omega arith)
+opposite-signed true false m n h = let p = both-pos m n (omega arith) in inr (omega arith, omega arith)
+opposite-signed false true m n h = let p = both-pos m n (omega arith) in inl (omega arith, omega arith)
 
 pub mul-negative : {x y : Float} → F32 x → F32 y → val (mul binary32 x y) ≺ whole 0 → Opposite (val x) (val y)
 mul-negative {x} {y} x-f32 y-f32 h =

@@ -16,7 +16,7 @@ use lib.Ieee.Digits.{back, size-lt, size-le, size-reaches}
 use Rattle.algebra.specs.Integer.{Z, whole, _≼_, _≺_}
 use Rattle.floats.specs.Value.{metre, F32, mag, val}
 use Rattle.floats.specs.Sqrt.{sqrt, rounded-root}
-use Rattle.floats.proofs.Value.{metre-is, metre-pos, positive-sign}
+use Rattle.floats.proofs.Value.{metre-pos, metre-split, metre-power, positive-sign}
 use Rattle.floats.proofs.Digits.{digits}
 use Rattle.floats.proofs.WholeRoot.{four-pow, four-pow-pos}
 use Rattle.floats.proofs.RoundedRoot.{RoundedRoot, HalfUnit}
@@ -26,21 +26,23 @@ use Rattle.floats.proofs.SqrtLaw.{sqrt-is, sqrt-rounded, root-mag, root
 module _ (h r : ℕ) (h-pos : 0 < h) where
   -- √y < √y', rounded to r and r'
   scale-mono : (y y' r' : ℕ) → y < y' → HalfUnit y h r → HalfUnit y' h r' → r' < r → ⊥
-  scale-mono y y' r' less near near' over = let d =
-      le-dest over in past (d .0) (subst (λ (n : ℕ). HalfUnit y h n) (sym (d .1)) near)
+  scale-mono y y' r' less near near' over =
+      let d = le-dest over in past (d .0) (subst (λ (n : ℕ). HalfUnit y h n) (sym (d .1)) near)
     where
       past : (d : ℕ) → HalfUnit y h (suc r' + d) → ⊥
       past d near = let n = near .0 in let n' = near' .1 in omega arith
 
   -- √y ≤ c √h, and so r ≤ c
   scale-below : (y c : ℕ) → HalfUnit y h r → y ≤ c * c * h → c < r → ⊥
-  scale-below y c near le over = let d = le-dest over in past (d .0) (subst (λ (n : ℕ). HalfUnit y h n) (sym (d .1)) near)
+  scale-below y c near le over =
+      let d = le-dest over in past (d .0) (subst (λ (n : ℕ). HalfUnit y h n) (sym (d .1)) near)
     where
       past : (d : ℕ) → HalfUnit y h (suc c + d) → ⊥
       past d near = let n = near .0 in omega arith
 
   scale-above : (y c : ℕ) → HalfUnit y h r → c * c * h ≤ y → r < c → ⊥
-  scale-above y c near le over = let d = le-dest over in past (d .0) (subst (λ (n : ℕ). n * n * h ≤ y) (sym (d .1)) le)
+  scale-above y c near le over =
+      let d = le-dest over in past (d .0) (subst (λ (n : ℕ). n * n * h ≤ y) (sym (d .1)) le)
     where
       past : (d : ℕ) → (suc r + d) * (suc r + d) * h ≤ y → ⊥
       past d le = let n = near .1 in omega arith
@@ -78,8 +80,8 @@ module _ {x : Float} {y : ℕ} (root : RoundedRoot x y) (q j : ℕ) (small : q <
   as-digits : root .scale ≤ j → q * 2 ^ (j - root .scale) * 2 ^ root .scale ≡ q * 2 ^ j
   as-digits le =
       mul-assoc q (2 ^ (j - root .scale)) (2 ^ root .scale)
-      ∙ ap (λ (n : ℕ). q * n) (sym (pow-add 2 (j - root .scale) (root .scale)) ∙ ap (λ (n : ℕ). 2 ^ n)
-      (back j (root .scale) le))
+      ∙ ap (λ (n : ℕ). q * n)
+      (sym (pow-add 2 (j - root .scale) (root .scale)) ∙ ap (λ (n : ℕ). 2 ^ n) (back j (root .scale) le))
 
   as-square : root .scale ≤ j
       → q * 2 ^ (j - root .scale) * (q * 2 ^ (j - root .scale)) * 4 ^ root .scale ≡ q * 2 ^ j * (q * 2 ^ j)
@@ -136,8 +138,8 @@ module _ {x : Float} {y : ℕ} (root : RoundedRoot x y) (q j : ℕ) (small : q <
           lt-of-lt-of-le
           (lt-of-le-of-lt (mul-le-mul-right (q * 2 ^ j) (le-of-lt (coarse less)))
           (mul-lt-mul-of-pos-left (coarse less) (pow-pos (23 + root .scale))))
-          (le-of-eq (sym (pow-add 2 (23 + root .scale) (23 + root .scale)) ∙ ap (λ (n : ℕ). 2 ^ n)
-          (halves (root .scale))))
+          (le-of-eq
+          (sym (pow-add 2 (23 + root .scale) (23 + root .scale)) ∙ ap (λ (n : ℕ). 2 ^ n) (halves (root .scale))))
 
 -- ---- the root of a number above 0
 whole-le : (a b : Z) (m n : ℕ) → a ≡ whole m → b ≡ whole n → m ≤ n → a ≼ b
@@ -153,8 +155,8 @@ sqrt-mono {x} {x'} x-f32 x'-f32 x-pos h =
     whole-le (val (sqrt binary32 x)) (val (sqrt binary32 x')) (mag (sqrt binary32 x)) (mag (sqrt binary32 x'))
     (root-val root) (root-val root')
     (elim (eq-or-lt-of-le le) [
-      | inl same ↦ le-of-eq (ap mag (sqrt-is x-f32 x-pos ∙ ap (λ (n : ℕ). rounded-root binary32 (n * metre)) same ∙ sym
-          (sqrt-is x'-f32 x'-pos)))
+      | inl same ↦ le-of-eq
+          (ap mag (sqrt-is x-f32 x-pos ∙ ap (λ (n : ℕ). rounded-root binary32 (n * metre)) same ∙ sym (sqrt-is x'-f32 x'-pos)))
       | inr less ↦ rw (root-mag root, root-mag root') (roots-mono root root' (mul-lt-mul-of-pos-right less metre-pos))
     ])
   where
@@ -184,8 +186,8 @@ module _ {x : Float} (i : ℕ) (x-f32 : F32 x) (x-pos : whole 0 ≺ val x) where
   sqrt-low i-low h =
       let p = 2 ^ i in
       let g = 1 * 2 ^ (149 - i) in
-      let split : metre ≡ g * p = metre-is ∙ ap (λ (n : ℕ). 2 ^ n) (sym (back 149 i (leb→le i 149 i-low))) ∙ pow-add 2
-      (149 - i) i ∙ ap (λ (n : ℕ). n * p) (sym (one-mul (2 ^ (149 - i)))) in
+      let split : metre ≡ g * p =
+      metre-split i (leb→le i 149 i-low) ∙ ap (λ (n : ℕ). n * p) (sym (one-mul (2 ^ (149 - i)))) in
       over g p (mag (sqrt binary32 x)) split
       (sqrt-above-digits x-f32 x-pos 1 (149 - i) (lit< tt)
       (square g p (mag x) (pow-pos i) split (subst (λ (n : ℕ). metre ≤ n * mag x) (pow-add 2 i i) h)))
@@ -203,8 +205,7 @@ module _ {x : Float} (i : ℕ) (x-f32 : F32 x) (x-pos : whole 0 ≺ val x) where
   pub sqrt-high : mag x ≤ 2 ^ (i + i) * metre → mag (sqrt binary32 x) ≤ 2 ^ i * metre
   sqrt-high h =
       let g = 1 * 2 ^ (i + 149) in
-      let split : g ≡ 2 ^ i * metre = one-mul (2 ^ (i + 149)) ∙ pow-add 2 i 149 ∙ ap (λ (n : ℕ). 2 ^ i * n)
-      (sym metre-is) in
+      let split : g ≡ 2 ^ i * metre = one-mul (2 ^ (i + 149)) ∙ metre-power i in
       le-trans (sqrt-below-digits x-f32 x-pos 1 (i + 149) (lit< tt)
       (square g (2 ^ i) (mag x) split (subst (λ (n : ℕ). mag x ≤ n * metre) (pow-add 2 i i) h)))
       (le-of-eq split)

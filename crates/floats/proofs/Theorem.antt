@@ -16,7 +16,7 @@ use Rattle.floats.proofs.Doubling.{add-double, sub-double, mul-double, 
 use Rattle.floats.proofs.Sign.{Opposite, mul-negative}
 use Rattle.floats.proofs.Quotient.{Between, InUnit, div-in-unit}
 use Rattle.floats.proofs.SqrtLaw.{SqrtLaw, sqrt-law}
-use Rattle.floats.proofs.SqrtOrder.{sqrt-mono, sqrt-above, sqrt-below}
+use Rattle.floats.proofs.SqrtOrder.{sqrt-mono, sqrt-above, sqrt-below, sqrt-low, sqrt-high}
 use Rattle.floats.proofs.Reciprocal.{Reciprocal, reciprocal}
 use Rattle.floats.proofs.Dot.{dot, DotNear, products-dot-near}
 
@@ -134,8 +134,16 @@ doubled-results x-f32 y-f32 = record {
 pub root-of-positive : {x : Float} → F32 x → whole 0 ≺ val x → SqrtLaw x (sqrt binary32 x)
 root-of-positive = sqrt-law
 
--- ---- F6: the reciprocal of a number from 2^-127 m to 2^126 m is within a relative 2^-24
-pub reciprocal-near : {l : Float} → F32 l → metre ≤ 2 ^ 127 * mag l → mag l ≤ 2 ^ 126 * metre
+-- and from 2^-i m on where x is from 2^-2i m on, and at most 2^i m where x is at most 2^2i m
+pub root-low : (i : ℕ) {x : Float} → F32 x → whole 0 ≺ val x → T (leb i 149) → metre ≤ 2 ^ (i + i) * mag x
+    → metre ≤ 2 ^ i * mag (sqrt binary32 x)
+root-low i x-f32 x-pos = sqrt-low i x-f32 x-pos
+
+pub root-high : (i : ℕ) {x : Float} → F32 x → whole 0 ≺ val x → mag x ≤ 2 ^ (i + i) * metre → mag (sqrt binary32 x) ≤ 2 ^ i * metre
+root-high i x-f32 x-pos = sqrt-high i x-f32 x-pos
+
+-- ---- F6: the reciprocal of a number from 2^-j m to 2^k m is within a relative 2^-24
+pub reciprocal-near : (j k : ℕ) {l : Float} → T (leb j 127) → T (leb k 126) → F32 l → metre ≤ 2 ^ j * mag l → mag l ≤ 2 ^ k * metre
     → Reciprocal (div binary32 one32 l) l
 reciprocal-near = reciprocal
 

@@ -2,12 +2,12 @@
 -- `HasValue x s g metre`, of lib.Ieee, says that x is finite, has the sign s and is g units in size; `F32` gives it and is given
 -- back by it. Assumes nothing.
 use mathlib.Core.Path.{_≡_, refl, sym, ap, _∙_}
-use Prim.Native.Nat.{ℕ, zero, suc, _-_, _*_, _/_, _%_, _^_, _≤_, _<_}
+use Prim.Native.Nat.{ℕ, zero, suc, _+_, _-_, _*_, _/_, _%_, _^_, _≤_, _<_}
 use native.Mathlib.Nat.{le-refl, mul-assoc, mul-one, mul-div-cancel, not-le-of-lt, zero-mul, zero-div, pow-succ'}
 use native.Mathlib.Omega.{arith}
 use mathlib.Core.Bool.{Bool, true, false, not, _&&_}
 use lib.IntN.{ℤ, pos, negsuc}
-use lib.Dec.{T, leb, ltb, eqb, leb→le, nleb→lt, eqb→eq}
+use lib.Dec.{T, leb, ltb, eqb, leb→le, nleb→lt, eqb→eq, lit<}
 use lib.Pow.{pow-add, pow-pos, pow-lt}
 use lib.Ieee.{Float, nan, inf, fin, binary32, up, down, neg, fits}
 use lib.Ieee.Digits.{back}
@@ -24,15 +24,22 @@ metre-is = refl
 
 pub metre-pos : 0 < metre
 unfolding metre
-metre-pos = pow-pos 149
+metre-pos = lit< tt
 
 pub tick-pos : 0 < tick
 unfolding tick
-tick-pos = pow-pos 124
+tick-pos = lit< tt
 
 pub metre-ticks : metre ≡ 2 ^ 25 * tick
 unfolding metre tick
 metre-ticks = refl
+
+-- as products of powers of two
+pub metre-split : (t : ℕ) → t ≤ 149 → metre ≡ 2 ^ (149 - t) * 2 ^ t
+metre-split t h = metre-is ∙ ap (λ (n : ℕ). 2 ^ n) (sym (back 149 t h)) ∙ pow-add 2 (149 - t) t
+
+pub metre-power : (k : ℕ) → 2 ^ (k + 149) ≡ 2 ^ k * metre
+metre-power k = pow-add 2 k 149 ∙ ap (λ (m : ℕ). 2 ^ k * m) (sym metre-is)
 
 -- ---- sign and size
 pub val-signed : (x : Float) → val x ≡ signed (sign x) (mag x)
@@ -90,11 +97,7 @@ exponent-le i j h = by-test (leb i j) (leb→le i j) (nleb→lt i j)
 
 metre-down : (e : ℤ) → down e ≤ 2 ^ 149 → (c : ℕ) × (metre ≡ c * down e)
 metre-down (pos k) h = (metre, sym (mul-one metre))
-metre-down (negsuc k) h = (
-  2 ^ (149 - suc k),
-  metre-is ∙ ap (λ (x : ℕ). 2 ^ x) (sym (back 149 (suc k) (exponent-le (suc k) 149 h))) ∙ pow-add 2
-      (149 - suc k) (suc k),
-)
+metre-down (negsuc k) h = (2 ^ (149 - suc k), metre-split (suc k) (exponent-le (suc k) 149 h))
 
 whole-units : (m : ℕ) (e : ℤ) → down e ≤ 2 ^ 149 → m * up e * metre ≡ m * up e * metre / down e * down e
 whole-units m e h =

@@ -84,8 +84,8 @@ root-of-one : SqrtLaw one32 (sqrt binary32 one32)
 root-of-one = root-of-positive one-f32 one-pos
 
 reciprocal-of-one : Reciprocal (div binary32 one32 one32) one32
-reciprocal-of-one = reciprocal-near one-f32 (rw one-mag (at-least (2 ^ 127) (lit≤ tt)))
-    (rw one-mag (at-least (2 ^ 126) (lit≤ tt)))
+reciprocal-of-one =
+    reciprocal-near 8 4 tt tt one-f32 (rw one-mag (at-least (2 ^ 8) (lit≤ tt))) (rw one-mag (at-least (2 ^ 4) (lit≤ tt)))
   where
     at-least : (n : ℕ) → 1 ≤ n → metre ≤ n * metre
     at-least n h = le-trans (le-of-eq (sym (one-mul metre))) (mul-le-mul-right metre h)
