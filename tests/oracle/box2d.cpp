@@ -113,6 +113,12 @@ void learn() {
 
 } // namespace
 
+// What sine and cosine give from now on, in this process: the Rust's too.
+extern "C" void set_turn(float sine, float cosine) {
+    given_sine = sine;
+    given_cosine = cosine;
+}
+
 extern "C" size_t box2d_answer(const uint32_t *request, uint32_t *out) {
     learn();
     Reader in{request};

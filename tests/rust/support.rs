@@ -20,6 +20,7 @@ pub fn calls(request: &[u32]) -> Vec<u32> {
 }
 
 /// Bits for a comparison: every NaN is one value.
+#[allow(dead_code)]
 pub fn bits(x: f32) -> u32 {
     if x.is_nan() {
         0x7fc0_0000
