@@ -1,9 +1,7 @@
 -- Comparisons of floats are the whole-number tests of what they stand for: values, or exact numbers of (2^-149 m)². `lt-test` and
 -- `eq-test` are general and belong in floats' Comparison. Assumes nothing.
 use mathlib.Core.Path.{_≡_, refl}
-use mathlib.Core.Bool.{Bool, true, false}
 use native.Mathlib.Omega.{arith}
-use lib.Dec.{T}
 use lib.Ieee.{Float, lt, eq}
 use Rattle.algebra.specs.Integer.{Z, whole, _⊛_, _≐_, _≺_, _≐?_, _≺?_}
 use Rattle.algebra.proofs.Integer.{same-of-test, test-of-same, lt-of-test, test-of-lt, same-trans, same-sym}
@@ -11,27 +9,20 @@ use Rattle.algebra.proofs.Integer.{multiple-same, multiple-mono-lt, multiple-ca
 use Rattle.floats.specs.Value.{metre, F32, val}
 use Rattle.floats.specs.B2Common.{zero32}
 use Rattle.floats.proofs.Value.{metre-pos}
-use Rattle.floats.proofs.Comparison.{lt-val, val-lt, eq-val, val-eq}
+use Rattle.floats.proofs.Comparison.{bool-iff, lt-val, val-lt, eq-val, val-eq}
 use Rattle.floats.proofs.Literals.{zero-f32, zero-val}
 use Rattle.grid.proofs.Exact.{Squared}
-
--- two tests that hold of the same are the same
-pub same-test : (a b : Bool) → (T a → T b) → (T b → T a) → a ≡ b
-same-test true true f g = refl
-same-test true false f g = absurd (f tt)
-same-test false true f g = absurd (g tt)
-same-test false false f g = refl
 
 -- ---- values
 module _ {x y : Float} (x-f32 : F32 x) (y-f32 : F32 y) where
   pub lt-test : lt x y ≡ (val x ≺? val y)
   lt-test =
-      same-test (lt x y) (val x ≺? val y) (λ t. test-of-lt (val x) (val y) (lt-val x-f32 y-f32 t))
+      bool-iff (lt x y) (val x ≺? val y) (λ t. test-of-lt (val x) (val y) (lt-val x-f32 y-f32 t))
       (λ t. val-lt x-f32 y-f32 (lt-of-test (val x) (val y) t))
 
   pub eq-test : eq x y ≡ (val x ≐? val y)
   eq-test =
-      same-test (eq x y) (val x ≐? val y) (λ t. test-of-same (val x) (val y) (eq-val x-f32 y-f32 t))
+      bool-iff (eq x y) (val x ≐? val y) (λ t. test-of-same (val x) (val y) (eq-val x-f32 y-f32 t))
       (λ t. val-eq x-f32 y-f32 (same-of-test (val x) (val y) t))
 
 -- ---- products
@@ -44,7 +35,7 @@ squared-zero = record { own = zero-f32; is = rw zero-val (omega arith) }
 module _ {y z : Float} (v w : Z) (y-is : Squared y v) (z-is : Squared z w) where
   pub lt-squared : lt y z ≡ (v ≺? w)
   lt-squared =
-      same-test (lt y z) (v ≺? w)
+      bool-iff (lt y z) (v ≺? w)
       (λ t. test-of-lt v w (lt-resp (metre ⊛ val y) v (metre ⊛ val z) w (y-is .is) (z-is .is)
       (multiple-mono-lt metre (val y) (val z) metre-pos (lt-val (y-is .own) (z-is .own) t))))
       (λ t. val-lt (y-is .own) (z-is .own) (multiple-cancel-lt metre (val y) (val z)
@@ -53,7 +44,7 @@ module _ {y z : Float} (v w : Z) (y-is : Squared y v) (z-is : Squared z w) where
 
   pub eq-squared : eq y z ≡ (v ≐? w)
   eq-squared =
-      same-test (eq y z) (v ≐? w)
+      bool-iff (eq y z) (v ≐? w)
       (λ t. test-of-same v w (same-trans v (metre ⊛ val z) w
       (same-trans v (metre ⊛ val y) (metre ⊛ val z) (same-sym (metre ⊛ val y) v (y-is .is))
       (multiple-same metre (val y) (val z) (eq-val (y-is .own) (z-is .own) t))) (z-is .is)))

@@ -16,14 +16,14 @@ use Rattle.floats.specs.Value.{metre, F32, val}
 use Rattle.floats.specs.B2Common.{zero32}
 use Rattle.floats.specs.B2Math.{b2-sub, b2-dot, b2-cross, b2-length-squared, b2-distance-vec2-squared}
 use Rattle.floats.proofs.Value.{metre-pos}
-use Rattle.floats.proofs.Comparison.{lt-val, val-lt}
+use Rattle.floats.proofs.Comparison.{bool-iff, lt-val, val-lt}
 use Rattle.floats.proofs.Dyadic.{Dyadic, dyadic-finer, dyadic-lt, lt-dyadic}
 use Rattle.floats.proofs.Literals.{bits-dyadic}
 use Rattle.hull.specs.Outline.{same-point, starts-before, wraps-closer}
 use Rattle.shapes.specs.Outline.{weld-limit, too-near, comes-before, turns-closer, closer}
 use Rattle.grid.specs.Grid.{Steps, StepsPoint, GridPoint, value-point}
 use Rattle.grid.proofs.Exact.{steps-vec-sub, sub-is, counts, Squared, cross-exact, length-squared-exact, dot-dyadic}
-use Rattle.grid.proofs.Compare.{same-test, lt-test, eq-test, squared-same, squared-zero, lt-squared, eq-squared}
+use Rattle.grid.proofs.Compare.{lt-test, eq-test, squared-same, squared-zero, lt-squared, eq-squared}
 
 -- ---- vectors that are equal by value
 abbrev pub Same : Point → Point → Type 0
@@ -149,7 +149,7 @@ none-both c hx hy = sum-same (c .x ⊠ c .x) (whole 0) (c .y ⊠ c .y) (whole 0)
 
 pub too-near-is : (v k : B2vec2) → GridPoint v → GridPoint k → same-point (value-point v) (value-point k) ≡ too-near v k
 too-near-is v k v-grid k-grid =
-    same-test (same-point (value-point v) (value-point k)) (too-near v k)
+    bool-iff (same-point (value-point v) (value-point k)) (too-near v k)
     (λ t. let parts = and-yes (val (v .x) ≐? val (k .x)) (val (v .y) ≐? val (k .y)) t in
     none-near v-grid k-grid
     (none-both (counts side)
