@@ -2,3 +2,4 @@ pub mod Exact
 pub mod Compare
 pub mod Tests
 pub mod Places
+pub mod Rows
