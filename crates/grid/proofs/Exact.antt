@@ -88,13 +88,16 @@ abbrev pub counts : {n : ℕ} {v : B2vec2} → StepsPoint n v → Point
 counts v-steps = record { x = v-steps .0 .count; y = v-steps .1 .count }
 
 module _ {a b : B2vec2} (a-steps : StepsPoint 2048 a) (b-steps : StepsPoint 2048 b) where
+  pub cross-count : Abs (cross (counts a-steps) (counts b-steps)) (2 ^ 23)
+  cross-count =
+      abs-difference (a-steps .0 .count ⊠ b-steps .1 .count) (a-steps .1 .count ⊠ b-steps .0 .count) (2 ^ 22) (2 ^ 22)
+      (product-count (a-steps .0) (b-steps .1)) (product-count (a-steps .1) (b-steps .0))
+
   pub cross-dyadic : Dyadic (b2-cross a b) (cross (counts a-steps) (counts b-steps)) 16
   unfolding b2-cross
   cross-dyadic =
       exact-sub 16 tt (product-dyadic (a-steps .0) (b-steps .1)) (product-dyadic (a-steps .1) (b-steps .0))
-      (abs-widen (cross (counts a-steps) (counts b-steps)) (2 ^ 22 + 2 ^ 22) (2 ^ 24)
-      (abs-difference (a-steps .0 .count ⊠ b-steps .1 .count) (a-steps .1 .count ⊠ b-steps .0 .count) (2 ^ 22) (2 ^ 22)
-      (product-count (a-steps .0) (b-steps .1)) (product-count (a-steps .1) (b-steps .0))) (lit≤ tt))
+      (abs-widen (cross (counts a-steps) (counts b-steps)) (2 ^ 23) (2 ^ 24) cross-count (lit≤ tt))
 
   pub cross-exact : Squared (b2-cross a b) (cross (value-point a) (value-point b))
   cross-exact =

@@ -147,6 +147,21 @@ both-none c h = (
 none-both : (c : Point) → c .x ≐ whole 0 → c .y ≐ whole 0 → dot c c ≐ whole 0
 none-both c hx hy = sum-same (c .x ⊠ c .x) (whole 0) (c .y ⊠ c .y) (whole 0) (product-zero (c .x) (c .x) hx) (product-zero (c .y) (c .y) hy)
 
+-- no difference
+none-apart : (z x y : Z) → z ≐ x ⊟ y → z ≐ whole 0 → x ≐ y
+none-apart z x y h e = omega arith
+
+-- no steps from p to q: the same point
+pub no-steps-same : {p q : B2vec2} (p-grid : GridPoint p) (q-grid : GridPoint q)
+    → dot (counts (side-steps p-grid q-grid)) (counts (side-steps p-grid q-grid)) ≐ whole 0 → Same (value-point q) (value-point p)
+no-steps-same {p} {q} p-grid q-grid h =
+    let side = side-steps p-grid q-grid in
+    let apart = side-is p-grid q-grid in
+    let none = both-none (counts side) h in (
+      none-apart (val (b2-sub q p .x)) (val (q .x)) (val (p .x)) (apart .0) (value-none (side .0) (none .0)),
+      none-apart (val (b2-sub q p .y)) (val (q .y)) (val (p .y)) (apart .1) (value-none (side .1) (none .1)),
+    )
+
 pub too-near-is : (v k : B2vec2) → GridPoint v → GridPoint k → same-point (value-point v) (value-point k) ≡ too-near v k
 too-near-is v k v-grid k-grid =
     bool-iff (same-point (value-point v) (value-point k)) (too-near v k)
@@ -155,10 +170,9 @@ too-near-is v k v-grid k-grid =
     (none-both (counts side)
     (none-value (side .0) (apart-none (val (b2-sub v k .x)) (val (v .x)) (val (k .x)) (apart .0) (same-of-test (val (v .x)) (val (k .x)) (parts .0))))
     (none-value (side .1) (apart-none (val (b2-sub v k .y)) (val (v .y)) (val (k .y)) (apart .1) (same-of-test (val (v .y)) (val (k .y)) (parts .1))))))
-    (λ t. let none = both-none (counts side) (near-none v-grid k-grid t) in
+    (λ t. let same = no-steps-same k-grid v-grid (near-none v-grid k-grid t) in
     yes-and (val (v .x) ≐? val (k .x)) (val (v .y) ≐? val (k .y))
-    (test-of-same (val (v .x)) (val (k .x)) (none-apart (val (b2-sub v k .x)) (val (v .x)) (val (k .x)) (apart .0) (value-none (side .0) (none .0))))
-    (test-of-same (val (v .y)) (val (k .y)) (none-apart (val (b2-sub v k .y)) (val (v .y)) (val (k .y)) (apart .1) (value-none (side .1) (none .1)))))
+    (test-of-same (val (v .x)) (val (k .x)) (same .0)) (test-of-same (val (v .y)) (val (k .y)) (same .1)))
   where
     side : StepsPoint 2048 (b2-sub v k)
     side = side-steps k-grid v-grid
@@ -168,6 +182,3 @@ too-near-is v k v-grid k-grid =
 
     apart-none : (z x y : Z) → z ≐ x ⊟ y → x ≐ y → z ≐ whole 0
     apart-none z x y h e = omega arith
-
-    none-apart : (z x y : Z) → z ≐ x ⊟ y → z ≐ whole 0 → x ≐ y
-    none-apart z x y h e = omega arith
