@@ -6,3 +6,4 @@ pub mod Rows
 pub mod Edges
 pub mod Triangles
 pub mod Moments
+pub mod Fan
