@@ -7,3 +7,4 @@ pub mod Edges
 pub mod Triangles
 pub mod Moments
 pub mod Fan
+pub mod Verdict
