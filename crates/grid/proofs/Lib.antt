@@ -8,3 +8,4 @@ pub mod Triangles
 pub mod Moments
 pub mod Fan
 pub mod Verdict
+pub mod FirstSentence

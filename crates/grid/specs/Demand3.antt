@@ -42,6 +42,6 @@ pub record FirstSentence (old : B2polygonShape) (l : List B2vec2) : Type 0 where
   -- what it is turned down with
   pub wrong-number : (refusal-of old l ≡ wrong-number-of-points) ↔ (¬ ThreeToEight l)
   pub too-few-different : (refusal-of old l ≡ too-few-after-welding) ↔ (ThreeToEight l × (¬ ThreeDifferent (values l)))
-  pub on-one-line : (refusal-of old l ≡ walk-not-closed) ↔ (ThreeToEight l × (ThreeDifferent (values l) × OnLine (values l)))
+  pub on-one-line : (refusal-of old l ≡ walk-not-closed) ↔ (ThreeToEight l × ThreeDifferent (values l) × OnLine (values l))
   pub never-out-of-range : ¬ (refusal-of old l ≡ shape-out-of-range)
   pub never-too-small : ¬ (refusal-of old l ≡ edge-or-area-too-small)
