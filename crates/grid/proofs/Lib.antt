@@ -9,3 +9,4 @@ pub mod Moments
 pub mod Fan
 pub mod Verdict
 pub mod FirstSentence
+pub mod UnitNormal
