@@ -1,15 +1,17 @@
 -- Comparisons of floats are the whole-number tests of what they stand for: values, or exact numbers of (2^-149 m)². `lt-test` and
 -- `eq-test` are general and belong in floats' Comparison. Assumes nothing.
 use mathlib.Core.Path.{_≡_, refl}
+use Prim.Native.Nat.{ℕ}
 use native.Mathlib.Omega.{arith}
 use lib.Ieee.{Float, lt, eq}
-use Rattle.algebra.specs.Integer.{Z, whole, _⊛_, _≐_, _≺_, _≐?_, _≺?_}
+use Rattle.algebra.specs.Integer.{Z, whole, _⊛_, _≐_, _≼_, _≺_, _≐?_, _≺?_}
 use Rattle.algebra.proofs.Integer.{same-of-test, test-of-same, lt-of-test, test-of-lt, same-trans, same-sym}
-use Rattle.algebra.proofs.Integer.{multiple-same, multiple-mono-lt, multiple-cancel-lt, multiple-cancel-same, lt-resp}
+use Rattle.algebra.proofs.Integer.{multiple-same, multiple-mono-lt, multiple-cancel, multiple-cancel-lt, multiple-cancel-same, lt-resp}
 use Rattle.floats.specs.Value.{metre, F32, val}
 use Rattle.floats.specs.B2Common.{zero32}
 use Rattle.floats.proofs.Value.{metre-pos}
 use Rattle.floats.proofs.Comparison.{bool-iff, lt-val, val-lt, eq-val, val-eq}
+use Rattle.floats.proofs.Dyadic.{Dyadic, dyadic-lt, dyadic-le}
 use Rattle.floats.proofs.Literals.{zero-f32, zero-val}
 use Rattle.grid.proofs.Exact.{Squared}
 
@@ -51,3 +53,24 @@ module _ {y z : Float} (v w : Z) (y-is : Squared y v) (z-is : Squared z w) where
       (λ t. val-eq (y-is .own) (z-is .own) (multiple-cancel-same metre (val y) (val z) metre-pos
       (same-trans (metre ⊛ val y) w (metre ⊛ val z) (same-trans (metre ⊛ val y) v w (y-is .is) (same-of-test v w t))
       (same-sym (metre ⊛ val z) w (z-is .is)))))
+
+-- ---- the sign of a product is that of its count of steps squared
+pub zero-dyadic : (t : ℕ) → Dyadic zero32 (whole 0) t
+zero-dyadic t = record { own = zero-f32; is = rw zero-val (omega arith) }
+
+module _ {z : Float} {c w : Z} (z-is : Dyadic z c 16) (z-squared : Squared z w) where
+  pub positive-steps : whole 0 ≺ w → whole 0 ≺ c
+  positive-steps h =
+      dyadic-lt (zero-dyadic 16) z-is
+      (rw zero-val (multiple-cancel-lt metre (whole 0) (val z) (go (val z) (z-squared .is) h)))
+    where
+      go : (v : Z) → metre ⊛ v ≐ w → whole 0 ≺ w → metre ⊛ whole 0 ≺ metre ⊛ v
+      go v e h = omega arith
+
+  pub not-negative-steps : whole 0 ≼ w → whole 0 ≼ c
+  not-negative-steps h =
+      dyadic-le (zero-dyadic 16) z-is
+      (rw zero-val (multiple-cancel metre (whole 0) (val z) metre-pos (go (val z) (z-squared .is) h)))
+    where
+      go : (v : Z) → metre ⊛ v ≐ w → whole 0 ≼ w → metre ⊛ whole 0 ≼ metre ⊛ v
+      go v e h = omega arith

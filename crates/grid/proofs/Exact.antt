@@ -107,13 +107,16 @@ module _ {a b : B2vec2} (a-steps : StepsPoint 2048 a) (b-steps : StepsPoint 2048
       (product-steps (val (a .x)) (val (b .y)) (a-steps .0 .count) (b-steps .1 .count) (a-steps .0 .is) (b-steps .1 .is))
       (product-steps (val (a .y)) (val (b .x)) (a-steps .1 .count) (b-steps .0 .count) (a-steps .1 .is) (b-steps .0 .is)))
 
+  pub dot-count : Abs (dot (counts a-steps) (counts b-steps)) (2 ^ 23)
+  dot-count =
+      abs-sum (a-steps .0 .count ⊠ b-steps .0 .count) (a-steps .1 .count ⊠ b-steps .1 .count) (2 ^ 22) (2 ^ 22)
+      (product-count (a-steps .0) (b-steps .0)) (product-count (a-steps .1) (b-steps .1))
+
   pub dot-dyadic : Dyadic (b2-dot a b) (dot (counts a-steps) (counts b-steps)) 16
   unfolding b2-dot
   dot-dyadic =
       exact-add 16 tt (product-dyadic (a-steps .0) (b-steps .0)) (product-dyadic (a-steps .1) (b-steps .1))
-      (abs-widen (dot (counts a-steps) (counts b-steps)) (2 ^ 22 + 2 ^ 22) (2 ^ 24)
-      (abs-sum (a-steps .0 .count ⊠ b-steps .0 .count) (a-steps .1 .count ⊠ b-steps .1 .count) (2 ^ 22) (2 ^ 22)
-      (product-count (a-steps .0) (b-steps .0)) (product-count (a-steps .1) (b-steps .1))) (lit≤ tt))
+      (abs-widen (dot (counts a-steps) (counts b-steps)) (2 ^ 23) (2 ^ 24) dot-count (lit≤ tt))
 
   pub dot-exact : Squared (b2-dot a b) (dot (value-point a) (value-point b))
   dot-exact =

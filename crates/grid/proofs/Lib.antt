@@ -10,3 +10,5 @@ pub mod Fan
 pub mod Verdict
 pub mod FirstSentence
 pub mod UnitNormal
+pub mod Normalise
+pub mod Normals

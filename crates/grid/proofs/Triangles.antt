@@ -7,19 +7,19 @@ use lib.Dec.{T, lit≤}
 use lib.Ieee.{Float, binary32, sub, mul}
 use Rattle.algebra.specs.Integer.{Z, whole, _⊟_, _⊠_, _⊛_, _≐_, _≼_, _≺_, Abs}
 use Rattle.algebra.specs.Plane.{Point, from-to, cross, orient}
-use Rattle.algebra.proofs.Integer.{same-trans, same-sym, multiple-same, multiple-cancel, multiple-cancel-lt, lt-resp, le-resp}
+use Rattle.algebra.proofs.Integer.{same-trans, multiple-same, multiple-mono, le-resp}
 use Rattle.algebra.proofs.Magnitude.{abs-scale, abs-unscale, abs-same, abs-widen, abs-difference, abs-product}
 use Rattle.floats.specs.declared.b2_math.B2vec2.{B2vec2}
 use Rattle.floats.specs.Value.{metre, F32, val}
 use Rattle.floats.specs.B2Common.{zero32, half32}
 use Rattle.floats.specs.B2Math.{b2-sub, b2-cross}
 use Rattle.floats.proofs.Value.{metre-pos}
-use Rattle.floats.proofs.Dyadic.{Dyadic, exact-mul, dyadic-lt, dyadic-le, le-dyadic}
-use Rattle.floats.proofs.Literals.{zero-f32, zero-val, half-f32, half-val}
+use Rattle.floats.proofs.Dyadic.{Dyadic, exact-mul, le-dyadic}
+use Rattle.floats.proofs.Literals.{zero-val, half-f32, half-val}
 use Rattle.floats.proofs.UnitFactors.{sub-zero-exact}
 use Rattle.grid.specs.Grid.{Steps, StepsPoint, GridPoint, value-point}
 use Rattle.grid.proofs.Exact.{counts, Squared, cross-dyadic, cross-exact, cross-count}
-use Rattle.grid.proofs.Compare.{squared-same}
+use Rattle.grid.proofs.Compare.{squared-same, zero-dyadic, positive-steps, not-negative-steps}
 use Rattle.grid.proofs.Tests.{Same, cross-same, side-steps, side-is}
 
 -- ---- a corner measured from the first one, s, less s measured from itself
@@ -78,9 +78,6 @@ half-dyadic = record { own = half-f32; is = let h = half-val in go (val half32) 
     go : (v : Z) → 2 ⊛ v ≐ whole metre → 2 ⊛ v ≐ metre ⊛ whole 1
     go v h = omega arith
 
-zero-dyadic : (t : ℕ) → Dyadic zero32 (whole 0) t
-zero-dyadic t = record { own = zero-f32; is = rw zero-val (omega arith) }
-
 pub triangle-is : {s p q : B2vec2} → GridPoint s → GridPoint p → GridPoint q
     → Triangle (triangle s p q) (orient (value-point s) (value-point p) (value-point q))
 triangle-is {s} {p} {q} s-grid p-grid q-grid =
@@ -101,8 +98,8 @@ triangle-is {s} {p} {q} s-grid p-grid q-grid =
       count = whole 1 ⊠ c;
       dyadic = exact-mul 1 16 tt half-dyadic z-is (once (2 ^ 24) (abs-widen c (2 ^ 23) (2 ^ 24) most (lit≤ tt)));
       most = once (2 ^ 23) most;
-      positive = λ h. above (dyadic-lt (zero-dyadic 16) z-is (rw zero-val (multiple-cancel-lt metre (whole 0) (val z) (drop-lt (val z) (z-squared .is) h))));
-      not-negative = λ h. least (dyadic-le (zero-dyadic 16) z-is (rw zero-val (multiple-cancel metre (whole 0) (val z) metre-pos (drop-le (val z) (z-squared .is) h))));
+      positive = λ h. above (positive-steps z-is z-squared h);
+      not-negative = λ h. least (not-negative-steps z-is z-squared h);
     }
       where
         once : (n : ℕ) → Abs c n → Abs (whole 1 ⊠ c) n
@@ -114,12 +111,6 @@ triangle-is {s} {p} {q} s-grid p-grid q-grid =
         least : whole 0 ≼ c → whole 0 ≼ whole 1 ⊠ c
         least h = omega arith
 
-        drop-lt : (v : Z) → metre ⊛ v ≐ w → whole 0 ≺ w → metre ⊛ whole 0 ≺ metre ⊛ v
-        drop-lt v e h = omega arith
-
-        drop-le : (v : Z) → metre ⊛ v ≐ w → whole 0 ≼ w → metre ⊛ whole 0 ≼ metre ⊛ v
-        drop-le v e h = omega arith
-
 -- ---- its value
 module _ {part : Float} {w : Z} (t : Triangle part w) where
   pub part-not-negative : whole 0 ≼ w → whole 0 ≼ val part
@@ -130,7 +121,7 @@ module _ {part : Float} {w : Z} (t : Triangle part w) where
   part-large h = go (val part) (t .count) (t .dyadic .is) (t .positive h)
     where
       go : (v c : Z) → 2 ^ 17 ⊛ v ≐ metre ⊛ c → whole 0 ≺ c → whole metre ≼ 2 ^ 17 ⊛ v
-      go v c e h = le-resp (metre ⊛ whole 1) (whole metre) (metre ⊛ c) (2 ^ 17 ⊛ v) (omega arith) (omega arith) (Rattle.algebra.proofs.Integer.multiple-mono metre (whole 1) c (omega arith))
+      go v c e h = le-resp (metre ⊛ whole 1) (whole metre) (metre ⊛ c) (2 ^ 17 ⊛ v) (omega arith) (omega arith) (multiple-mono metre (whole 1) c (omega arith))
 
   pub part-cap : Abs (val part) (64 * metre)
   part-cap =

@@ -33,7 +33,7 @@ pub record UnitNormal (u v a b : Z) (l t : ℕ) : Type 0 where
 
 module _ (l t : ℕ) (l-pos : 0 < l) (root : RelativeSquare t (l * l)) where
   -- ---- a coordinate u of the direction, v the other one
-  coordinate-most : (u v : Z) → u ⊠ u ⊞ v ⊠ v ≐ whole t → Abs (2 ^ 24 ⊛ u) ((2 ^ 24 + 1) * l)
+  pub coordinate-most : (u v : Z) → u ⊠ u ⊞ v ⊠ v ≐ whole t → Abs (2 ^ 24 ⊛ u) ((2 ^ 24 + 1) * l)
   coordinate-most u v square =
       abs-of-square (2 ^ 24 ⊛ u) ((2 ^ 24 + 1) * l)
       (subst (λ (w : Z). w ≼ whole ((2 ^ 24 + 1) * l * ((2 ^ 24 + 1) * l))) (sym (product-of-multiples (2 ^ 24) (2 ^ 24) u u))
