@@ -12,3 +12,6 @@ pub mod FirstSentence
 pub mod UnitNormal
 pub mod Normalise
 pub mod Normals
+pub mod Centroid
+pub mod Outline
+pub mod Theorem

@@ -75,7 +75,7 @@ module _ {e : B2vec2} (e-steps : StepsPoint 2048 e) where
       turn v c h = omega arith
 
 -- ---- the builder's normal of the edge from p to q, for (u, v) = (edge.y, -edge.x)
-pub EdgeNormal : B2vec2 → B2vec2 → B2vec2 → Type 0
+unfoldable pub EdgeNormal : B2vec2 → B2vec2 → B2vec2 → Type 0
 EdgeNormal p q w = let e = from-to (value-point p) (value-point q) in Normalised w (e .y) (opp (e .x))
 
 module _ {p q : B2vec2} (p-grid : GridPoint p) (q-grid : GridPoint q) (differ : ¬ (value-point q ≡ value-point p)) where
@@ -99,7 +99,7 @@ module _ {p q : B2vec2} (p-grid : GridPoint p) (q-grid : GridPoint q) (differ : 
   edge-normal = normalised (turned-steps (side-steps p-grid q-grid)) turned-some (val (q .y) ⊟ val (p .y)) (opp (val (q .x) ⊟ val (p .x))) edge-turned
 
 -- ---- within the range of stored normals
-pub normalised-in-range : {w : B2vec2} {u v : Z} → Normalised w u v → T (normal-in-range w)
+normalised-in-range : {w : B2vec2} {u v : Z} → Normalised w u v → T (normal-in-range w)
 unfolding normal-in-range
 normalised-in-range {w} h =
     yes-and (within normal-limit (w .x)) (within normal-limit (w .y)) (value-limit normal-limit-is (h .x-own) (two (val (w .x)) (h .unit .a-most)))
@@ -107,3 +107,7 @@ normalised-in-range {w} h =
   where
     two : (a : Z) → Abs a (metre + 16 * tick) → Abs a (2 * metre)
     two a k = let e = metre-ticks in omega arith
+
+pub edge-normal-in-range : (p q w : B2vec2) → EdgeNormal p q w → T (normal-in-range w)
+unfolding EdgeNormal
+edge-normal-in-range p q w h = normalised-in-range h

@@ -88,7 +88,7 @@ hull-corners s cs p rest few grid is hull = go cs grid is (hull .three)
         }
 
 -- not below: at least
-not-lt : (m n : ℕ) → (m < n → ⊥) → n ≤ m
+pub not-lt : (m n : ℕ) → (m < n → ⊥) → n ≤ m
 not-lt m n h = elim (decLt m n) [ yes l ↦ absurd (h l) | no k ↦ omega arith ]
 
 -- ---- the four answers
