@@ -15,3 +15,4 @@ pub mod Normals
 pub mod Centroid
 pub mod Outline
 pub mod Theorem
+pub mod Controls
