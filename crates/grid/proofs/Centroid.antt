@@ -1,13 +1,12 @@
 -- The stored centroid of a grid outline is within the range of shape coordinates: each moment is at most 24480 times the area, so times the
 -- area's rounded reciprocal at most 48960 m, and the first corner adds 4 m; the limit is 2^20 m. Assumes nothing.
-use mathlib.Core.Path.{_≡_, ap, subst}
 use Prim.Native.Nat.{ℕ, _+_, _*_, _^_, _≤_, _<_}
-use native.Mathlib.Nat.{mul-le-mul-left, mul-le-mul-right}
+use native.Mathlib.Nat.{mul-le-mul-right}
 use native.Mathlib.Omega.{arith}
 use lib.Dec.{T, lit≤}
 use lib.Ieee.{Float, binary32, add, mul, div}
 use mir.Facts.{yes-and}
-use Rattle.algebra.specs.Integer.{Z, whole, _⊛_, _≐_, _≼_, Abs}
+use Rattle.algebra.specs.Integer.{Z, whole, _⊛_, _≐_, _≼_}
 use Rattle.algebra.proofs.Magnitude.{abs-sum, abs-widen}
 use Rattle.floats.specs.declared.b2_math.B2vec2.{B2vec2}
 use Rattle.floats.specs.Value.{metre, F32, mag, val}
@@ -17,7 +16,7 @@ use Rattle.floats.specs.Ranges.{within, shape-limit, point-in-range}
 use Rattle.floats.proofs.Value.{metre-pos, abs-mag}
 use Rattle.floats.proofs.Literals.{one-f32, one-mag}
 use Rattle.floats.proofs.Doubling.{div-double}
-use Rattle.floats.proofs.Caps.{Capped, add-cap, mul-cap, div-cap}
+use Rattle.floats.proofs.Caps.{add-cap, mul-cap, div-cap}
 use Rattle.floats.proofs.RangeValue.{shape-limit-is, value-limit}
 use Rattle.shapes.specs.Outline.{Fan, centroid-of}
 use Rattle.grid.specs.Grid.{GridNumber, GridPoint}
@@ -50,7 +49,8 @@ module _ {sum : Fan} (f : FanSums sum) where
       → T (within shape-limit (add binary32 (mul binary32 (div binary32 one32 (sum .area)) z) s))
   centroid-coordinate {z} {s} m s-grid =
       let i = div binary32 one32 (sum .area) in
-      let p = mul-cap 48960 tt inverse-f32 (m .own) (mag i) (24480 * mag (sum .area)) (abs-mag i) (m .most) (room (mag i) (mag (sum .area)) inverse-low) in
+      let p = mul-cap 48960 tt inverse-f32 (m .own) (mag i) (24480 * mag (sum .area)) (abs-mag i) (m .most)
+      (room (mag i) (mag (sum .area)) inverse-low) in
       let c = add-cap 48964 tt (p .own) (s-grid .own) (48960 * metre + 4 * metre)
       (abs-sum (val (mul binary32 i z)) (val s) (48960 * metre) (4 * metre) (p .cap) (grid-metres s-grid)) (omega arith) in
       value-limit shape-limit-is (c .own)

@@ -1,6 +1,6 @@
 -- Comparisons of floats are the whole-number tests of what they stand for: values, or exact numbers of (2^-149 m)². `lt-test` and
 -- `eq-test` are general and belong in floats' Comparison. Assumes nothing.
-use mathlib.Core.Path.{_≡_, refl}
+use mathlib.Core.Path.{_≡_}
 use Prim.Native.Nat.{ℕ}
 use native.Mathlib.Omega.{arith}
 use lib.Ieee.{Float, lt, eq}

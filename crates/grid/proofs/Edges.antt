@@ -1,11 +1,11 @@
 -- Every edge of a row of different grid points is longer than the builder asks: its squared length is at least 2^-16 m², above 2^-46.
 -- Assumes nothing.
-use mathlib.Core.Path.{_≡_, refl, sym, subst}
+use mathlib.Core.Path.{_≡_, refl, sym}
 use mathlib.Core.List.{List, [], _∷_, List·Memᴰ}
 use mathlib.Core.List as L
 use mathlib.Core.Logic.{_⊎_, inl, inr}
 use mathlib.Core.Bool.{true}
-use Prim.Native.Nat.{ℕ, _^_}
+use Prim.Native.Nat.{_^_}
 use native.Mathlib.Omega.{arith}
 use lib.Dec.{T}
 use lib.Ieee.{lt}
@@ -34,7 +34,8 @@ epsilon-squared-is = bits-dyadic 0x2880_0000 1 46 tt tt
 module _ {p q : B2vec2} (p-grid : GridPoint p) (q-grid : GridPoint q) (differ : ¬ (value-point q ≡ value-point p)) where
   -- at least one step squared
   pub some-steps : whole 0 ≺ dot (counts (side-steps p-grid q-grid)) (counts (side-steps p-grid q-grid))
-  some-steps = go (counts (side-steps p-grid q-grid)) (no-steps-same p-grid q-grid) (sign-cases (dot (counts (side-steps p-grid q-grid)) (counts (side-steps p-grid q-grid))))
+  some-steps = go (counts (side-steps p-grid q-grid)) (no-steps-same p-grid q-grid)
+      (sign-cases (dot (counts (side-steps p-grid q-grid)) (counts (side-steps p-grid q-grid))))
     where
       same : (value-point q .x ≐ value-point p .x) × (value-point q .y ≐ value-point p .y) → ⊥
       same h = differ (value-eq (value-point q) (value-point p) (value-reduced q) (value-reduced p) (h .0) (h .1))
@@ -48,13 +49,15 @@ module _ {p q : B2vec2} (p-grid : GridPoint p) (q-grid : GridPoint q) (differ : 
       go c none (inr (inl h)) = absurd (same (none h))
       go c none (inr (inr h)) = absurd (not-below (c .x ⊠ c .x) (c .y ⊠ c .y) (square-not-negative (c .x)) (square-not-negative (c .y)) h)
 
-  pub length-dyadic : Dyadic (b2-length-squared (b2-sub q p)) (dot (counts (side-steps p-grid q-grid)) (counts (side-steps p-grid q-grid))) 16
+  pub length-dyadic : Dyadic (b2-length-squared (b2-sub q p))
+      (dot (counts (side-steps p-grid q-grid)) (counts (side-steps p-grid q-grid))) 16
   length-dyadic = rw (length-is-dot (b2-sub q p)) (dot-dyadic (side-steps p-grid q-grid) (side-steps p-grid q-grid))
 
   edge-long : T (lt epsilon-squared (b2-length-squared (b2-sub q p)))
   edge-long =
       val-lt (epsilon-squared-is .own) (length-dyadic .own)
-      (lt-dyadic epsilon-squared-is (dyadic-finer 30 length-dyadic) (go (dot (counts (side-steps p-grid q-grid)) (counts (side-steps p-grid q-grid))) some-steps))
+      (lt-dyadic epsilon-squared-is (dyadic-finer 30 length-dyadic)
+      (go (dot (counts (side-steps p-grid q-grid)) (counts (side-steps p-grid q-grid))) some-steps))
     where
       go : (d : Z) → whole 0 ≺ d → whole 1 ≺ 2 ^ 30 ⊛ d
       go d h = omega arith
@@ -69,12 +72,15 @@ edges-long-from first p [] first-grid grid once new =
     (edge-long (grid p (L.List·Memᴰ·head refl)) first-grid (λ e. new (L.List·Memᴰ·head e))) tt
 edges-long-from first p (q ∷ qs) first-grid grid once new =
     yes-and (lt epsilon-squared (b2-length-squared (b2-sub q p))) (long-enough (edges-from first q qs))
-    (edge-long (grid p (L.List·Memᴰ·head refl)) (grid q (L.List·Memᴰ·tail (L.List·Memᴰ·head refl))) (λ e. once .0 (L.List·Memᴰ·head (sym e))))
+    (edge-long (grid p (L.List·Memᴰ·head refl)) (grid q (L.List·Memᴰ·tail (L.List·Memᴰ·head refl)))
+    (λ e. once .0 (L.List·Memᴰ·head (sym e))))
     (edges-long-from first q qs first-grid (λ v m. grid v (L.List·Memᴰ·tail m)) (once .1) (λ m. new (L.List·Memᴰ·tail m)))
 
-pub edges-long : (p q : B2vec2) (qs : List B2vec2) → GridList (p ∷ q ∷ qs) → Once (values (p ∷ q ∷ qs)) → T (long-enough (edges (p ∷ q ∷ qs)))
+pub edges-long : (p q : B2vec2) (qs : List B2vec2) → GridList (p ∷ q ∷ qs) → Once (values (p ∷ q ∷ qs)) → T
+    (long-enough (edges (p ∷ q ∷ qs)))
 unfolding edges long-enough
 edges-long p q qs grid once =
     yes-and (lt epsilon-squared (b2-length-squared (b2-sub q p))) (long-enough (edges-from p q qs))
-    (edge-long (grid p (L.List·Memᴰ·head refl)) (grid q (L.List·Memᴰ·tail (L.List·Memᴰ·head refl))) (λ e. once .0 (L.List·Memᴰ·head (sym e))))
+    (edge-long (grid p (L.List·Memᴰ·head refl)) (grid q (L.List·Memᴰ·tail (L.List·Memᴰ·head refl)))
+    (λ e. once .0 (L.List·Memᴰ·head (sym e))))
     (edges-long-from p q qs (grid p (L.List·Memᴰ·head refl)) (λ v m. grid v (L.List·Memᴰ·tail m)) (once .1) (once .0))

@@ -1,20 +1,18 @@
 -- Differences of grid numbers, and cross products, squared lengths and distances of vectors of at most 2048 steps, are exact: every
 -- intermediate result has at most 24 digits. Assumes nothing.
-use mathlib.Core.Path.{_≡_, refl, sym, ap, _∙_, subst}
-use Prim.Native.Nat.{ℕ, _+_, _*_, _^_, _≤_}
+use mathlib.Core.Path.{_≡_, refl, ap, subst}
+use Prim.Native.Nat.{ℕ, _+_, _*_, _^_}
 use native.Mathlib.Omega.{arith}
 use lib.Dec.{T, leb, leb→le, lit≤}
-use lib.Pow.{pow-pos}
-use lib.Ieee.{Float, binary32, add, sub, mul}
-use Rattle.algebra.specs.Integer.{Z, whole, _⊞_, _⊟_, _⊠_, _⊛_, _≐_, Abs}
-use Rattle.algebra.proofs.Integer.{same-sym, same-trans, multiple-same, multiple-cancel-same, product-of-multiples, multiple-of-multiple}
+use lib.Ieee.{Float, binary32, sub, mul}
+use Rattle.algebra.specs.Integer.{Z, _⊞_, _⊟_, _⊠_, _⊛_, _≐_, Abs}
+use Rattle.algebra.proofs.Integer.{same-trans, multiple-cancel-same, product-of-multiples}
 use Rattle.algebra.proofs.Magnitude.{abs-widen, abs-product, abs-difference, abs-sum}
 use Rattle.algebra.proofs.Products.{product-same}
-use Rattle.algebra.specs.Plane.{Point, from-to, cross, dot}
+use Rattle.algebra.specs.Plane.{Point, cross, dot}
 use Rattle.floats.specs.declared.b2_math.B2vec2.{B2vec2}
 use Rattle.floats.specs.Value.{metre, F32, val}
-use Rattle.floats.specs.B2Math.{b2-sub, b2-dot, b2-cross, b2-length-squared, b2-distance-vec2-squared}
-use Rattle.floats.proofs.Value.{metre-pos}
+use Rattle.floats.specs.B2Math.{b2-sub, b2-dot, b2-cross, b2-length-squared}
 use Rattle.floats.proofs.Dyadic.{Dyadic, exact-add, exact-sub, exact-mul}
 use Rattle.grid.specs.Grid.{Steps, StepsPoint, value-point}
 
@@ -37,7 +35,8 @@ pub sub-is : {m n : ℕ} {x y : Float} → T (leb (m + n) (2 ^ 24)) → Steps m 
 unfolding steps-sub
 sub-is {m} {n} {x} {y} low x-steps y-steps =
     multiple-cancel-same 256 (val (sub binary32 x y)) (val x ⊟ val y) (lit≤ tt)
-    (same-trans (256 ⊛ val (sub binary32 x y)) (metre ⊛ (x-steps .count ⊟ y-steps .count)) (256 ⊛ (val x ⊟ val y)) (steps-sub low x-steps y-steps .is)
+    (same-trans (256 ⊛ val (sub binary32 x y)) (metre ⊛ (x-steps .count ⊟ y-steps .count)) (256 ⊛ (val x ⊟ val y))
+    (steps-sub low x-steps y-steps .is)
     (apart (val x) (val y) (x-steps .count) (y-steps .count) (x-steps .is) (y-steps .is)))
   where
     apart : (v w c e : Z) → 256 ⊛ v ≐ metre ⊛ c → 256 ⊛ w ≐ metre ⊛ e → metre ⊛ (c ⊟ e) ≐ 256 ⊛ (v ⊟ w)
@@ -69,16 +68,22 @@ difference-steps v w c e h k = omega arith
 
 squared-of-dyadic : {z : Float} (w c : Z) → Dyadic z c 16 → InSteps w c → Squared z w
 unfolding InSteps
-squared-of-dyadic {z} w c z-is w-is = record { own = z-is .own; is = multiple-cancel-same (2 ^ 16) (metre ⊛ val z) w (lit≤ tt) (go (val z) (z-is .is)) }
+squared-of-dyadic {z} w c z-is w-is = record {
+  own = z-is .own;
+  is = multiple-cancel-same (2 ^ 16) (metre ⊛ val z) w (lit≤ tt)
+      (go (val z) (z-is .is));
+}
   where
     go : (v : Z) → 2 ^ 16 ⊛ v ≐ metre ⊛ c → 2 ^ 16 ⊛ (metre ⊛ v) ≐ 2 ^ 16 ⊛ w
-    go v h = let m : metre * (2 ^ 16 * v .0 + metre * c .1) ≡ metre * (metre * c .0 + 2 ^ 16 * v .1) = ap (λ (n : ℕ). metre * n) h in omega arith
+    go v h = let m : metre * (2 ^ 16 * v .0 + metre * c .1) ≡ metre * (metre * c .0 + 2 ^ 16 * v .1) = ap (λ (n : ℕ). metre * n) h in
+        omega arith
 
 -- a product of two numbers of at most 2048 steps
 product-count : {x y : Float} (x-steps : Steps 2048 x) (y-steps : Steps 2048 y) → Abs (x-steps .count ⊠ y-steps .count) (2 ^ 22)
 product-count x-steps y-steps = abs-product (x-steps .count) (y-steps .count) 2048 2048 (x-steps .most) (y-steps .most)
 
-pub product-dyadic : {x y : Float} (x-steps : Steps 2048 x) (y-steps : Steps 2048 y) → Dyadic (mul binary32 x y) (x-steps .count ⊠ y-steps .count) 16
+pub product-dyadic : {x y : Float} (x-steps : Steps 2048 x) (y-steps : Steps 2048 y) → Dyadic (mul binary32 x y)
+    (x-steps .count ⊠ y-steps .count) 16
 product-dyadic x-steps y-steps =
     exact-mul 8 8 tt (steps-dyadic x-steps) (steps-dyadic y-steps)
     (abs-widen (x-steps .count ⊠ y-steps .count) (2 ^ 22) (2 ^ 24) (product-count x-steps y-steps) (lit≤ tt))

@@ -1,20 +1,18 @@
--- One triangle added to the builder's sums, by |rounded| ≤ 2 |exact| and monotone rounding alone: the area does not fall and is at least the
--- triangle's, and a moment of at most b times the area becomes one of at most 2 b + 96 times the new area. Assumes nothing.
-use mathlib.Core.Path.{_≡_, refl, sym, ap, _∙_, subst}
+-- One triangle added to the builder's sums, by |rounded| ≤ 2 |exact| and monotone rounding alone: the area does not fall and is at least
+-- the triangle's, and a moment of at most b times the area becomes one of at most 2 b + 96 times the new area. Assumes nothing.
 use mathlib.Core.Bool.{Bool, true, false}
-use Prim.Native.Nat.{ℕ, _+_, _*_, _^_, _≤_, _<_}
-use native.Mathlib.Nat.{le-trans, le-refl, mul-le-mul, mul-le-mul-left, mul-le-mul-right, le-of-mul-le-mul-right}
+use Prim.Native.Nat.{ℕ, _+_, _*_, _^_, _≤_}
+use native.Mathlib.Nat.{le-trans, mul-le-mul, mul-le-mul-left, le-of-mul-le-mul-right}
 use native.Mathlib.Omega.{arith}
 use lib.Dec.{T, leb, lit≤}
 use lib.Ieee.{Float, binary32, add, mul}
-use Rattle.algebra.specs.Integer.{Z, whole, signed, _⊞_, _⊠_, _⊛_, _≐_, _≼_, _≺_, Abs}
-use Rattle.algebra.proofs.Magnitude.{abs-sum, abs-widen, abs-signed}
+use Rattle.algebra.specs.Integer.{Z, whole, signed, _⊞_, _≐_, _≼_, Abs}
+use Rattle.algebra.proofs.Magnitude.{abs-sum, abs-widen}
 use Rattle.floats.specs.Value.{metre, F32, sign, mag, val}
 use Rattle.floats.proofs.Value.{metre-pos, val-signed, abs-mag, mag-abs}
 use Rattle.floats.proofs.Bounds.{add-above}
 use Rattle.floats.proofs.Doubling.{add-double, mul-double}
-use Rattle.floats.proofs.Caps.{Capped, add-cap, mul-cap}
-use Rattle.floats.proofs.Dyadic.{Dyadic}
+use Rattle.floats.proofs.Caps.{add-cap, mul-cap}
 use Rattle.floats.proofs.Literals.{bits-f32, bits-mag}
 use Rattle.shapes.specs.Outline.{third}
 
@@ -45,7 +43,8 @@ pub record Grown (a part sum : Float) (h : ℕ) : Type 0 where
 pub area-step : {a part : Float} (h : ℕ) → T (leb (h + 64) (2 ^ 24)) → F32 a → F32 part → whole 0 ≼ val a → whole 0 ≼ val part
     → Abs (val a) (h * metre) → Abs (val part) (64 * metre) → Grown a part (add binary32 a part) (h + 64)
 area-step {a} {part} h low a-f32 part-f32 a-least part-least a-most part-most =
-    let c = add-cap (h + 64) low a-f32 part-f32 (h * metre + 64 * metre) (abs-sum (val a) (val part) (h * metre) (64 * metre) a-most part-most) (omega arith) in
+    let c = add-cap (h + 64) low a-f32 part-f32 (h * metre + 64 * metre)
+    (abs-sum (val a) (val part) (h * metre) (64 * metre) a-most part-most) (omega arith) in
     record {
       own = c .own;
       not-below = add-above a-f32 part-f32 a-f32 (c .own) (go (val a) (val part) part-least);
@@ -73,10 +72,12 @@ pub record Third (part w : Float) : Type 0 where
 
 third-of : {part : Float} → F32 part → Abs (val part) (64 * metre) → Third part (mul binary32 part third)
 third-of {part} part-f32 part-most =
-    let c = mul-cap 64 tt part-f32 third-f32 (64 * metre) metre part-most (abs-widen (val third) (mag third) metre (abs-mag third) (le-trans (half (mag third)) third-low)) (omega arith) in
+    let c = mul-cap 64 tt part-f32 third-f32 (64 * metre) metre part-most
+    (abs-widen (val third) (mag third) metre (abs-mag third) (le-trans (half (mag third)) third-low)) (omega arith) in
     record {
       own = c .own;
-      most = le-of-mul-le-mul-right {k = metre} (le-trans (mul-double part-f32 third-f32 (c .own)) (go (mag part) (mag third) third-low)) metre-pos;
+      most = le-of-mul-le-mul-right {k = metre} (le-trans (mul-double part-f32 third-f32 (c .own))
+          (go (mag part) (mag third) third-low)) metre-pos;
     }
   where
     half : (n : ℕ) → n ≤ 2 * n
@@ -96,15 +97,18 @@ pub moment-step : (b : ℕ) {z a part sum y : Float} → b ≤ 24480 → Moment 
     → Moment (2 * b + 96) (add binary32 z (mul binary32 (mul binary32 part third) y)) sum
 moment-step b {z} {a} {part} {sum} {y} b-low z-is part-f32 part-most a-low a-grown part-grown y-f32 y-most =
     let w = third-of part-f32 part-most in
-    let w-most : Abs (val (mul binary32 part third)) (mag part) = abs-widen (val (mul binary32 part third)) (mag (mul binary32 part third)) (mag part) (abs-mag (mul binary32 part third)) (w .most) in
+    let w-most : Abs (val (mul binary32 part third)) (mag part) = abs-widen (val (mul binary32 part third))
+    (mag (mul binary32 part third)) (mag part) (abs-mag (mul binary32 part third)) (w .most) in
     let part-low = mag-abs part (64 * metre) part-most in
     let term = mul binary32 (mul binary32 part third) y in
-    let term-own : F32 term = mul-cap 1536 tt (w .own) y-f32 (64 * metre) (24 * metre) (abs-widen (val (mul binary32 part third)) (mag part) (64 * metre) w-most part-low) y-most (omega arith) .own in
+    let term-own : F32 term = mul-cap 1536 tt (w .own) y-f32 (64 * metre) (24 * metre)
+    (abs-widen (val (mul binary32 part third)) (mag part) (64 * metre) w-most part-low) y-most (omega arith) .own in
     let term-most : mag term ≤ 48 * mag part =
     le-of-mul-le-mul-right {k = metre} (le-trans (mul-double (w .own) y-f32 term-own)
     (bound (mag (mul binary32 part third)) (mag y) (mag part) (w .most) (mag-abs y (24 * metre) y-most))) metre-pos in
     let n = b * mag a + 48 * mag part in
-    let both : Abs (val z ⊞ val term) n = abs-sum (val z) (val term) (b * mag a) (48 * mag part) (z-is .most) (abs-widen (val term) (mag term) (48 * mag part) (abs-mag term) term-most) in
+    let both : Abs (val z ⊞ val term) n = abs-sum (val z) (val term) (b * mag a) (48 * mag part) (z-is .most)
+    (abs-widen (val term) (mag term) (48 * mag part) (abs-mag term) term-most) in
     let own : F32 (add binary32 z term) = add-cap (2 ^ 24) tt (z-is .own) term-own n both (finite (mag a) (mag part) a-low part-low) .own in
     record {
       own = own;

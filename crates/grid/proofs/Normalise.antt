@@ -1,40 +1,34 @@
 -- Normalising a vector of at most 2048 steps that is not 0: its squared length is exact, its length lies between 2^-8 m and 2^4 m, so
 -- normalising acts, and the result obeys `UnitNormal`. Assumes nothing.
-use mathlib.Core.Path.{_≡_, refl, sym, ap, _∙_, subst}
+use mathlib.Core.Path.{_≡_, refl, sym, ap, subst}
 use mathlib.Core.Bool.{Bool, true, false}
 use Prim.Native.Nat.{ℕ, _+_, _*_, _^_, _≤_, _<_}
-use native.Mathlib.Nat.{le-trans, le-of-eq, mul-le-mul-left, mul-le-mul-right, mul-le-mul, le-of-mul-le-mul-right}
+use native.Mathlib.Nat.{le-trans, mul-le-mul-right}
 use native.Mathlib.Omega.{arith}
-use lib.Dec.{T, lit≤, lit<}
-use lib.Ieee.{Float, binary32, mul, div, neg, lt}
-use mir.Facts.{yes-and}
-use Rattle.algebra.specs.Integer.{Z, whole, signed, opp, _⊞_, _⊟_, _⊠_, _⊛_, _≐_, _≼_, _≺_, Abs}
-use Rattle.algebra.specs.Plane.{Point, from-to, dot}
-use Rattle.algebra.proofs.Integer.{same-trans, same-sym, multiple-same, opposite-same, difference-same, same-refl, multiple-mono, multiple-cancel-lt}
-use Rattle.algebra.proofs.Magnitude.{abs-same, abs-opposite, abs-sum, abs-widen}
+use lib.Dec.{T, lit≤}
+use lib.Ieee.{Float, binary32, mul, div, lt}
+use Rattle.algebra.specs.Integer.{Z, whole, signed, _⊞_, _⊟_, _⊠_, _⊛_, _≐_, _≼_, _≺_, Abs}
+use Rattle.algebra.specs.Plane.{dot}
+use Rattle.algebra.proofs.Integer.{same-trans, same-sym, difference-same, multiple-mono}
+use Rattle.algebra.proofs.Magnitude.{abs-same}
 use Rattle.algebra.proofs.Products.{product-same}
 use Rattle.floats.specs.declared.b2_math.B2vec2.{B2vec2}
 use Rattle.floats.specs.Value.{metre, tick, F32, sign, mag, val}
 use Rattle.floats.specs.declared.b2_math.Normalized.{Normalized}
 use Rattle.floats.specs.B2Common.{zero32, one32, b2-epsilon}
-use Rattle.floats.specs.B2Math.{b2-sub, b2-cross-vec-by-scalar, b2-sqrt, b2-length-squared, b2-length, times-reciprocal, b2-normalize}
+use Rattle.floats.specs.B2Math.{b2-sqrt, b2-length-squared, b2-length, times-reciprocal, b2-normalize}
 use Rattle.floats.specs.Sqrt.{sqrt}
-use Rattle.floats.specs.Ranges.{within, normal-limit, normal-in-range}
-use Rattle.floats.proofs.Value.{metre-pos, metre-ticks, val-signed, val-neg, neg-f32, abs-mag, mag-abs, positive-sign}
+use Rattle.floats.proofs.Value.{metre-pos, metre-ticks, val-signed, abs-mag, positive-sign}
 use Rattle.floats.proofs.Comparison.{lt-val}
 use Rattle.floats.proofs.Dyadic.{Dyadic}
-use Rattle.floats.proofs.Literals.{bits-dyadic, one-f32, one-val}
-use Rattle.floats.proofs.UnitFactors.{one-mul-exact, minus-one-mul-exact}
+use Rattle.floats.proofs.Literals.{bits-dyadic}
 use Rattle.floats.proofs.Near.{NearProduct, mul-near}
 use Rattle.floats.proofs.SqrtLaw.{SqrtLaw, sqrt-law}
 use Rattle.floats.proofs.SqrtOrder.{sqrt-low, sqrt-high}
 use Rattle.floats.proofs.Reciprocal.{Reciprocal, reciprocal}
-use Rattle.floats.proofs.RangeValue.{normal-limit-is, value-limit}
-use Rattle.shapes.specs.Outline.{normal-of-edge}
-use Rattle.grid.specs.Grid.{Steps, StepsPoint, GridPoint, value-point}
-use Rattle.grid.proofs.Exact.{counts, Squared, dot-dyadic, dot-exact, dot-count, length-is-dot, length-squared-exact}
-use Rattle.grid.proofs.Tests.{Same, dot-same, side-steps, side-is}
-use Rattle.grid.proofs.Compare.{positive-steps}
+use Rattle.grid.specs.Grid.{StepsPoint, value-point}
+use Rattle.grid.proofs.Exact.{counts, dot-dyadic, dot-count, length-is-dot, length-squared-exact}
+use Rattle.grid.proofs.Tests.{Same, dot-same}
 use Rattle.grid.proofs.Rows.{cond-no}
 use Rattle.grid.proofs.UnitNormal.{UnitNormal, coordinate-most, unit-normal}
 
@@ -60,7 +54,8 @@ module _ {n : B2vec2} (n-steps : StepsPoint 2048 n) (some : whole 0 ≺ dot (cou
     high : v ≼ whole (2 ^ 8 * metre)
 
   squared-bounds : Squares (val (b2-length-squared n))
-  squared-bounds = go (val (b2-length-squared n)) (dot (counts n-steps) (counts n-steps)) (squared-dyadic .is) some (dot-count n-steps n-steps)
+  squared-bounds = go (val (b2-length-squared n)) (dot (counts n-steps) (counts n-steps)) (squared-dyadic .is) some
+      (dot-count n-steps n-steps)
     where
       go : (v c : Z) → 2 ^ 16 ⊛ v ≐ metre ⊛ c → whole 0 ≺ c → Abs c (2 ^ 23) → Squares v
       go v c e h k =
@@ -104,7 +99,9 @@ module _ {n : B2vec2} (n-steps : StepsPoint 2048 n) (some : whole 0 ≺ dot (cou
   -- so normalising acts
   normalised-is : b2-normalize n .v ≡ times-reciprocal n (b2-length n)
   unfolding b2-normalize
-  normalised-is = ap (λ (a : Normalized). a .v) (cond-no (lt (b2-length n) b2-epsilon) (record { length = zero32; v = n }) (record { length = b2-length n; v = times-reciprocal n (b2-length n) }) not-short)
+  normalised-is = ap (λ (a : Normalized). a .v)
+      (cond-no (lt (b2-length n) b2-epsilon) (record { length = zero32; v = n })
+      (record { length = b2-length n; v = times-reciprocal n (b2-length n) }) not-short)
     where
       epsilon-is : Dyadic b2-epsilon (whole 1) 23
       epsilon-is = bits-dyadic 0x3400_0000 1 23 tt tt
@@ -113,14 +110,16 @@ module _ {n : B2vec2} (n-steps : StepsPoint 2048 n) (some : whole 0 ≺ dot (cou
       go m e h k l = let p = metre-pos in omega arith
 
       not-short : T (lt (b2-length n) b2-epsilon) → ⊥
-      not-short t = go (mag (b2-length n)) (val b2-epsilon) root-low (epsilon-is .is) (rw (root-law .is) at (lt-val (root-law .own) (epsilon-is .own) t))
+      not-short t = go (mag (b2-length n)) (val b2-epsilon) root-low (epsilon-is .is)
+          (rw (root-law .is) at (lt-val (root-law .own) (epsilon-is .own) t))
 
   inverse : Float
   inverse = div binary32 one32 (b2-length n)
 
   inverse-law : Reciprocal inverse (b2-length n)
   unfolding inverse
-  inverse-law = reciprocal (root-law .own) (le-trans root-low (mul-le-mul-right (mag (b2-length n)) (lit≤ tt))) (le-trans root-high (mul-le-mul-right metre (lit≤ tt)))
+  inverse-law = reciprocal (root-law .own) (le-trans root-low (mul-le-mul-right (mag (b2-length n)) (lit≤ tt)))
+      (le-trans root-high (mul-le-mul-right metre (lit≤ tt)))
 
   -- the squared length by value
   square-is : val (n .x) ⊠ val (n .x) ⊞ val (n .y) ⊠ val (n .y) ≐ whole (mag (b2-length-squared n) * metre)
@@ -130,12 +129,14 @@ module _ {n : B2vec2} (n-steps : StepsPoint 2048 n) (some : whole 0 ≺ dot (cou
       go d m h = omega arith
 
   -- one coordinate times the reciprocal: at most 2 m, so within two ticks
-  product-near : {x : Float} → F32 x → Abs (2 ^ 24 ⊛ val x) ((2 ^ 24 + 1) * mag (b2-length n)) → NearProduct (mul binary32 x inverse) (val x ⊠ val inverse) (2 * tick)
+  product-near : {x : Float} → F32 x → Abs (2 ^ 24 ⊛ val x) ((2 ^ 24 + 1) * mag (b2-length n)) → NearProduct (mul binary32 x inverse)
+      (val x ⊠ val inverse) (2 * tick)
   product-near {x} x-f32 x-most =
       mul-near 1 (mag x) (mag inverse) tt x-f32 (inverse-law .own) (abs-mag x) (abs-mag inverse)
       (room (mag x) (mag (b2-length n)) (mag inverse) (size (sign x) (mag x) (rw val-signed at x-most)) (inverse-law .size))
     where
-      size : (s : Bool) (m : ℕ) → Abs (2 ^ 24 ⊛ signed s m) ((2 ^ 24 + 1) * mag (b2-length n)) → 2 ^ 24 * m ≤ (2 ^ 24 + 1) * mag (b2-length n)
+      size : (s : Bool) (m : ℕ) → Abs (2 ^ 24 ⊛ signed s m) ((2 ^ 24 + 1) * mag (b2-length n)) → 2 ^ 24 * m ≤ (2 ^ 24 + 1) * mag
+          (b2-length n)
       size true m h = omega arith
       size false m h = omega arith
 
@@ -151,7 +152,8 @@ module _ {n : B2vec2} (n-steps : StepsPoint 2048 n) (some : whole 0 ≺ dot (cou
       let l = mag (b2-length n) in
       let t = mag (b2-length-squared n) * metre in
       let x-most = coordinate-most l t root-pos (root-law .law) (val (n .x)) (val (n .y)) square-is in
-      let y-most = coordinate-most l t root-pos (root-law .law) (val (n .y)) (val (n .x)) (swap (val (n .x) ⊠ val (n .x)) (val (n .y) ⊠ val (n .y)) square-is) in
+      let y-most = coordinate-most l t root-pos (root-law .law) (val (n .y)) (val (n .x))
+      (swap (val (n .x) ⊠ val (n .x)) (val (n .y) ⊠ val (n .y)) square-is) in
       let a = product-near (n-steps .0 .own) x-most in
       let b = product-near (n-steps .1 .own) y-most in
       subst (λ (w : B2vec2). Normalised w u v) (sym normalised-is) (record {
@@ -159,7 +161,8 @@ module _ {n : B2vec2} (n-steps : StepsPoint 2048 n) (some : whole 0 ≺ dot (cou
         y-own = b .own;
         length = l;
         squared = t;
-        unit = unit-normal u v (val (mul binary32 (n .x) inverse)) (val (mul binary32 (n .y) inverse)) (val inverse) l t root-pos (root-law .law)
+        unit = unit-normal u v (val (mul binary32 (n .x) inverse)) (val (mul binary32 (n .y) inverse)) (val inverse) l t root-pos
+            (root-law .law)
             (same-squares is)
             (same-product (val (n .x)) u (val (mul binary32 (n .x) inverse)) (is .0) (a .err))
             (same-product (val (n .y)) v (val (mul binary32 (n .y) inverse)) (is .1) (b .err))
@@ -175,10 +178,13 @@ module _ {n : B2vec2} (n-steps : StepsPoint 2048 n) (some : whole 0 ≺ dot (cou
           (same-sym (dot (value-point n) (value-point n)) (u ⊠ u ⊞ v ⊠ v)
           (dot-same (value-point n) (record { x = u; y = v }) (value-point n) (record { x = u; y = v }) h h)) square-is
 
-      same-product : (x u a : Z) → x ≐ u → Abs (metre ⊛ a ⊟ x ⊠ val inverse) (2 * tick * metre) → Abs (metre ⊛ a ⊟ u ⊠ val inverse) (2 * tick * metre)
+      same-product : (x u a : Z) → x ≐ u → Abs (metre ⊛ a ⊟ x ⊠ val inverse) (2 * tick * metre) → Abs (metre ⊛ a ⊟ u ⊠ val inverse)
+          (2 * tick * metre)
       same-product x u a e h =
           abs-same (metre ⊛ a ⊟ x ⊠ val inverse) (metre ⊛ a ⊟ u ⊠ val inverse) (2 * tick * metre)
-          (difference-same (metre ⊛ a) (metre ⊛ a) (x ⊠ val inverse) (u ⊠ val inverse) refl (product-same x u (val inverse) (val inverse) e refl)) h
+          (difference-same (metre ⊛ a) (metre ⊛ a) (x ⊠ val inverse) (u ⊠ val inverse) refl
+          (product-same x u (val inverse) (val inverse) e refl)) h
 
-      length-times : (i : Z) (l : ℕ) → Abs (i ⊠ whole l ⊟ whole (metre * metre)) (2 * tick * metre) → Abs (l ⊛ i ⊟ whole (metre * metre)) (2 * tick * metre)
+      length-times : (i : Z) (l : ℕ) → Abs (i ⊠ whole l ⊟ whole (metre * metre)) (2 * tick * metre) → Abs (l ⊛ i ⊟ whole (metre * metre))
+          (2 * tick * metre)
       length-times i l h = omega arith

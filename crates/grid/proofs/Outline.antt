@@ -1,7 +1,7 @@
--- What holds of the outline that is built from a grid list: 3 to 8 grid corners, by value the exact hull, at each place the normal of the edge
--- from its corner to the next, and every number in range where the radius is. Assumes nothing.
-use mathlib.Core.Path.{_≡_, refl, sym, ap, ap₂, _∙_, subst}
-use mathlib.Core.List.{List, [], _∷_, _++_, List·Memᴰ, map}
+-- What holds of the outline that is built from a grid list: 3 to 8 grid corners, at each place the normal of the edge from its corner to
+-- the next, and every number in range where the radius is. Assumes nothing.
+use mathlib.Core.Path.{_≡_, refl, sym, ap, _∙_, subst}
+use mathlib.Core.List.{List, [], _∷_, _++_, map}
 use mathlib.Core.List as L
 use mathlib.Core.Bool.{Bool, true, false, cond, _&&_}
 use Prim.Native.Nat.{ℕ, zero, suc, _+_, _≤_, _<_}
@@ -53,7 +53,8 @@ next-at first d qs i h = go (ltb (i + 1) (suc (length qs))) (ltb→lt (i + 1) (s
   where
     go : (t : Bool) → (T t → i + 1 < suc (length qs)) → (i + 1 < suc (length qs) → T t)
         → getD (qs ++ (first ∷ [])) i d ≡ getD (first ∷ qs) (cond t (i + 1) 0) d
-    go true below above = let l = below tt in List·getD-append qs (first ∷ []) d i (omega arith) ∙ ap (λ (n : ℕ). getD (first ∷ qs) n d) (sym (add-one i))
+    go true below above = let l = below tt in List·getD-append qs (first ∷ []) d i (omega arith) ∙ ap (λ (n : ℕ). getD (first ∷ qs) n d)
+        (sym (add-one i))
     go false below above =
         ap (λ (n : ℕ). getD (qs ++ (first ∷ [])) n d) (last (λ l. above l)) ∙ getD-append-seam qs first [] d
       where
@@ -90,7 +91,8 @@ module _ (cs : List B2vec2) (grid : GridList cs) (once : Once (values cs)) (two 
   corners-differ : ¬ (value-point (point-at cs (place-after (length cs) i)) ≡ value-point (point-at cs i))
   corners-differ e =
       after-other (length cs) i two i-in
-      (once-place (values cs) (value-point origin) once (place-after (length cs) i) i (rw (length-map cs value-point) (after-in (length cs) i i-in))
+      (once-place (values cs) (value-point origin) once (place-after (length cs) i) i
+      (rw (length-map cs value-point) (after-in (length cs) i i-in))
       (rw (length-map cs value-point) i-in) (values-at cs (place-after (length cs) i) ∙ e ∙ sym (values-at cs i)))
 
   at-grid : (j : ℕ) → j < length cs → GridPoint (point-at cs j)
@@ -100,7 +102,8 @@ module _ (cs : List B2vec2) (grid : GridList cs) (once : Once (values cs)) (two 
   pub normal-at : EdgeNormal (point-at cs i) (point-at cs (place-after (length cs) i)) (point-at (map normal-of-edge (edges cs)) i)
   normal-at =
       subst (EdgeNormal (point-at cs i) (point-at cs (place-after (length cs) i)))
-      (sym (getD-any (map normal-of-edge (edges cs)) i origin (normal-of-edge origin) (rw (length-map (edges cs) normal-of-edge, edges-length cs) i-in)
+      (sym (getD-any (map normal-of-edge (edges cs)) i origin (normal-of-edge origin)
+      (rw (length-map (edges cs) normal-of-edge, edges-length cs) i-in)
       ∙ List·getD-map normal-of-edge (edges cs) i origin ∙ ap normal-of-edge (edge-at cs i i-in)))
       (edge-normal (at-grid i i-in) (at-grid (place-after (length cs) i) (after-in (length cs) i i-in)) corners-differ)
 
@@ -110,12 +113,14 @@ pub record GridOutline (shape : B2polygonShape) : Type 0 where
   pub eight : shape .«m_count» ≤ 8
   pub corner : (i : ℕ) → i < shape .«m_count» → GridPoint (point-at (shape .«m_vertices») i)
   pub normal : (i : ℕ) → i < shape .«m_count»
-      → EdgeNormal (point-at (shape .«m_vertices») i) (point-at (shape .«m_vertices») (place-after (shape .«m_count») i)) (point-at (shape .«m_normals») i)
+      → EdgeNormal (point-at (shape .«m_vertices») i) (point-at (shape .«m_vertices») (place-after (shape .«m_count») i))
+      (point-at (shape .«m_normals») i)
   pub in-range : T (radius-in-range (shape .«m_radius»)) → T (polygon-in-range shape)
 
 all-points-at : (test : B2vec2 → Bool) (l : List B2vec2) → ((i : ℕ) → i < length l → T (test (point-at l i))) → T (all-points test l)
 all-points-at test [] at = tt
-all-points-at test (v ∷ l) at = yes-and (test v) (all-points test l) (at 0 (omega arith)) (all-points-at test l (λ i h. at (suc i) (omega arith)))
+all-points-at test (v ∷ l) at = yes-and (test v) (all-points test l) (at 0 (omega arith))
+    (all-points-at test l (λ i h. at (suc i) (omega arith)))
 
 module _ (old : B2polygonShape) (s : List Point) (cs : List B2vec2) (c : Corners s cs) where
   row-three : 3 ≤ length cs
@@ -138,14 +143,16 @@ module _ (old : B2polygonShape) (s : List Point) (cs : List B2vec2) (c : Corners
   stored-normal-at : (i : ℕ) → i < length cs
       → point-at (map normal-of-edge (edges cs)) i ≡ point-at (put-first (map normal-of-edge (edges cs)) (old .«m_normals»)) i
   stored-normal-at i i-in =
-      sym (List·getD-append (map normal-of-edge (edges cs)) (drop (length (map normal-of-edge (edges cs))) (old .«m_normals»)) origin i (rw normals-length i-in))
+      sym (List·getD-append (map normal-of-edge (edges cs)) (drop (length (map normal-of-edge (edges cs))) (old .«m_normals»)) origin i
+      (rw normals-length i-in))
 
   vertices-in-range : T (all-points point-in-range (take (length cs) (put-first cs (old .«m_vertices»))))
   vertices-in-range = rw (take-append-seam cs (drop (length cs) (old .«m_vertices»))) (all-in-range cs (c .grid))
 
   normals-in-range : T (all-points normal-in-range (take (length cs) (put-first (map normal-of-edge (edges cs)) (old .«m_normals»))))
   normals-in-range =
-      rw (take-at (map normal-of-edge (edges cs)) (drop (length (map normal-of-edge (edges cs))) (old .«m_normals»)) (length cs) normals-length)
+      rw (take-at (map normal-of-edge (edges cs)) (drop (length (map normal-of-edge (edges cs))) (old .«m_normals»))
+      (length cs) normals-length)
       (all-points-at normal-in-range (map normal-of-edge (edges cs)) one)
     where
       one : (i : ℕ) → i < length (map normal-of-edge (edges cs)) → T (normal-in-range (point-at (map normal-of-edge (edges cs)) i))
@@ -162,12 +169,18 @@ module _ (old : B2polygonShape) (s : List Point) (cs : List B2vec2) (c : Corners
     three = row-three;
     eight = c .few;
     corner = λ i i-in. subst GridPoint (vertex-at i i-in) (c .grid (point-at cs i) (getD-mem cs i origin i-in));
-    normal = λ i i-in. rw (← vertex-at i i-in, ← vertex-at (place-after (length cs) i) (after-in (length cs) i i-in), ← stored-normal-at i i-in) (row-normal i i-in);
+    normal = λ i i-in. rw (
+      ← vertex-at i i-in,
+      ← vertex-at (place-after (length cs) i)
+          (after-in (length cs) i i-in),
+      ← stored-normal-at i i-in,
+    ) (row-normal i i-in);
     in-range = λ radius.
         yes-and (radius-in-range (old .«m_radius») && point-in-range centroid && all-points point-in-range (take (length cs) vertices))
         (all-points normal-in-range (take (length cs) normals))
         (yes-and (radius-in-range (old .«m_radius») && point-in-range centroid) (all-points point-in-range (take (length cs) vertices))
-        (yes-and (radius-in-range (old .«m_radius»)) (point-in-range centroid) radius (centroid-in-range (c .sums) first-grid)) vertices-in-range)
+        (yes-and (radius-in-range (old .«m_radius»)) (point-in-range centroid) radius
+        (centroid-in-range (c .sums) first-grid)) vertices-in-range)
         normals-in-range;
   }
     where
@@ -185,12 +198,14 @@ pub record BuiltOutline (old shape : B2polygonShape) : Type 0 where
   pub outline : GridOutline shape
   pub radius : shape .«m_radius» ≡ old .«m_radius»
 
-built-outline-of : {old : B2polygonShape} {l : List B2vec2} {b : PolygonAnswer} → Verdict old l b → b .refusal ≡ 0 → BuiltOutline old (b .shape)
+built-outline-of : {old : B2polygonShape} {l : List B2vec2} {b : PolygonAnswer} → Verdict old l b → b .refusal ≡ 0 → BuiltOutline old
+    (b .shape)
 built-outline-of (wrong-number count e) r = absurd (let h = ap (λ (a : PolygonAnswer). a .refusal) e in omega arith)
 built-outline-of (too-few count few line e) r = absurd (let h = ap (λ (a : PolygonAnswer). a .refusal) e in omega arith)
 built-outline-of (on-line count three line e) r = absurd (let h = ap (λ (a : PolygonAnswer). a .refusal) e in omega arith)
 built-outline-of {old} {l} (built count off cs c e) r =
-    subst (λ (a : PolygonAnswer). BuiltOutline old (a .shape)) (sym e) (record { outline = finished-grid old (values l) cs c; radius = refl })
+    subst (λ (a : PolygonAnswer). BuiltOutline old (a .shape)) (sym e)
+    (record { outline = finished-grid old (values l) cs c; radius = refl })
 
 pub accepted-outline : (old : B2polygonShape) (l : List B2vec2) → GridList l → refusal-of old l ≡ 0 → BuiltOutline old (outline-from old l)
 accepted-outline old l grid r = built-outline-of (verdict old l grid) r

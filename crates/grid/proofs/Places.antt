@@ -1,5 +1,5 @@
--- On grid points the builder's loops are hull's loops on their values: welding keeps the same points, and the start, the next corner and the
--- walk are the same places. Assumes nothing.
+-- On grid points the builder's loops are hull's loops on their values: welding keeps the same points, and the start, the next corner and
+-- the walk are the same places. Assumes nothing.
 use mathlib.Core.Path.{_≡_, refl, sym, ap, ap₂, _∙_, subst}
 use mathlib.Core.List.{List, [], _∷_, List·Memᴰ, List·Memᴰ·cases-cons, List·Memᴰ·not-nil, map, map-id}
 use mathlib.Core.Logic.{_⊎_, inl, inr}
@@ -19,7 +19,7 @@ use Rattle.hull.proofs.Scan.{scan-mem}
 use Rattle.hull.proofs.Weld.{weld-within}
 use Rattle.hull.proofs.Naming.{scan-map, weld-map, walk-map}
 use Rattle.hull.proofs.Places.{places-bound}
-use Rattle.shapes.specs.Outline.{origin, point-at, later-places, too-near, welded, comes-before, earlier, start, closer, replaces, next, row}
+use Rattle.shapes.specs.Outline.{origin, point-at, later-places, too-near, welded, earlier, start, closer, replaces, next, row}
 use Rattle.grid.specs.Grid.{GridPoint, GridList, value-point, values}
 use Rattle.grid.proofs.Tests.{too-near-is, comes-before-is, closer-is}
 
@@ -40,7 +40,8 @@ welded-grid l l-grid v m = go (weld-within too-near l [] v m)
 module _ (In : ℕ → Type 0) where
   scan-agree : (testA testB : ℕ → ℕ → Bool) → ((e j : ℕ) → In e → In j → testB e j ≡ testA e j) → (js : List ℕ) (e : ℕ) → In e
       → ((j : ℕ) → List·Memᴰ j js → In j) → scan testB e js ≡ scan testA e js
-  scan-agree testA testB agree js e e-in js-in = ap (scan testB e) (sym (map-id js)) ∙ scan-map (λ i. i) In testA testB agree js e e-in js-in
+  scan-agree testA testB agree js e e-in js-in = ap (scan testB e) (sym (map-id js)) ∙ scan-map
+      (λ i. i) In testA testB agree js e e-in js-in
 
   walk-agree : (nextA nextB : ℕ → ℕ) → ((p : ℕ) → In p → nextB p ≡ nextA p) → ((p : ℕ) → In p → In (nextA p)) → (start fuel : ℕ) → In start
       → walk eqb nextB start fuel start ≡ walk eqb nextA start fuel start
@@ -92,9 +93,11 @@ module _ (p : B2vec2) (qs : List B2vec2) (grid : GridList (p ∷ qs)) where
   pub start-is : H.start-place (value-point p) (values qs) ≡ start (p ∷ qs)
   unfolding start In
   start-is =
-      ap (λ (n : ℕ). scan (λ i j. starts-before (H.point-at (value-point p) (values qs) i) (H.point-at (value-point p) (values qs) j)) 0 (places 1 n))
+      ap (λ (n : ℕ). scan (λ i j. starts-before (H.point-at (value-point p) (values qs) i) (H.point-at (value-point p) (values qs) j)) 0
+      (places 1 n))
       (length-map qs value-point)
-      ∙ scan-agree In (earlier (p ∷ qs)) (λ i j. starts-before (H.point-at (value-point p) (values qs) i) (H.point-at (value-point p) (values qs) j))
+      ∙ scan-agree In (earlier (p ∷ qs)) (λ i j. starts-before (H.point-at (value-point p) (values qs) i)
+      (H.point-at (value-point p) (values qs) j))
       (λ i j i-in j-in. ap₂ starts-before (value-at i i-in) (value-at j j-in)
       ∙ comes-before-is (point-at (p ∷ qs) i) (point-at (p ∷ qs) j) (at-grid i i-in) (at-grid j j-in))
       (places 1 (length qs)) 0 zero-in rest-in
@@ -109,10 +112,12 @@ module _ (p : B2vec2) (qs : List B2vec2) (grid : GridList (p ∷ qs)) where
       ∙ ap (scan (replaces (p ∷ qs) h) 0) later-is
     where
       closer-at : (i j : ℕ) → i < suc (length qs) → j < suc (length qs)
-          → wraps-closer (H.point-at (value-point p) (values qs) h) (H.point-at (value-point p) (values qs) i) (H.point-at (value-point p) (values qs) j)
+          → wraps-closer (H.point-at (value-point p) (values qs) h) (H.point-at (value-point p) (values qs) i)
+          (H.point-at (value-point p) (values qs) j)
           ≡ closer (point-at (p ∷ qs) h) (point-at (p ∷ qs) i) (point-at (p ∷ qs) j)
       closer-at i j i-in j-in =
-          ap (λ (c : Point). wraps-closer c (H.point-at (value-point p) (values qs) i) (H.point-at (value-point p) (values qs) j)) (value-at h h-in)
+          ap (λ (c : Point). wraps-closer c (H.point-at (value-point p) (values qs) i) (H.point-at (value-point p) (values qs) j))
+          (value-at h h-in)
           ∙ ap₂ (wraps-closer (value-point (point-at (p ∷ qs) h))) (value-at i i-in) (value-at j j-in)
           ∙ closer-is (point-at (p ∷ qs) h) (point-at (p ∷ qs) i) (point-at (p ∷ qs) j) (at-grid h h-in) (at-grid i i-in) (at-grid j j-in)
 
@@ -125,11 +130,13 @@ module _ (p : B2vec2) (qs : List B2vec2) (grid : GridList (p ∷ qs)) where
   next-in h = subst (λ (js : List ℕ). In (scan (replaces (p ∷ qs) h) 0 js)) later-is (scan-in (replaces (p ∷ qs) h))
 
   -- the walk, with any number of corners
-  pub walk-is : (fuel : ℕ) → H.wrap-places fuel (value-point p) (values qs) ≡ walk eqb (next (p ∷ qs)) (start (p ∷ qs)) fuel (start (p ∷ qs))
+  pub walk-is : (fuel : ℕ) → H.wrap-places fuel (value-point p) (values qs) ≡ walk eqb (next (p ∷ qs)) (start (p ∷ qs)) fuel
+      (start (p ∷ qs))
   unfolding In
   walk-is fuel =
       ap (λ (s : ℕ). walk eqb (H.next-place (value-point p) (values qs)) s fuel s) start-is
-      ∙ walk-agree In (next (p ∷ qs)) (H.next-place (value-point p) (values qs)) next-is (λ h h-in. next-in h) (start (p ∷ qs)) fuel start-in
+      ∙ walk-agree In (next (p ∷ qs)) (H.next-place (value-point p) (values qs)) next-is (λ h h-in. next-in h)
+      (start (p ∷ qs)) fuel start-in
 
   pub row-is : H.wrap-places 8 (value-point p) (values qs) ≡ row (p ∷ qs)
   unfolding row

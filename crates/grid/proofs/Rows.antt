@@ -1,22 +1,22 @@
--- On a grid list the builder answers as hull's builder does on the values: the same refusal, 3 or 4, or the same row of corners by value, on
--- which it then goes on with edges, area, normals and centroid. Assumes nothing.
+-- On a grid list the builder answers as hull's builder does on the values: the same refusal, 3 or 4, or the same row of corners by value,
+-- on which it then goes on with edges, area, normals and centroid. Assumes nothing.
 use mathlib.Core.Path.{_≡_, refl, sym, ap, ap₂, _∙_, subst}
-use mathlib.Core.List.{List, [], _∷_, List·Memᴰ, List·Memᴰ·cases-cons, List·Memᴰ·not-nil, List·Memᴰ·eq-of-singleton, Memᴰ·of-map, map}
+use mathlib.Core.List.{List, [], _∷_, List·Memᴰ, List·Memᴰ·cases-cons, List·Memᴰ·eq-of-singleton, Memᴰ·of-map, map}
 use mathlib.Core.List as L
 use mathlib.Core.Logic.{_⊎_, inl, inr}
-use mathlib.Core.Bool.{Bool, true, false, not, cond}
+use mathlib.Core.Bool.{Bool, true, false, cond}
 use mathlib.Core.Option.{Option, none, some, Option·map}
-use Prim.Native.Nat.{ℕ, zero, suc, _≤_, _<_}
+use Prim.Native.Nat.{ℕ, zero, suc, _<_}
 use native.Mathlib.Omega.{arith}
-use lib.Dec.{T, ltb, eqb, ltb→lt, not-T}
+use lib.Dec.{T, ltb, eqb, ltb→lt}
 use lib.ListN.{length}
 use Rattle.algebra.specs.Integer.{Reduced}
 use Rattle.algebra.specs.Plane.{Point}
 use Rattle.algebra.specs.Lists.{Once}
-use Rattle.algebra.specs.Loops.{weld, stop-or, walk}
+use Rattle.algebra.specs.Loops.{stop-or, walk}
 use Rattle.algebra.proofs.Integer.{signed-reduced}
 use Rattle.floats.specs.declared.b2_math.B2vec2.{B2vec2}
-use Rattle.floats.specs.Value.{sign, mag, val}
+use Rattle.floats.specs.Value.{sign, mag}
 use Rattle.floats.proofs.Value.{val-signed}
 use Rattle.hull.specs.Hull.{ReducedPoint, AllReduced}
 use Rattle.hull.specs.Outline.{Answer, refusal, corners, same-point, wrap, closed, wrapped, outline}
@@ -101,15 +101,19 @@ module _ (old : B2polygonShape) (p : B2vec2) (qs : List B2vec2) (grid : GridList
       (subst (λ (cs : List Point). Answers old (corners cs) (outline-of-corners old (map (point-at (p ∷ qs)) (a ∷ b ∷ c ∷ r))))
       (corners-are (a ∷ b ∷ c ∷ r) o-in) (row-of (map (point-at (p ∷ qs)) (a ∷ b ∷ c ∷ r)) (corners-grid (a ∷ b ∷ c ∷ r) o-in)))
 
-  wrap-answers : Once (values (p ∷ qs)) → Answers old (closed (wrap 8 (value-point p) (values qs))) (outline-of-row old (p ∷ qs) (row (p ∷ qs)))
+  wrap-answers : Once (values (p ∷ qs)) → Answers old (closed (wrap 8 (value-point p) (values qs)))
+      (outline-of-row old (p ∷ qs) (row (p ∷ qs)))
   unfolding row
   wrap-answers once =
       subst (λ (o : Option (List Point)). Answers old (closed o) (outline-of-row old (p ∷ qs) (row (p ∷ qs))))
-      (sym (wrap-by-places (value-point p) (values qs) (values-reduced (p ∷ qs)) once 8 ∙ ap (Option·map (map (H.point-at (value-point p) (values qs)))) (row-is p qs grid)))
-      (row-answers (row (p ∷ qs)) (walk-in In (next (p ∷ qs)) (λ h h-in. next-in p qs grid h) (start (p ∷ qs)) 8 (start (p ∷ qs)) (start-in p qs grid)))
+      (sym (wrap-by-places (value-point p) (values qs) (values-reduced (p ∷ qs)) once 8 ∙ ap
+      (Option·map (map (H.point-at (value-point p) (values qs)))) (row-is p qs grid)))
+      (row-answers (row (p ∷ qs)) (walk-in In (next (p ∷ qs)) (λ h h-in. next-in p qs grid h) (start (p ∷ qs)) 8 (start (p ∷ qs))
+      (start-in p qs grid)))
 
 -- ---- from the welded points on
-welded-answers : (old : B2polygonShape) (ps : List B2vec2) → GridList ps → Once (values ps) → Answers old (wrapped 8 (values ps)) (outline-of-welded old ps)
+welded-answers : (old : B2polygonShape) (ps : List B2vec2) → GridList ps → Once (values ps) → Answers old (wrapped 8 (values ps))
+    (outline-of-welded old ps)
 unfolding outline-of-welded
 welded-answers old [] grid once = turned-down 3
 welded-answers old (a ∷ []) grid once = turned-down 3
@@ -120,7 +124,8 @@ welded-answers old (a ∷ b ∷ c ∷ ps) grid once =
     (λ t. let h = ltb→lt (length (a ∷ b ∷ c ∷ ps)) 3 t in omega arith)))
     (wrap-answers old a (b ∷ c ∷ ps) grid once)
 
-pub list-answers : (old : B2polygonShape) (l : List B2vec2) → GridList l → Answers old (outline (values l)) (outline-of-welded old (welded l))
+pub list-answers : (old : B2polygonShape) (l : List B2vec2) → GridList l → Answers old (outline (values l))
+    (outline-of-welded old (welded l))
 list-answers old l grid =
     subst (λ (kept : List Point). Answers old (wrapped 8 kept) (outline-of-welded old (welded l))) (sym (welded-is l grid))
     (welded-answers old (welded l) (welded-grid l grid)
@@ -137,6 +142,7 @@ pub record BuiltRow (old : B2polygonShape) (r : List Point) (b : PolygonAnswer) 
   pub is : values cs ≡ r
   pub answer : b ≡ outline-of-corners old cs
 
-pub answer-row : {old : B2polygonShape} {a : Answer} {b : PolygonAnswer} (r : List Point) → Answers old a b → a ≡ corners r → BuiltRow old r b
+pub answer-row : {old : B2polygonShape} {a : Answer} {b : PolygonAnswer} (r : List Point) → Answers old a b → a ≡ corners r
+    → BuiltRow old r b
 answer-row r (turned-down n) e = absurd (let z : _≡_ {A = ℕ} 0 1 = cc in omega arith)
 answer-row r (row-of cs grid) e = record { cs = cs; grid = grid; is = cc; answer = refl }

@@ -1,26 +1,25 @@
 -- The builder's tests on grid points are hull's tests on their values: near enough to weld is equal by value, because a squared distance is
 -- a multiple of 2^-16 m² and the weld limit lies below that; start and next corner compare exact numbers. Assumes nothing.
-use mathlib.Core.Path.{_≡_, refl, sym, ap, ap₂, _∙_, subst}
-use mathlib.Core.Bool.{Bool, _&&_, _||_}
+use mathlib.Core.Path.{_≡_, sym, ap, ap₂}
+use mathlib.Core.Bool.{_&&_, _||_}
 use Prim.Native.Nat.{ℕ, _+_, _*_, _^_}
 use native.Mathlib.Omega.{arith}
 use lib.Dec.{T, lit≤}
-use lib.Ieee.{Float, lt, eq}
+use lib.Ieee.{Float}
 use mir.Facts.{and-yes, yes-and}
-use Rattle.algebra.specs.Integer.{Z, whole, _⊞_, _⊟_, _⊠_, _⊛_, _≐_, _≼_, _≺_, _≐?_, _≺?_}
-use Rattle.algebra.proofs.Integer.{same-of-test, test-of-same, difference-same, sum-same, lt-resp, same-sym, same-trans, multiple-cancel-same, multiple-mono-lt}
+use Rattle.algebra.specs.Integer.{Z, whole, _⊞_, _⊟_, _⊠_, _⊛_, _≐_, _≼_, _≺_, _≐?_}
+use Rattle.algebra.proofs.Integer.{same-of-test, test-of-same, difference-same, sum-same, multiple-cancel-same}
 use Rattle.algebra.proofs.Products.{product-same, product-zero, square-not-negative, square-zero}
-use Rattle.algebra.specs.Plane.{Point, from-to, cross, dot, orient}
+use Rattle.algebra.specs.Plane.{Point, from-to, cross, dot}
 use Rattle.floats.specs.declared.b2_math.B2vec2.{B2vec2}
-use Rattle.floats.specs.Value.{metre, F32, val}
-use Rattle.floats.specs.B2Common.{zero32}
-use Rattle.floats.specs.B2Math.{b2-sub, b2-dot, b2-cross, b2-length-squared, b2-distance-vec2-squared}
+use Rattle.floats.specs.Value.{metre, val}
+use Rattle.floats.specs.B2Math.{b2-sub, b2-cross, b2-length-squared, b2-distance-vec2-squared}
 use Rattle.floats.proofs.Value.{metre-pos}
 use Rattle.floats.proofs.Comparison.{bool-iff, lt-val, val-lt}
 use Rattle.floats.proofs.Dyadic.{Dyadic, dyadic-finer, dyadic-lt, lt-dyadic}
 use Rattle.floats.proofs.Literals.{bits-dyadic}
 use Rattle.hull.specs.Outline.{same-point, starts-before, wraps-closer}
-use Rattle.shapes.specs.Outline.{weld-limit, too-near, comes-before, turns-closer, closer}
+use Rattle.shapes.specs.Outline.{weld-limit, too-near, comes-before, closer}
 use Rattle.grid.specs.Grid.{Steps, StepsPoint, GridPoint, value-point}
 use Rattle.grid.proofs.Exact.{steps-vec-sub, sub-is, counts, Squared, cross-exact, length-squared-exact, dot-dyadic}
 use Rattle.grid.proofs.Compare.{lt-test, eq-test, squared-same, squared-zero, lt-squared, eq-squared}
@@ -84,7 +83,8 @@ closer-is p e j p-grid e-grid j-grid =
     length-is q q-grid =
         let v = value-point (b2-sub q p) in
         let w = from-to (value-point p) (value-point q) in
-        squared-same (dot v v) (dot w w) (dot-same v w v w (side-is p-grid q-grid) (side-is p-grid q-grid)) (length-squared-exact (side-steps p-grid q-grid))
+        squared-same (dot v v) (dot w w) (dot-same v w v w (side-is p-grid q-grid) (side-is p-grid q-grid))
+        (length-squared-exact (side-steps p-grid q-grid))
 
 -- ---- welding
 weld-limit-is : Dyadic weld-limit (whole 13743895) 41
@@ -113,7 +113,8 @@ module _ {v k : B2vec2} (v-grid : GridPoint v) (k-grid : GridPoint k) where
   unfolding too-near
   none-near e =
       let d = distance-dyadic in
-      val-lt (d .own) (weld-limit-is .own) (lt-dyadic (dyadic-finer 25 d) weld-limit-is (go (dot (counts (side-steps k-grid v-grid)) (counts (side-steps k-grid v-grid))) e))
+      val-lt (d .own) (weld-limit-is .own) (lt-dyadic (dyadic-finer 25 d) weld-limit-is
+      (go (dot (counts (side-steps k-grid v-grid)) (counts (side-steps k-grid v-grid))) e))
     where
       go : (a : Z) → a ≐ whole 0 → 2 ^ 25 ⊛ a ≺ whole 13743895
       go a e = omega arith
@@ -168,8 +169,10 @@ too-near-is v k v-grid k-grid =
     (λ t. let parts = and-yes (val (v .x) ≐? val (k .x)) (val (v .y) ≐? val (k .y)) t in
     none-near v-grid k-grid
     (none-both (counts side)
-    (none-value (side .0) (apart-none (val (b2-sub v k .x)) (val (v .x)) (val (k .x)) (apart .0) (same-of-test (val (v .x)) (val (k .x)) (parts .0))))
-    (none-value (side .1) (apart-none (val (b2-sub v k .y)) (val (v .y)) (val (k .y)) (apart .1) (same-of-test (val (v .y)) (val (k .y)) (parts .1))))))
+    (none-value (side .0) (apart-none (val (b2-sub v k .x)) (val (v .x)) (val (k .x)) (apart .0)
+    (same-of-test (val (v .x)) (val (k .x)) (parts .0))))
+    (none-value (side .1) (apart-none (val (b2-sub v k .y)) (val (v .y)) (val (k .y)) (apart .1)
+    (same-of-test (val (v .y)) (val (k .y)) (parts .1))))))
     (λ t. let same = no-steps-same k-grid v-grid (near-none v-grid k-grid t) in
     yes-and (val (v .x) ≐? val (k .x)) (val (v .y) ≐? val (k .y))
     (test-of-same (val (v .x)) (val (k .x)) (same .0)) (test-of-same (val (v .y)) (val (k .y)) (same .1)))

@@ -1,19 +1,17 @@
 -- Demand 3, first sentence, of the outline builder's definition, and what the second sentence needs of a built outline. Bodies only cite.
 -- Assumes nothing.
 use mathlib.Core.Path.{_≡_, sym, _∙_, subst}
-use mathlib.Core.List.{List, _∷_}
-use Prim.Native.Nat.{ℕ, _<_}
+use mathlib.Core.List.{List}
 use lib.Dec.{T}
 use lib.Ieee.{Float}
 use Rattle.algebra.specs.Plane.{Point}
 use Rattle.floats.specs.declared.b2_math.B2vec2.{B2vec2}
 use Rattle.floats.specs.Ranges.{radius-in-range}
-use Rattle.hull.specs.Hull.{IsHull}
 use Rattle.hull.proofs.Theorem.{one-hull}
 use Rattle.shapes.specs.declared.b2_polygon_shape.B2polygonShape.{B2polygonShape}
 use Rattle.shapes.specs.Refusal.{accepted}
 use Rattle.shapes.specs.Validate.{polygon-in-range}
-use Rattle.grid.specs.Grid.{GridPoint, GridList, values}
+use Rattle.grid.specs.Grid.{GridList}
 use Rattle.grid.specs.Demand3.{FirstSentence, HullRow, refusal-of, outline-from}
 use Rattle.grid.proofs.FirstSentence.{grid-list-verdict}
 use Rattle.grid.proofs.Outline.{GridOutline, accepted-outline}

@@ -1,24 +1,22 @@
 -- The triangles of the builder's area sum: corners measured from the first one are exact, and the area of the triangle s p q is a whole
 -- multiple of 2^-17 m², at most 64 m², with the sign of the orientation of the values. Assumes nothing.
-use mathlib.Core.Path.{_≡_, refl, subst}
 use Prim.Native.Nat.{ℕ, _*_, _^_}
 use native.Mathlib.Omega.{arith}
-use lib.Dec.{T, lit≤}
+use lib.Dec.{lit≤}
 use lib.Ieee.{Float, binary32, sub, mul}
 use Rattle.algebra.specs.Integer.{Z, whole, _⊟_, _⊠_, _⊛_, _≐_, _≼_, _≺_, Abs}
-use Rattle.algebra.specs.Plane.{Point, from-to, cross, orient}
+use Rattle.algebra.specs.Plane.{from-to, cross, orient}
 use Rattle.algebra.proofs.Integer.{same-trans, multiple-same, multiple-mono, le-resp}
-use Rattle.algebra.proofs.Magnitude.{abs-scale, abs-unscale, abs-same, abs-widen, abs-difference, abs-product}
+use Rattle.algebra.proofs.Magnitude.{abs-scale, abs-unscale, abs-widen}
 use Rattle.floats.specs.declared.b2_math.B2vec2.{B2vec2}
 use Rattle.floats.specs.Value.{metre, F32, val}
-use Rattle.floats.specs.B2Common.{zero32, half32}
+use Rattle.floats.specs.B2Common.{half32}
 use Rattle.floats.specs.B2Math.{b2-sub, b2-cross}
-use Rattle.floats.proofs.Value.{metre-pos}
 use Rattle.floats.proofs.Dyadic.{Dyadic, exact-mul, le-dyadic}
 use Rattle.floats.proofs.Literals.{zero-val, half-f32, half-val}
 use Rattle.floats.proofs.UnitFactors.{sub-zero-exact}
 use Rattle.grid.specs.Grid.{Steps, StepsPoint, GridPoint, value-point}
-use Rattle.grid.proofs.Exact.{counts, Squared, cross-dyadic, cross-exact, cross-count}
+use Rattle.grid.proofs.Exact.{Squared, cross-dyadic, cross-exact, cross-count}
 use Rattle.grid.proofs.Compare.{squared-same, zero-dyadic, positive-steps, not-negative-steps}
 use Rattle.grid.proofs.Tests.{Same, cross-same, side-steps, side-is}
 
@@ -30,7 +28,8 @@ steps-sub-zero {n} {x} {z} x-steps z-f32 none =
     record {
       own = d .own;
       count = x-steps .count;
-      is = same-trans (256 ⊛ val (sub binary32 x z)) (256 ⊛ val x) (metre ⊛ x-steps .count) (multiple-same 256 (val (sub binary32 x z)) (val x) (d .is)) (x-steps .is);
+      is = same-trans (256 ⊛ val (sub binary32 x z)) (256 ⊛ val x) (metre ⊛ x-steps .count)
+          (multiple-same 256 (val (sub binary32 x z)) (val x) (d .is)) (x-steps .is);
       most = x-steps .most;
     }
 
@@ -57,8 +56,10 @@ module _ {s p : B2vec2} (s-grid : GridPoint s) (p-grid : GridPoint p) where
       let own = side-steps s-grid s-grid in
       let to = side-steps s-grid p-grid in
       let is = side-is s-grid p-grid in (
-        same-trans (val (from-first s p .x)) (val (b2-sub p s .x)) (val (p .x) ⊟ val (s .x)) (sub-zero-exact (to .0 .own) (own .0 .own) (own-none .0) .is) (is .0),
-        same-trans (val (from-first s p .y)) (val (b2-sub p s .y)) (val (p .y) ⊟ val (s .y)) (sub-zero-exact (to .1 .own) (own .1 .own) (own-none .1) .is) (is .1),
+        same-trans (val (from-first s p .x)) (val (b2-sub p s .x)) (val (p .x) ⊟ val (s .x))
+            (sub-zero-exact (to .0 .own) (own .0 .own) (own-none .0) .is) (is .0),
+        same-trans (val (from-first s p .y)) (val (b2-sub p s .y)) (val (p .y) ⊟ val (s .y))
+            (sub-zero-exact (to .1 .own) (own .1 .own) (own-none .1) .is) (is .1),
       )
 
 -- ---- the triangle's area, and what w, the doubled area by value, says of it
@@ -82,7 +83,8 @@ pub triangle-is : {s p q : B2vec2} → GridPoint s → GridPoint p → GridPoint
     → Triangle (triangle s p q) (orient (value-point s) (value-point p) (value-point q))
 triangle-is {s} {p} {q} s-grid p-grid q-grid =
     of (cross-dyadic to-p to-q) (cross-count to-p to-q)
-    (squared-same (cross (value-point (from-first s p)) (value-point (from-first s q))) (orient (value-point s) (value-point p) (value-point q))
+    (squared-same (cross (value-point (from-first s p)) (value-point (from-first s q)))
+    (orient (value-point s) (value-point p) (value-point q))
     (cross-same (value-point (from-first s p)) (from-to (value-point s) (value-point p)) (value-point (from-first s q))
     (from-to (value-point s) (value-point q)) (from-first-is s-grid p-grid) (from-first-is s-grid q-grid))
     (cross-exact to-p to-q))
@@ -121,7 +123,8 @@ module _ {part : Float} {w : Z} (t : Triangle part w) where
   part-large h = go (val part) (t .count) (t .dyadic .is) (t .positive h)
     where
       go : (v c : Z) → 2 ^ 17 ⊛ v ≐ metre ⊛ c → whole 0 ≺ c → whole metre ≼ 2 ^ 17 ⊛ v
-      go v c e h = le-resp (metre ⊛ whole 1) (whole metre) (metre ⊛ c) (2 ^ 17 ⊛ v) (omega arith) (omega arith) (multiple-mono metre (whole 1) c (omega arith))
+      go v c e h = le-resp (metre ⊛ whole 1) (whole metre) (metre ⊛ c) (2 ^ 17 ⊛ v) (omega arith) (omega arith)
+          (multiple-mono metre (whole 1) c (omega arith))
 
   pub part-cap : Abs (val part) (64 * metre)
   part-cap =

@@ -1,8 +1,8 @@
 -- A normal worked out in f32, as whole numbers: from the laws of the root, the reciprocal and the two products, the bounds N0, N1 and N2 of
 -- the normal (a, b) of a direction (u, v) whose f32 length is l. A tick is 2^-25 m. Assumes nothing.
-use mathlib.Core.Path.{_≡_, refl, sym, ap, _∙_, subst}
+use mathlib.Core.Path.{_≡_, sym, ap, subst}
 use Prim.Native.Nat.{ℕ, _+_, _-_, _*_, _^_, _≤_, _<_}
-use native.Mathlib.Nat.{mul-assoc, mul-le-mul-left, mul-pos}
+use native.Mathlib.Nat.{mul-pos}
 use native.Mathlib.Omega.{arith}
 use lib.Dec.{lit≤}
 use Rattle.algebra.specs.Integer.{Z, whole, _⊞_, _⊟_, _⊠_, _⊛_, _≐_, _≼_, Abs}
@@ -91,7 +91,8 @@ module _ (l t : ℕ) (l-pos : 0 < l) (root : RelativeSquare t (l * l)) where
   root-near : (q : ℕ) → RelativeSquare t q → Abs ((metre * metre) ⊛ (whole t ⊟ whole q)) (8 * tick * metre * q)
   root-near q r = go (near (r .0) (r .1))
     where
-      near : (2 ^ 24 - 1) * (2 ^ 24 - 1) * q ≤ 2 ^ 48 * t → 2 ^ 48 * t ≤ (2 ^ 24 + 1) * (2 ^ 24 + 1) * q → Abs (2 ^ 22 ⊛ (whole t ⊟ whole q)) q
+      near : (2 ^ 24 - 1) * (2 ^ 24 - 1) * q ≤ 2 ^ 48 * t → 2 ^ 48 * t ≤ (2 ^ 24 + 1) * (2 ^ 24 + 1) * q → Abs
+          (2 ^ 22 ⊛ (whole t ⊟ whole q)) q
       near low high = omega arith
 
       go : Abs (2 ^ 22 ⊛ (whole t ⊟ whole q)) q → Abs ((metre * metre) ⊛ (whole t ⊟ whole q)) (8 * tick * metre * q)
@@ -108,7 +109,8 @@ module _ (l t : ℕ) (l-pos : 0 < l) (root : RelativeSquare t (l * l)) where
       → Abs (a ⊠ a ⊞ b ⊠ b ⊟ whole (metre * metre)) (64 * tick * metre)
   length-one u v a b square u-most v-most a-near b-near =
       abs-unscale (l * l) (64 * tick * metre) (a ⊠ a ⊞ b ⊠ b ⊟ whole (metre * metre)) (mul-pos l-pos l-pos)
-      (joined (a ⊠ a) (b ⊠ b) (u ⊠ u) (v ⊠ v) (l * l) (metre * metre) (m * m + k * m + m * k) (8 * tick * metre * (l * l)) (l * l * (64 * tick * metre))
+      (joined (a ⊠ a) (b ⊠ b) (u ⊠ u) (v ⊠ v) (l * l) (metre * metre) (m * m + k * m + m * k) (8 * tick * metre * (l * l))
+      (l * l * (64 * tick * metre))
       square (square-near u a u-most a-near) (square-near v b v-most b-near) (root-near (l * l) root) fits)
     where
       joined : (aa bb uu vv : Z) (q d e f g : ℕ) → uu ⊞ vv ≐ whole t → Abs (q ⊛ aa ⊟ d ⊛ uu) e → Abs (q ⊛ bb ⊟ d ⊛ vv) e
@@ -117,7 +119,8 @@ module _ (l t : ℕ) (l-pos : 0 < l) (root : RelativeSquare t (l * l)) where
           let w : d * (uu .0 + vv .0 + 0) ≡ d * (t + (uu .1 + vv .1)) = ap (λ (n : ℕ). d * n) s in omega arith
 
       fits : m * m + k * m + m * k + (m * m + k * m + m * k) + 8 * tick * metre * (l * l) ≤ l * l * (64 * tick * metre)
-      fits = let e : metre * (tick * (l * l)) ≡ 2 ^ 25 * tick * (tick * (l * l)) = ap (λ (n : ℕ). n * (tick * (l * l))) metre-ticks in omega arith
+      fits = let e : metre * (tick * (l * l)) ≡ 2 ^ 25 * tick * (tick * (l * l)) = ap (λ (n : ℕ). n * (tick * (l * l))) metre-ticks in
+          omega arith
 
 -- ---- all of them
 pub unit-normal : (u v a b i : Z) (l t : ℕ) → 0 < l → RelativeSquare t (l * l) → u ⊠ u ⊞ v ⊠ v ≐ whole t
