@@ -15,7 +15,7 @@ use Rattle.floats.specs.Value.{metre, F32, sign, mag, val}
 use Rattle.floats.proofs.Value.{metre-pos, val-signed, AsFin, as-fin, f32-as-fin}
 
 -- ---- a comparison of fractions p / c and q / c is that of the units m and n that they are
-bool-iff : (a b : Bool) → (T a → T b) → (T b → T a) → a ≡ b
+pub bool-iff : (a b : Bool) → (T a → T b) → (T b → T a) → a ≡ b
 bool-iff true true f g = refl
 bool-iff false false f g = refl
 bool-iff true false f g = absurd (f tt)

@@ -89,7 +89,7 @@ not-three s short h = omega (
 )
 
 -- ---- without three different points: on one line
-line-of-not-three : (s : List Point) → ¬ ThreeDifferent s → OnLine s
+pub line-of-not-three : (s : List Point) → ¬ ThreeDifferent s → OnLine s
 line-of-not-three s none a b c a-in b-in c-in = go (point-discrete b a) (point-discrete c a) (point-discrete c b)
   where
     go : Dec (b ≡ a) → Dec (c ≡ a) → Dec (c ≡ b) → orient a b c ≐ whole 0

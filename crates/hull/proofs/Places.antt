@@ -20,7 +20,7 @@ use Rattle.hull.proofs.Scan.{scan-mem}
 use Rattle.hull.proofs.Naming.{scan-map, walk-map}
 
 -- ---- places
-places-bound : (i n j : ℕ) → List·Memᴰ j (places i n) → j < i + n
+pub places-bound : (i n j : ℕ) → List·Memᴰ j (places i n) → j < i + n
 places-bound i zero j m = absurd (List·Memᴰ·not-nil m)
 places-bound i (suc n) j m = go (places-bound (suc i) n j) (List·Memᴰ·cases-cons m)
   where

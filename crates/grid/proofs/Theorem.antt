@@ -1,0 +1,36 @@
+-- Demand 3, first sentence, of the outline builder's definition, and what the second sentence needs of a built outline. Bodies only cite.
+-- Assumes nothing.
+use mathlib.Core.Path.{_≡_, sym, _∙_, subst}
+use mathlib.Core.List.{List}
+use lib.Dec.{T}
+use lib.Ieee.{Float}
+use Rattle.algebra.specs.Plane.{Point}
+use Rattle.floats.specs.declared.b2_math.B2vec2.{B2vec2}
+use Rattle.floats.specs.Ranges.{radius-in-range}
+use Rattle.hull.proofs.Theorem.{one-hull}
+use Rattle.shapes.specs.declared.b2_polygon_shape.B2polygonShape.{B2polygonShape}
+use Rattle.shapes.specs.Refusal.{accepted}
+use Rattle.shapes.specs.Validate.{polygon-in-range}
+use Rattle.grid.specs.Grid.{GridList}
+use Rattle.grid.specs.Demand3.{FirstSentence, HullRow, refusal-of, outline-from}
+use Rattle.grid.proofs.FirstSentence.{grid-list-verdict}
+use Rattle.grid.proofs.Outline.{GridOutline, accepted-outline}
+
+module _ (old : B2polygonShape) (l : List B2vec2) (grid : GridList l) where
+  -- accepted exactly when it holds 3 to 8 points not all on one line, with the corners of its exact hull; else refusal 1, 3 or 4
+  pub first-sentence : FirstSentence old l
+  first-sentence = grid-list-verdict old l grid
+
+  -- the built outline: 3 to 8 corners on the grid, with a normal at each place that obeys N0, N1 and N2
+  pub built-outline : refusal-of old l ≡ accepted → GridOutline (outline-from old l)
+  built-outline r = accepted-outline old l grid r .outline
+
+  -- every number of it is in range, its centroid too, where the radius is: so no contact call turns it down
+  pub built-in-range : refusal-of old l ≡ accepted → T (radius-in-range (old .«m_radius»)) → T (polygon-in-range (outline-from old l))
+  built-in-range r radius =
+      let b = accepted-outline old l grid r in
+      b .outline .in-range (subst (λ (x : Float). T (radius-in-range x)) (sym (b .radius)) radius)
+
+-- the exact hull is one row: two rows that are hulls of the same points are equal
+pub one-row : (s row row' : List Point) → HullRow s row → HullRow s row' → row ≡ row'
+one-row s row row' h h' = h .is ∙ one-hull s (h .first) (h' .first) (h .rest) (h' .rest) (h .hull) (h' .hull) ∙ sym (h' .is)
