@@ -53,14 +53,9 @@ module _ (test : ℕ → ℕ → Bool) (candidate j n answer : ℕ) (within : j 
       count : n - j ≡ suc (n - (j + 1))
       count = omega arith
 
-  scan-here : scan test (cond (test candidate j) j candidate) (places (j + 1) (n - (j + 1))) ≡ answer
-  scan-here = ap (scan test candidate) (sym one-place) ∙ so-far
-
-  pub scan-taken : test candidate j ≡ true → scan test j (places (j + 1) (n - (j + 1))) ≡ answer
-  scan-taken found = ap (λ (t : Bool). scan test (cond t j candidate) (places (j + 1) (n - (j + 1)))) (sym found) ∙ scan-here
-
-  pub scan-left : test candidate j ≡ false → scan test candidate (places (j + 1) (n - (j + 1))) ≡ answer
-  scan-left not-found = ap (λ (t : Bool). scan test (cond t j candidate) (places (j + 1) (n - (j + 1)))) (sym not-found) ∙ scan-here
+  -- the candidate after place j
+  pub scan-next : scan test (cond (test candidate j) j candidate) (places (j + 1) (n - (j + 1))) ≡ answer
+  scan-next = ap (scan test candidate) (sym one-place) ∙ so-far
 
 pub scan-ended : (test : ℕ → ℕ → Bool) (candidate j n answer : ℕ) → n ≤ j → scan test candidate (places j (n - j)) ≡ answer → candidate ≡ answer
 scan-ended test candidate j n answer past so-far = ap (λ (k : ℕ). scan test candidate (places j k)) (sym none-left) ∙ so-far
