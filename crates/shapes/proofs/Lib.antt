@@ -1,1 +1,5 @@
 pub mod Tests
+pub mod Over
+pub mod Walking
+pub mod Around
+pub mod Facing

@@ -12,8 +12,9 @@ use Rattle.floats.specs.B2Common.{b2-epsilon}
 use Rattle.floats.specs.Ranges.{point-in-range}
 use Rattle.shapes.specs.declared.b2_polygon_shape.B2polygonShape.{B2polygonShape}
 use Rattle.shapes.specs.declared.b2_polygon_shape.PolygonAnswer.{PolygonAnswer}
+use Rattle.shapes.specs.declared.outline.FanSum.{FanSum}
 use Rattle.shapes.specs.Refusal.{accepted, wrong-number-of-points, shape-out-of-range, too-few-after-welding, walk-not-closed, edge-or-area-too-small}
-use Rattle.shapes.specs.Outline.{point-at, welded, row, edges, long-enough, normal-of-edge, Fan, fan, centroid-of}
+use Rattle.shapes.specs.Outline.{point-at, welded, row, edges, long-enough, normal-of-edge, fan, centroid-of}
 
 abbrev pub refused : ℕ → B2polygonShape → PolygonAnswer
 refused number old = record { refusal = number; shape = old }
@@ -27,7 +28,7 @@ abbrev pub put-first : List B2vec2 → List B2vec2 → List B2vec2
 put-first new old = new ++ drop (length new) old
 
 -- the outline of a row of corners: normals, then the centroid; the radius is kept
-abbrev pub finished : B2polygonShape → List B2vec2 → Fan → PolygonAnswer
+abbrev pub finished : B2polygonShape → List B2vec2 → FanSum → PolygonAnswer
 finished old corners sum = record {
   refusal = accepted;
   shape = record {
