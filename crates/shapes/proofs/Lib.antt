@@ -3,3 +3,5 @@ pub mod Over
 pub mod Walking
 pub mod Around
 pub mod Facing
+pub mod AllPoints
+pub mod Built

@@ -5,7 +5,7 @@ use mathlib.Core.List.{List, [], _∷_, _++_, map}
 use mathlib.Core.Option.{Option, none, some}
 use Prim.Native.Nat.{ℕ}
 use lib.Dec.{ltb}
-use lib.ListN.{length, drop}
+use lib.ListN.{length, take, drop}
 use lib.Ieee.{lt}
 use Rattle.floats.specs.declared.b2_math.B2vec2.{B2vec2}
 use Rattle.floats.specs.B2Common.{b2-epsilon}
@@ -58,3 +58,8 @@ b2-polygon-shape-set old points =
     cond (ltb (length points) 3 || ltb 8 (length points)) (refused wrong-number-of-points old)
     (cond (not (all-points point-in-range points)) (refused shape-out-of-range old)
     (outline-of-welded old (welded points)))
+
+-- the same of the first count points
+unfoldable pub b2-polygon-shape-set-counted : B2polygonShape → List B2vec2 → ℕ → PolygonAnswer
+b2-polygon-shape-set-counted old points count =
+    cond (ltb count 3 || ltb 8 count) (refused wrong-number-of-points old) (b2-polygon-shape-set old (take count points))

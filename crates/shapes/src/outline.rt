@@ -3,7 +3,7 @@
 ghost use mathlib.Core.Path.{_≡_};
 ghost use mathlib.Core.Bool.{cond};
 ghost use Prim.Native.Nat.{_<_, _≤_};
-ghost use lib.ListN.{take};
+ghost use lib.ListN.{length, take};
 ghost use Rattle.algebra.specs.Loops.{near-any};
 ghost use Rattle.shapes.specs.Outline.{too-near, welded, comes-before, earlier, start, closer, replaces, next, row};
 ghost use Rattle.shapes.specs.Outline.{place-after, edges, long-enough, normal-of-edge, with-triangle, fan};
@@ -59,7 +59,7 @@ fn near_any(ps: [B2vec2; 8], n: usize, v: B2vec2) -> bool
 // The first count points without those too near to an earlier one that is kept.
 pub fn weld(points: [B2vec2; 8], count: usize) -> Points
     requires { ⌜ count ≤ 8 ⌝ }
-    ensures { λ r. ⌜ (r .count ≤ count) × (take (r .count) (r .at) ≡ welded (take count points)) ⌝ }
+    ensures { λ r. ⌜ (r .count ≤ count) × (length (r .at) ≡ 8) × (take (r .count) (r .at) ≡ welded (take count points)) ⌝ }
 {
     let mut ps = [B2vec2 { x: 0.0, y: 0.0 }; 8];
     let mut n = 0usize;
@@ -152,7 +152,7 @@ pub fn next(ps: [B2vec2; 8], n: usize, ih: usize) -> usize
 // The corners from the one at i0 on, over the old points; none where the walk is not back after eight.
 pub fn walk(ps: [B2vec2; 8], n: usize, i0: usize, old: [B2vec2; 8]) -> Points
     requires { ⌜ (n ≤ 8) × (i0 < n) × (i0 ≡ start (take n ps)) ⌝ }
-    ensures { λ r. ⌜ Walked (take n ps) old (row (take n ps)) r ⌝ }
+    ensures { λ r. ⌜ (r .count ≤ 8) × (length (r .at) ≡ 8) × Walked (take n ps) old (row (take n ps)) r ⌝ }
 {
     let mut corners = old;
     let mut ih = i0;

@@ -54,10 +54,13 @@ returns c =
     let loop = c .before .before .before .before in
     let ps = loop .before .args .t1 in
     let n = loop .before .args .n in
-    let inv = loop .loop .inv in
-    walking-back (take n ps) _ _ (loop .loop .m) (loop .loop .ih) _ (inv .7) (omega arith) (inv .5)
-    (corner-at ps n (loop .loop .ih) _ (omega arith) (omega arith)) _
-    (sym (c .before .next .ensures .1) ∙ c .if1 .taken ∙ inv .3) refl refl
+    let inv = loop .loop .inv in (
+      omega arith,
+      simp length-set (inv .6),
+      walking-back (take n ps) _ _ (loop .loop .m) (loop .loop .ih) _ (inv .7) (omega arith) (inv .5)
+          (corner-at ps n (loop .loop .ih) _ (omega arith) (omega arith)) _
+          (sym (c .before .next .ensures .1) ∙ c .if1 .taken ∙ inv .3) refl refl,
+    )
 
 loop-less : tie.Need-loop-less Inv-loop μ-loop
 loop-less c = search needs
@@ -83,7 +86,7 @@ loop-again c =
 returns-2 : tie.Need-returns-2 Inv-loop μ-loop
 returns-2 c =
     let loop = c .before in
-    walking-lost _ _ _ (loop .loop .m) (loop .loop .ih) _ (loop .loop .inv .7) (omega arith) refl
+    (omega arith, loop .loop .inv .6, walking-lost _ _ _ (loop .loop .m) (loop .loop .ih) _ (loop .loop .inv .7) (omega arith) refl)
 
 pub walk-spec : {M : Type 1} → statement M
 walk-spec =

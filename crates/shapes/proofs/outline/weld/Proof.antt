@@ -85,7 +85,7 @@ returns c =
     let points = loop .before .args .t1 in
     let count = loop .before .args .count in
     let end : loop .loop .i ≡ length (take count points) = omega (arith, length-take-le count points (omega arith)) in
-    (omega arith, weld-ended too-near _ (take count points) _ (loop .loop .i) end (loop .loop .inv .5))
+    (omega arith, loop .loop .inv .4, weld-ended too-near _ (take count points) _ (loop .loop .i) end (loop .loop .inv .5))
 
 pub weld-spec : {M : Type 1} → statement M
 weld-spec =
