@@ -1,12 +1,15 @@
 //! Nanoseconds per call of ours, the Rust's and the hardware's, measured side by side in one run. usage: bench [ROUNDS]
 //! Each figure is the best of ROUNDS passes over the same operands; the passes of the contestants alternate.
 use box2d_rs::b2_math::{b2_sqrt, B2vec2};
+use box2d_rs::shapes::b2_polygon_shape::B2polygonShape;
 use std::hint::black_box;
 use std::time::Instant;
 
 extern "C" {
     fn direct_root(x: f32) -> f32;
     fn direct_normalize(v: *mut f32, len: usize) -> f32;
+    fn direct_outline(points: *const f32, points_len: usize, out: *mut f32, out_len: usize) -> u32;
+    fn box2d_set(points: *const f32, n: i32) -> f32;
 }
 
 const OPERANDS: usize = 4096;
@@ -35,6 +38,37 @@ fn normalize_inline(v: &mut B2vec2) -> f32 {
 #[inline(never)]
 fn root_rust(x: f32) -> f32 {
     b2_sqrt(x)
+}
+
+/// n points about a circle, the same for every contestant; the list at place i is a little different from the others.
+fn points(n: usize, i: usize) -> Vec<B2vec2> {
+    let wobble = |k: usize| ((i * 7 + k * 13) % 17) as f32 / 256.0;
+    (0..n)
+        .map(|k| {
+            let angle = (k * 5 % n) as f32 * std::f32::consts::TAU / n as f32;
+            B2vec2::new(angle.cos() + wobble(k), angle.sin() + wobble(k + 3))
+        })
+        .collect()
+}
+
+fn outlines(n: usize, rounds: usize) {
+    let lists: Vec<Vec<B2vec2>> = (0..256).map(|i| points(n, i)).collect();
+    let shape = std::cell::RefCell::new(B2polygonShape::default());
+    let out = std::cell::RefCell::new([0.0f32; 34]);
+    compare(&format!("outline of {n} points"), rounds, &|| (), &[
+        ("ours", &|i| {
+            let list = &lists[i % 256];
+            let mut out = out.borrow_mut();
+            unsafe { direct_outline(&list[0].x, 2 * n, out.as_mut_ptr(), 34) };
+            out[32] + out[16] + out[5]
+        }),
+        ("Rust", &|i| {
+            let mut p = shape.borrow_mut();
+            p.set(&lists[i % 256]);
+            p.m_centroid.x + p.m_normals[0].x + p.m_vertices[2].y
+        }),
+        ("Box2D", &|i| unsafe { box2d_set(&lists[i % 256][0].x, n as i32) }),
+    ]);
 }
 
 /// ns per call of one pass
@@ -106,4 +140,6 @@ fn main() {
         ("Rust", &|i| in_place(&normalize_rust, i)),
         ("hardware", &|i| in_place(&normalize_inline, i)),
     ]);
+    outlines(4, rounds);
+    outlines(8, rounds);
 }

@@ -184,3 +184,10 @@ extern "C" size_t box2d_answer(const uint32_t *request, uint32_t *out) {
     asserting = false;
     return (size_t)(to.at - out);
 }
+
+// For the benchmark: one outline built over and over in place.
+extern "C" float box2d_set(const float *points, int n) {
+    static b2PolygonShape p;
+    p.Set(reinterpret_cast<const b2Vec2 *>(points), n);
+    return p.m_centroid.x + p.m_normals[0].x + p.m_vertices[2].y;
+}

@@ -9,32 +9,33 @@ use lib.Seq.{take-all, take-at, drop-at, drop-drop, drop-length}
 use borrow.Rule.Slice.PartMut.{putMid, midOf}
 use Rattle.algebra.specs.Buffer.{over}
 
--- `&mut buffer[at..]` lends what stands from at on
-tail-lent : (at : ℕ) (buffer : List ℕ) → midOf at (length buffer - at) buffer ≡ drop at buffer
-tail-lent at buffer = take-all (length buffer - at) (drop at buffer) (omega (arith, length-drop at buffer))
+module _ {A : Type 0} where
+  -- `&mut buffer[at..]` lends what stands from at on
+  tail-lent : (at : ℕ) (buffer : List A) → midOf at (length buffer - at) buffer ≡ drop at buffer
+  tail-lent at buffer = take-all (length buffer - at) (drop at buffer) (omega (arith, length-drop at buffer))
 
--- and comes back behind the first at elements
-tail-back : (at : ℕ) (buffer part : List ℕ) → putMid at (length buffer - at) buffer part ≡ take at buffer ++ part
-tail-back at buffer part =
-    let nothing-after : drop (length buffer - at) (drop at buffer) ≡ [] =
-    ap (λ (n : ℕ). drop n (drop at buffer)) (sym (length-drop at buffer)) ∙ drop-length (drop at buffer) in
-    ap (λ (rest : List ℕ). take at buffer ++ (part ++ rest)) nothing-after
-    ∙ ap (λ (rest : List ℕ). take at buffer ++ rest) (append-nil part)
+  -- and comes back behind the first at elements
+  tail-back : (at : ℕ) (buffer part : List A) → putMid at (length buffer - at) buffer part ≡ take at buffer ++ part
+  tail-back at buffer part =
+      let nothing-after : drop (length buffer - at) (drop at buffer) ≡ [] =
+      ap (λ (n : ℕ). drop n (drop at buffer)) (sym (length-drop at buffer)) ∙ drop-length (drop at buffer) in
+      ap (λ (rest : List A). take at buffer ++ (part ++ rest)) nothing-after
+      ∙ ap (λ (rest : List A). take at buffer ++ rest) (append-nil part)
 
-pub over-next : (first next old buffer part : List ℕ) (at : ℕ) → length first ≡ at → buffer ≡ over first old
-    → part ≡ over next (midOf at (length buffer - at) buffer)
-    → putMid at (length buffer - at) buffer part ≡ over (first ++ next) old
-over-next first next old buffer part at first-length written next-written =
-    let rest : drop at buffer ≡ drop at old =
-    ap (drop at) written ∙ drop-at first (drop (length first) old) at first-length ∙ ap (λ (k : ℕ). drop k old) first-length in
-    let new-part : part ≡ next ++ drop (at + length next) old =
-    next-written ∙ ap (over next) (tail-lent at buffer ∙ rest) ∙ ap (λ (l : List ℕ). next ++ l) (drop-drop (length next) at old) in
-    let total : at + length next ≡ length (first ++ next) = omega (arith, length-append first next, first-length) in
-    tail-back at buffer part
-    ∙ ap (λ (l : List ℕ). l ++ part) (ap (take at) written ∙ take-at first (drop (length first) old) at first-length)
-    ∙ ap (λ (l : List ℕ). first ++ l) new-part
-    ∙ sym (append-assoc first next (drop (at + length next) old))
-    ∙ ap (λ (k : ℕ). (first ++ next) ++ drop k old) total
+  pub over-next : (first next old buffer part : List A) (at : ℕ) → length first ≡ at → buffer ≡ over first old
+      → part ≡ over next (midOf at (length buffer - at) buffer)
+      → putMid at (length buffer - at) buffer part ≡ over (first ++ next) old
+  over-next first next old buffer part at first-length written next-written =
+      let rest : drop at buffer ≡ drop at old =
+      ap (drop at) written ∙ drop-at first (drop (length first) old) at first-length ∙ ap (λ (k : ℕ). drop k old) first-length in
+      let new-part : part ≡ next ++ drop (at + length next) old =
+      next-written ∙ ap (over next) (tail-lent at buffer ∙ rest) ∙ ap (λ (l : List A). next ++ l) (drop-drop (length next) at old) in
+      let total : at + length next ≡ length (first ++ next) = omega (arith, length-append first next, first-length) in
+      tail-back at buffer part
+      ∙ ap (λ (l : List A). l ++ part) (ap (take at) written ∙ take-at first (drop (length first) old) at first-length)
+      ∙ ap (λ (l : List A). first ++ l) new-part
+      ∙ sym (append-assoc first next (drop (at + length next) old))
+      ∙ ap (λ (k : ℕ). (first ++ next) ++ drop k old) total
 
-pub length-over : (new old : List ℕ) → length new ≤ length old → length (over new old) ≡ length old
-length-over new old fits = omega (arith, length-append new (drop (length new) old), length-drop (length new) old)
+  pub length-over : (new old : List A) → length new ≤ length old → length (over new old) ≡ length old
+  length-over new old fits = omega (arith, length-append new (drop (length new) old), length-drop (length new) old)

@@ -113,3 +113,9 @@ module _ {A : Type 0} where
       go : (List·Memᴰ a (set l i b) → (a ≡ b) ⊎ List·Memᴰ a l) → (a ≡ c) ⊎ List·Memᴰ a (set l i b) → (a ≡ b) ⊎ List·Memᴰ a (c ∷ l)
       go ih (inl e) = inr (L.List·Memᴰ·head e)
       go ih (inr k) = later (ih k)
+
+  -- within a list it does not matter what is said to stand past its end
+  pub getD-within : (l : List A) (i : ℕ) (d e : A) → i < length l → getD l i d ≡ getD l i e
+  getD-within [] i d e within = absurd (omega arith)
+  getD-within (x ∷ l) zero d e within = refl
+  getD-within (x ∷ l) (suc i) d e within = getD-within l i d e (omega arith)

@@ -1,1 +1,3 @@
 pub mod Front
+pub mod Flat
+pub mod Outline

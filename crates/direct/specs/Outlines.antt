@@ -1,0 +1,60 @@
+-- Building an outline from flat coordinates, x then y: the corners, the normals and the centroid go to the front of an output. Definitions only.
+use mathlib.Core.Bool.{cond, _||_}
+use mathlib.Core.List.{List, [], _∷_, _++_, map}
+use Prim.Native.Nat.{ℕ, _+_, _*_, _/_}
+use lib.Dec.{eqb, ltb}
+use lib.ListN.{length, getD}
+use lib.Ieee.{Float}
+use Rattle.algebra.specs.Buffer.{over}
+use Rattle.algebra.specs.Loops.{places}
+use Rattle.floats.specs.declared.b2_math.B2vec2.{B2vec2}
+use Rattle.floats.specs.B2Common.{zero32, b2-polygon-radius}
+use Rattle.floats.specs.B2Math.{vec2}
+use Rattle.shapes.specs.declared.b2_polygon_shape.B2polygonShape.{B2polygonShape}
+use Rattle.shapes.specs.declared.b2_polygon_shape.PolygonAnswer.{PolygonAnswer}
+use Rattle.shapes.specs.Outline.{origin}
+use Rattle.shapes.specs.Polygon.{b2-polygon-shape-set}
+
+-- the point at place i, and the points at the first n places
+abbrev pub point-of : List Float → ℕ → B2vec2
+point-of xs i = vec2 (getD xs (2 * i) zero32) (getD xs (2 * i + 1) zero32)
+
+abbrev pub points-of : List Float → ℕ → List B2vec2
+points-of xs n = map (point-of xs) (places 0 n)
+
+-- coordinates in a row
+unfoldable pub flat : List B2vec2 → List Float
+flat [] = []
+flat (p ∷ ps) = p .x ∷ p .y ∷ flat ps
+
+abbrev pub eight-origins : List B2vec2
+eight-origins = origin ∷ origin ∷ origin ∷ origin ∷ origin ∷ origin ∷ origin ∷ origin ∷ []
+
+-- the outline before the call: nothing but its skin
+abbrev pub empty-outline : B2polygonShape
+empty-outline = record {
+  «m_radius» = b2-polygon-radius;
+  «m_centroid» = origin;
+  «m_vertices» = eight-origins;
+  «m_normals» = eight-origins;
+  «m_count» = 0;
+}
+
+abbrev pub built : List Float → PolygonAnswer
+built xs = b2-polygon-shape-set empty-outline (points-of xs (length xs / 2))
+
+-- 1, or 256 and the refusal; 0 where the output has no room for 34 floats
+abbrev pub code-of : PolygonAnswer → ℕ
+code-of answer = cond (eqb (answer .refusal) 0) 1 (256 + answer .refusal)
+
+unfoldable pub outline-code : List Float → List Float → ℕ
+outline-code xs out = cond (ltb (length out) 34) 0 (code-of (built xs))
+
+abbrev pub floats-of : B2polygonShape → List Float
+floats-of shape = flat (shape .«m_vertices») ++ flat (shape .«m_normals») ++ (shape .«m_centroid» .x ∷ shape .«m_centroid» .y ∷ [])
+
+abbrev pub left-by : PolygonAnswer → List Float → List Float
+left-by answer out = cond (eqb (answer .refusal) 0) (over (floats-of (answer .shape)) out) out
+
+unfoldable pub outline-left : List Float → List Float → List Float
+outline-left xs out = cond (ltb (length out) 34) out (left-by (built xs) out)
