@@ -6,3 +6,4 @@ pub mod Facing
 pub mod AllPoints
 pub mod Built
 pub mod Sides
+pub mod Controls
