@@ -6,3 +6,5 @@ pub mod Facing
 pub mod AllPoints
 pub mod Built
 pub mod Counted
+pub mod Sides
+pub mod Controls
