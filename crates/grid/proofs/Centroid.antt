@@ -18,13 +18,14 @@ use Rattle.floats.proofs.Literals.{one-f32, one-mag}
 use Rattle.floats.proofs.Doubling.{div-double}
 use Rattle.floats.proofs.Caps.{add-cap, mul-cap, div-cap}
 use Rattle.floats.proofs.RangeValue.{shape-limit-is, value-limit}
-use Rattle.shapes.specs.Outline.{Fan, centroid-of}
+use Rattle.shapes.specs.declared.outline.FanSum.{FanSum}
+use Rattle.shapes.specs.Outline.{centroid-of}
 use Rattle.grid.specs.Grid.{GridNumber, GridPoint}
 use Rattle.grid.proofs.Moments.{Moment, least-is}
 use Rattle.grid.proofs.Fan.{FanSums}
 use Rattle.grid.proofs.Verdict.{grid-metres}
 
-module _ {sum : Fan} (f : FanSums sum) where
+module _ {sum : FanSum} (f : FanSums sum) where
   -- the area, in units
   area-low : metre ≤ 2 ^ 17 * mag (sum .area)
   area-low = go (val (sum .area)) (mag (sum .area)) (least-is (sum .area) (f .sums .least)) (f .large)

@@ -118,8 +118,7 @@ module _ {n : B2vec2} (n-steps : StepsPoint 2048 n) (some : whole 0 ≺ dot (cou
 
   inverse-law : Reciprocal inverse (b2-length n)
   unfolding inverse
-  inverse-law = reciprocal (root-law .own) (le-trans root-low (mul-le-mul-right (mag (b2-length n)) (lit≤ tt)))
-      (le-trans root-high (mul-le-mul-right metre (lit≤ tt)))
+  inverse-law = reciprocal 8 4 tt tt (root-law .own) root-low root-high
 
   -- the squared length by value
   square-is : val (n .x) ⊠ val (n .x) ⊞ val (n .y) ⊠ val (n .y) ≐ whole (mag (b2-length-squared n) * metre)
