@@ -1,12 +1,15 @@
 /* A C host of the library: makes a request, calls, prints the answer.
-   usage: host                 a few worked cases
-          host root X          the square root
-          host normalize X Y   a vector made unit */
+   usage: host                     a few worked cases
+          host root X              the square root
+          host normalize X Y       a vector made unit
+          host outline X Y X Y ..  the outline builder on a list of points */
 #include "netxurbil_calls.h"
 #include <inttypes.h>
 #include <stdio.h>
 #include <stdlib.h>
 #include <string.h>
+
+enum { POLY = 36, MOST_POINTS = 16 };
 
 static void put(uint8_t *at, uint32_t word) {
     for (int i = 0; i < 4; i++) at[i] = (uint8_t)(word >> (24 - 8 * i));
@@ -28,35 +31,71 @@ static float float_of(uint32_t bits) {
     return x;
 }
 
-/* A request of an entry with count floats; prints name, operands and the answer's floats. */
-static int show(const char *name, uint32_t entry, const float *operands, int count) {
-    uint8_t input[64], out[64];
+static void print_float(uint32_t bits) { printf("%.9g (%08" PRIx32 ")", float_of(bits), bits); }
+
+/* Prints an operation with its operands and the refusal of its answer; 0 words are a malformed request. */
+static int answered(const char *name, const float *operands, int count, const uint8_t *out, uint32_t words) {
+    printf("%s", name);
+    for (int i = 0; i < count; i++) printf(" %.9g", operands[i]);
+    if (words == 0) {
+        printf(" : malformed\n");
+        return 0;
+    }
+    printf(" : refusal %" PRIu32, get(out));
+    return 1;
+}
+
+/* Entries 15 and 16: floats in, floats out. */
+static void show(const char *name, uint32_t entry, const float *operands, int count) {
+    uint8_t input[12], out[16];
     put(input, entry);
     for (int i = 0; i < count; i++) put(input + 4 * (i + 1), bits_of(operands[i]));
     uint32_t words = calls(input, (size_t)(4 * (count + 1)), out, sizeof out);
-    if (words == 0) {
-        printf("malformed\n");
-        return 1;
-    }
-    printf("%s", name);
-    for (int i = 0; i < count; i++) printf(" %.9g", operands[i]);
-    printf(" : refusal %" PRIu32, get(out));
-    for (uint32_t i = 1; i < words; i++) printf(" | %.9g (%08" PRIx32 ")", float_of(get(out + 4 * i)), get(out + 4 * i));
+    if (!answered(name, operands, count, out, words)) return;
+    for (uint32_t i = 1; i < words; i++) printf(" | "), print_float(get(out + 4 * i));
     printf("\n");
-    return 0;
+}
+
+/* Entry 1: an outline of zeros, a list of points; prints the corners that were built, each with the normal of its edge, and the centroid. */
+static void outline(const float *coordinates, int count) {
+    uint8_t input[4 * (2 + POLY + 2 * MOST_POINTS)] = {0}, out[4 * (1 + POLY)];
+    put(input, 1);
+    put(input + 4 * (1 + POLY), (uint32_t)count / 2);
+    for (int i = 0; i < count; i++) put(input + 4 * (2 + POLY + i), bits_of(coordinates[i]));
+    uint32_t words = calls(input, (size_t)(4 * (2 + POLY + count)), out, sizeof out);
+    if (!answered("outline", coordinates, count, out, words)) return;
+    printf("\n");
+    if (get(out) != NETXURBIL_ACCEPTED) return;
+    const uint8_t *shape = out + 4;
+    for (uint32_t i = 0; i < get(shape + 4 * 3); i++) {
+        const uint8_t *corner = shape + 4 * (4 + 2 * i), *normal = corner + 4 * 16;
+        printf("  corner ("), print_float(get(corner)), printf(", "), print_float(get(corner + 4));
+        printf(") normal ("), print_float(get(normal)), printf(", "), print_float(get(normal + 4)), printf(")\n");
+    }
+    printf("  centroid ("), print_float(get(shape + 4)), printf(", "), print_float(get(shape + 8)), printf(")\n");
 }
 
 int main(int argc, char **argv) {
-    float given[2] = {0, 0};
-    for (int i = 2; i < argc && i < 4; i++) given[i - 2] = strtof(argv[i], NULL);
-    if (argc == 3 && strcmp(argv[1], "root") == 0) return show("root", 15, given, 1);
-    if (argc == 4 && strcmp(argv[1], "normalize") == 0) return show("normalize", 16, given, 2);
+    float given[2 * MOST_POINTS] = {0};
+    int count = argc - 2;
+    for (int i = 0; i < count && i < 2 * MOST_POINTS; i++) given[i] = strtof(argv[i + 2], NULL);
+    if (argc == 3 && strcmp(argv[1], "root") == 0) return show("root", 15, given, 1), 0;
+    if (argc == 4 && strcmp(argv[1], "normalize") == 0) return show("normalize", 16, given, 2), 0;
+    if (argc >= 2 && strcmp(argv[1], "outline") == 0 && count % 2 == 0 && count <= 2 * MOST_POINTS) return outline(given, count), 0;
     if (argc != 1) {
-        fprintf(stderr, "usage: host | host root X | host normalize X Y\n");
+        fprintf(stderr, "usage: host | host root X | host normalize X Y | host outline X Y X Y ..\n");
         return 2;
     }
-    const float cases[][2] = {{2, 0}, {0.75f, 0}, {1e-45f, 0}, {3, 4}, {-1, 1}, {1e-8f, 0}};
-    int bad = 0;
-    for (int i = 0; i < 6; i++) bad |= i < 3 ? show("root", 15, cases[i], 1) : show("normalize", 16, cases[i], 2);
-    return bad;
+    const float numbers[][2] = {{2, 0}, {0.75f, 0}, {1e-45f, 0}, {3, 4}, {-1, 1}, {1e-8f, 0}};
+    for (int i = 0; i < 3; i++) show("root", 15, numbers[i], 1);
+    for (int i = 3; i < 6; i++) show("normalize", 16, numbers[i], 2);
+    const float square[] = {0, 0, 1, 0, 1, 1, 0, 1, 0.5f, 0}, line[] = {0, 0, 1, 0, 2, 0}, two[] = {0, 0, 1, 0};
+    const float wide[] = {0, 0, 2e6f, 0, 0, 1}, welded[] = {0, 0, 0.0024f, 0, 0, 1}, flat[] = {0, 0, 1, 0, 0.5f, 1e-7f};
+    outline(square, 10);
+    outline(two, 4);
+    outline(wide, 6);
+    outline(welded, 6);
+    outline(line, 6);
+    outline(flat, 6);
+    return 0;
 }
