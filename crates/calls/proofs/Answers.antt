@@ -8,7 +8,8 @@ use lib.Ieee.{Float}
 use Rattle.floats.specs.declared.b2_math.Normalized.{Normalized}
 use Rattle.floats.specs.B2Math.{vec2, b2-sqrt, b2-normalize}
 use Rattle.calls.specs.Words.{word-at}
-use Rattle.calls.specs.Entries.{float-at, bits, normalized-words, root-answer, normalize-answer, answer}
+use Rattle.calls.specs.Records.{float-at, bits}
+use Rattle.calls.specs.Entries.{normalized-words, root-answer, normalize-answer, answer}
 
 pub root-words : (request : List ℕ) (x root : Float) (w : ℕ) → length request ≡ 8 → x ≡ float-at request 1 → root ≡ b2-sqrt x → w ≡ bits root
     → 0 ∷ w ∷ [] ≡ root-answer request

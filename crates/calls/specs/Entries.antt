@@ -5,16 +5,10 @@ use mathlib.Core.Bool.{cond}
 use mathlib.Core.List.{List, [], _∷_}
 use lib.Dec.{ltb, eqb}
 use lib.ListN.{length}
-use lib.Ieee.{Float, binary32, ofBits, toBits}
 use Rattle.floats.specs.declared.b2_math.Normalized.{Normalized}
 use Rattle.floats.specs.B2Math.{vec2, b2-sqrt, b2-normalize}
 use Rattle.calls.specs.Words.{word-at}
-
-abbrev pub float-at : List ℕ → ℕ → Float
-float-at request i = ofBits binary32 (word-at request i)
-
-abbrev pub bits : Float → ℕ
-bits x = toBits binary32 x
+use Rattle.calls.specs.Records.{float-at, bits}
 
 -- 15, x: the root
 unfoldable pub root-answer : List ℕ → List ℕ

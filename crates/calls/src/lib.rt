@@ -5,6 +5,7 @@ use floats::b2_math;
 use floats::b2_math::B2vec2;
 use floats::bits;
 
+mod records;
 mod words;
 
 // 15, x: the root.

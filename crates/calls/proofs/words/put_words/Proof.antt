@@ -11,9 +11,6 @@ use Rattle.calls.specs.Words.{bytes-of}
 use Rattle.calls.proofs.Bytes.{length-bytes, word-written, written-whole, written-none}
 use Rattle.calls.proofs.words.put_words.Statement.{statement}
 use Rattle.calls.proofs.words.put_words.Tie as tie
-use Rattle.calls.proofs.words.put_words.Reads as reads
-use Rattle.calls.proofs.words.put_words.Lts as lts
-use Rattle.calls.proofs.words.put_word.Reads as put-word-reads
 
 abbrev Inv-loop : tie.InvT-loop
 Inv-loop out₀ words n i₀ out i =
