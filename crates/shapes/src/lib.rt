@@ -2,3 +2,4 @@
 pub mod b2_circle_shape;
 pub mod b2_edge_shape;
 pub mod b2_polygon_shape;
+mod outline;
