@@ -9,7 +9,7 @@ use Rattle.floats.specs.declared.b2_math.Normalized.{Normalized}
 use Rattle.floats.specs.B2Math.{vec2, b2-sqrt, b2-normalize}
 use Rattle.calls.specs.Words.{word-at}
 use Rattle.calls.specs.Records.{float-at, bits}
-use Rattle.calls.specs.Entries.{normalized-words, root-answer, normalize-answer, answer}
+use Rattle.calls.specs.Entries.{normalized-words, root-answer, normalize-answer, shape-answer, answer}
 
 pub root-words : (request : List ℕ) (x root : Float) (w : ℕ) → length request ≡ 8 → x ≡ float-at request 1 → root ≡ b2-sqrt x → w ≡ bits root
     → 0 ∷ w ∷ [] ≡ root-answer request
@@ -30,6 +30,13 @@ unfolding normalize-answer
 normalize-malformed request size = simp (ne-eqb _ _ size)
 
 -- ---- which entry answers
+pub answers-as : (number entry : ℕ) (request : List ℕ) → entry ≡ number → shape-answer number request ≡ shape-answer entry request
+answers-as number entry request is = rw is
+
+pub no-shape : (entry : ℕ) (request : List ℕ) → (entry ≡ 1 → ⊥) → shape-answer entry request ≡ []
+unfolding shape-answer
+no-shape entry request no-1 = simp (ne-eqb _ _ no-1)
+
 pub no-entry : (request : List ℕ) → length request < 4 → answer request ≡ []
 unfolding answer
 no-entry request short = simp (lt-ltb _ _ short)
@@ -43,7 +50,12 @@ module _ (request : List ℕ) (entry : ℕ) (room : 4 ≤ length request) (entry
   unfolding answer
   normalize-entry is = simp (le-ltb _ _ room, sym entry-is ∙ is)
 
-  pub other-entry : (entry ≡ 15 → ⊥) → (entry ≡ 16 → ⊥) → answer request ≡ []
+  pub shape-entry : (entry ≡ 15 → ⊥) → (entry ≡ 16 → ⊥) → shape-answer entry request ≡ answer request
   unfolding answer
-  other-entry no-15 no-16 =
-      simp (le-ltb _ _ room, ne-eqb _ _ (λ (e : word-at request 0 ≡ 15). no-15 (entry-is ∙ e)), ne-eqb _ _ (λ (e : word-at request 0 ≡ 16). no-16 (entry-is ∙ e)))
+  shape-entry no-15 no-16 =
+      simp (
+        le-ltb _ _ room,
+        entry-is,
+        ne-eqb _ _ (λ (e : word-at request 0 ≡ 15). no-15 (entry-is ∙ e)),
+        ne-eqb _ _ (λ (e : word-at request 0 ≡ 16). no-16 (entry-is ∙ e)),
+      )
