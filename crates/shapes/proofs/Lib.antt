@@ -5,3 +5,4 @@ pub mod Around
 pub mod Facing
 pub mod AllPoints
 pub mod Built
+pub mod Sides

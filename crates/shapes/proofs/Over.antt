@@ -33,3 +33,12 @@ pub put-next : (array new old : List B2vec2) (p : B2vec2) (n : ℕ) → array �
 put-next array new old p n array-is n-is room =
     ap (λ (l : List B2vec2). set l n p) array-is ∙ ap (λ (k : ℕ). set (put-first new old) k p) (sym n-is)
     ∙ put-one-more new old p (omega arith)
+
+-- stores in the first four places
+pub put-four : (old : List B2vec2) (a b c d : B2vec2) → 4 ≤ length old
+    → set (set (set (set old 0 a) 1 b) 2 c) 3 d ≡ put-first (a ∷ b ∷ c ∷ d ∷ []) old
+put-four [] a b c d four = absurd (omega arith)
+put-four (w ∷ []) a b c d four = absurd (omega arith)
+put-four (w ∷ x ∷ []) a b c d four = absurd (omega arith)
+put-four (w ∷ x ∷ y ∷ []) a b c d four = absurd (omega arith)
+put-four (w ∷ x ∷ y ∷ z ∷ old) a b c d four = refl

@@ -50,12 +50,13 @@ at-place (x ∷ l) (suc i) d within = at-place l i d (omega arith)
 pub at-first-place : (l : List B2vec2) (n i : ℕ) → i < n → point-at (take n l) i ≡ point-at l i
 at-first-place l n i within = getD-take n l i origin within
 
--- ---- the two choices of a place, from the Boolean that the code has
-pub chosen : (t r : Bool) (a b : ℕ) → r ≡ t → r ≡ true → a ≡ cond t a b
-chosen t r a b r-is holds = ap (λ (u : Bool). cond u a b) (sym holds ∙ r-is)
+-- ---- the two ways of a choice, from the Boolean that the code has
+module _ {A : Type 0} (t r : Bool) (a b : A) where
+  pub chosen : r ≡ true → r ≡ t → a ≡ cond t a b
+  chosen holds r-is = ap (λ (u : Bool). cond u a b) (sym holds ∙ r-is)
 
-pub unchosen : (t r : Bool) (a b : ℕ) → r ≡ t → r ≡ false → b ≡ cond t a b
-unchosen t r a b r-is fails = ap (λ (u : Bool). cond u a b) (sym fails ∙ r-is)
+  pub unchosen : r ≡ false → r ≡ t → b ≡ cond t a b
+  unchosen fails r-is = ap (λ (u : Bool). cond u a b) (sym fails ∙ r-is)
 
 pub earlier-at : (l : List B2vec2) (d : B2vec2) (r : Bool) (best i : ℕ) → best < length l → i < length l
     → r ≡ comes-before (getD l best d) (getD l i d) → r ≡ earlier l best i

@@ -1,12 +1,16 @@
 // Outlines (Box2D's b2_polygon_shape.h).
 ghost use mathlib.Core.Path.{_≡_};
-ghost use Prim.Native.Nat.{_≤_};
-ghost use lib.ListN.{take};
-ghost use Rattle.floats.specs.Ranges.{point-in-range};
-ghost use Rattle.shapes.specs.Polygon.{all-points, b2-polygon-shape-set-counted};
+ghost use mathlib.Core.List.{[], _∷_};
+ghost use Rattle.shapes.specs.Polygon.{put-first, b2-polygon-shape-set-counted};
+ghost use Rattle.shapes.specs.Boxes.{b2-polygon-shape-set-as-box, b2-polygon-shape-set-as-box-angle};
+ghost use Rattle.shapes.specs.Validate.{b2-polygon-shape-validate};
+use crate::convex;
 use crate::outline;
+use crate::shape_ranges;
 use floats::b2_common::B2_EPSILON;
 use floats::b2_math;
+use floats::b2_math::B2Rot;
+use floats::b2_math::B2Transform;
 use floats::b2_math::B2vec2;
 use floats::b2_settings::B2_MAX_POLYGON_VERTICES;
 use floats::ranges;
@@ -31,21 +35,6 @@ pub struct Validity {
     pub valid: bool,
 }
 
-// Whether each of the first n points is in the range of shape coordinates.
-fn points_in_range(ps: [B2vec2; 8], n: usize) -> bool
-    requires { ⌜ n ≤ 8 ⌝ }
-    ensures { λ r. ⌜ r ≡ all-points point-in-range (take n ps) ⌝ }
-{
-    let mut i = 0usize;
-    while i < n {
-        if !ranges::point_in_range(ps[i]) {
-            return false;
-        }
-        i += 1;
-    }
-    true
-}
-
 // The outline of the first count points: weld, start, walk, normals, centroid.
 pub fn b2_polygon_shape_set_core(
     old: B2polygonShape,
@@ -66,7 +55,7 @@ pub fn b2_polygon_shape_set_core(
             shape: old,
         };
     }
-    if !points_in_range(points, count) {
+    if !shape_ranges::points_in_range(points, count) {
         return PolygonAnswer {
             refusal: 2,
             shape: old,
@@ -119,5 +108,135 @@ pub fn b2_polygon_shape_set_core(
     PolygonAnswer {
         refusal: 5,
         shape: old,
+    }
+}
+
+// Four points over the old ones.
+fn put_four(old: [B2vec2; 8], a: B2vec2, b: B2vec2, c: B2vec2, d: B2vec2) -> [B2vec2; 8]
+    ensures { λ r. ⌜ r ≡ put-first (a ∷ b ∷ c ∷ d ∷ []) old ⌝ }
+{
+    let mut new = old;
+    new[0] = a;
+    new[1] = b;
+    new[2] = c;
+    new[3] = d;
+    new
+}
+
+// A box of half-widths hx and hy around the origin.
+pub fn b2_polygon_shape_set_as_box(old: B2polygonShape, hx: f32, hy: f32) -> PolygonAnswer
+    ensures { λ r. ⌜ r ≡ b2-polygon-shape-set-as-box old hx hy ⌝ }
+{
+    let hx_in = ranges::coordinate_in_range(hx);
+    let hy_in = ranges::coordinate_in_range(hy);
+    if !(hx_in & hy_in) {
+        return PolygonAnswer {
+            refusal: 2,
+            shape: old,
+        };
+    }
+    let old_vertices = old.m_vertices;
+    let old_normals = old.m_normals;
+    let vs = put_four(
+        old_vertices,
+        B2vec2 { x: -hx, y: -hy },
+        B2vec2 { x: hx, y: -hy },
+        B2vec2 { x: hx, y: hy },
+        B2vec2 { x: -hx, y: hy },
+    );
+    let ns = put_four(
+        old_normals,
+        B2vec2 { x: 0.0, y: -1.0 },
+        B2vec2 { x: 1.0, y: 0.0 },
+        B2vec2 { x: 0.0, y: 1.0 },
+        B2vec2 { x: -1.0, y: 0.0 },
+    );
+    PolygonAnswer {
+        refusal: 0,
+        shape: B2polygonShape {
+            m_radius: old.m_radius,
+            m_centroid: B2vec2 { x: 0.0, y: 0.0 },
+            m_vertices: vs,
+            m_normals: ns,
+            m_count: 4,
+        },
+    }
+}
+
+// A box of half-widths hx and hy, turned by q and moved to center.
+pub fn b2_polygon_shape_set_as_box_angle(
+    old: B2polygonShape,
+    hx: f32,
+    hy: f32,
+    center: B2vec2,
+    q: B2Rot,
+) -> PolygonAnswer
+    ensures { λ r. ⌜ r ≡ b2-polygon-shape-set-as-box-angle old hx hy center q ⌝ }
+{
+    let hx_in = ranges::coordinate_in_range(hx);
+    let hy_in = ranges::coordinate_in_range(hy);
+    let center_in = ranges::point_in_range(center);
+    if !(hx_in & hy_in & center_in) {
+        return PolygonAnswer {
+            refusal: 2,
+            shape: old,
+        };
+    }
+    if !ranges::rotation_in_range(q) {
+        return PolygonAnswer {
+            refusal: 6,
+            shape: old,
+        };
+    }
+    let xf = B2Transform { p: center, q: q };
+    let old_vertices = old.m_vertices;
+    let old_normals = old.m_normals;
+    let vs = put_four(
+        old_vertices,
+        b2_math::b2_mul_transform_by_vec2(xf, B2vec2 { x: -hx, y: -hy }),
+        b2_math::b2_mul_transform_by_vec2(xf, B2vec2 { x: hx, y: -hy }),
+        b2_math::b2_mul_transform_by_vec2(xf, B2vec2 { x: hx, y: hy }),
+        b2_math::b2_mul_transform_by_vec2(xf, B2vec2 { x: -hx, y: hy }),
+    );
+    let ns = put_four(
+        old_normals,
+        b2_math::b2_mul_rot_by_vec2(q, B2vec2 { x: 0.0, y: -1.0 }),
+        b2_math::b2_mul_rot_by_vec2(q, B2vec2 { x: 1.0, y: 0.0 }),
+        b2_math::b2_mul_rot_by_vec2(q, B2vec2 { x: 0.0, y: 1.0 }),
+        b2_math::b2_mul_rot_by_vec2(q, B2vec2 { x: -1.0, y: 0.0 }),
+    );
+    PolygonAnswer {
+        refusal: 0,
+        shape: B2polygonShape {
+            m_radius: old.m_radius,
+            m_centroid: center,
+            m_vertices: vs,
+            m_normals: ns,
+            m_count: 4,
+        },
+    }
+}
+
+// Whether an outline is convex, by the rounded cross products.
+pub fn b2_polygon_shape_validate(shape: B2polygonShape) -> Validity
+    ensures { λ r. ⌜ r ≡ b2-polygon-shape-validate shape ⌝ }
+{
+    let count = shape.m_count;
+    if count > B2_MAX_POLYGON_VERTICES {
+        return Validity {
+            refusal: 7,
+            valid: false,
+        };
+    }
+    if !shape_ranges::polygon_in_range(shape) {
+        return Validity {
+            refusal: 2,
+            valid: false,
+        };
+    }
+    let vs = shape.m_vertices;
+    Validity {
+        refusal: 0,
+        valid: convex::faces_convex(vs, count),
     }
 }

@@ -10,7 +10,7 @@ returns : tie.Need-returns
 returns c =
     let args = c .before .args in
     let same = replaces-itself (args .t1) (args .ih) (args .ie) (args .j) (c .if1 .taken) in
-    chosen _ _ (args .j) (args .ie) (sym same) refl
+    chosen _ _ (args .j) (args .ie) refl (sym same)
 
 mul-closer : tie.Need-mul-closer
 mul-closer c = search needs
@@ -37,19 +37,17 @@ returns-2 : tie.Need-returns-2
 returns-2 c =
     let start = c .before .before .before .before .before .before in
     let inside = start .good .0 .1 .0 .1 in
-    chosen _ _ _ _
+    chosen _ _ _ _ (c .if2 .taken)
     (replaces-at (start .args .t1) (start .args .ih) (start .args .ie) (start .args .j) _ _ (omega arith) (omega arith) (omega arith)
     (c .before .before .before .before .before .if1 .left) (c .before .closer .ensures))
-    (c .if2 .taken)
 
 returns-3 : tie.Need-returns-3
 returns-3 c =
     let start = c .before .before .before .before .before .before in
     let inside = start .good .0 .1 .0 .1 in
-    unchosen _ _ _ _
+    unchosen _ _ _ _ (c .if2 .left)
     (replaces-at (start .args .t1) (start .args .ih) (start .args .ie) (start .args .j) _ _ (omega arith) (omega arith) (omega arith)
     (c .before .before .before .before .before .if1 .left) (c .before .closer .ensures))
-    (c .if2 .left)
 
 pub better-of-spec : {M : Type 1} → statement M
 better-of-spec =

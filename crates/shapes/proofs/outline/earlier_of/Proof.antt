@@ -24,15 +24,15 @@ returns : tie.Need-returns
 returns c =
     let start = c .before .before .before .before in
     let inside = start .good .0 .1 .0 .1 in
-    chosen _ _ _ _ (earlier-at (start .args .t1) _ _ (start .args .best) (start .args .i) (omega arith) (omega arith) (c .before .comes-before .ensures))
-    (c .if1 .taken)
+    chosen _ _ _ _ (c .if1 .taken)
+    (earlier-at (start .args .t1) _ _ (start .args .best) (start .args .i) (omega arith) (omega arith) (c .before .comes-before .ensures))
 
 returns-2 : tie.Need-returns-2
 returns-2 c =
     let start = c .before .before .before .before in
     let inside = start .good .0 .1 .0 .1 in
-    unchosen _ _ _ _ (earlier-at (start .args .t1) _ _ (start .args .best) (start .args .i) (omega arith) (omega arith) (c .before .comes-before .ensures))
-    (c .if1 .left)
+    unchosen _ _ _ _ (c .if1 .left)
+    (earlier-at (start .args .t1) _ _ (start .args .best) (start .args .i) (omega arith) (omega arith) (c .before .comes-before .ensures))
 
 pub earlier-of-spec : {M : Type 1} → statement M
 earlier-of-spec =

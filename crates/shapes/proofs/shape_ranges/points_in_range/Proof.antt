@@ -10,8 +10,8 @@ use Rattle.floats.specs.Ranges.{point-in-range}
 use Rattle.shapes.specs.Polygon.{all-points}
 use Rattle.shapes.proofs.Tests.{first-places}
 use Rattle.shapes.proofs.AllPoints.{all-failed, all-next, all-ended}
-use Rattle.shapes.proofs.b2_polygon_shape.points_in_range.Statement.{statement}
-use Rattle.shapes.proofs.b2_polygon_shape.points_in_range.Tie as tie
+use Rattle.shapes.proofs.shape_ranges.points_in_range.Statement.{statement}
+use Rattle.shapes.proofs.shape_ranges.points_in_range.Tie as tie
 
 abbrev Inv-loop : tie.InvT-loop
 Inv-loop n ps i₀ i =
