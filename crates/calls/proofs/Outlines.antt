@@ -1,19 +1,25 @@
--- The builder over an array and a count is the builder over the request's list of points, of any length. Assumes nothing.
+-- The words of entries 1 to 4, from what their calls promise. The builder over an array and a count is the builder over the request's list
+-- of points, of any length. Assumes nothing.
 use Prim.Native.Nat.{ℕ, _+_, _*_, _≤_, _<_}
 use mathlib.Core.Path.{_≡_, refl, sym, _∙_, ap}
 use mathlib.Core.Bool.{Bool, true, false}
-use mathlib.Core.List.{List, []}
+use mathlib.Core.List.{List, [], _∷_}
 use native.Mathlib.Omega.{arith}
 use lib.Dec.{ltb}
 use lib.ListN.{length, take}
+use lib.Ieee.{Float}
 use borrow.Author.Tests.{ltb-true, ltb-false, le-ltb, eq-eqb, ne-eqb}
 use Rattle.floats.specs.declared.b2_math.B2vec2.{B2vec2}
+use Rattle.floats.specs.declared.b2_math.B2Rot.{B2Rot}
 use Rattle.shapes.specs.declared.b2_polygon_shape.B2polygonShape.{B2polygonShape}
 use Rattle.shapes.specs.declared.b2_polygon_shape.PolygonAnswer.{PolygonAnswer}
+use Rattle.shapes.specs.declared.b2_polygon_shape.Validity.{Validity}
 use Rattle.shapes.specs.Polygon.{b2-polygon-shape-set, b2-polygon-shape-set-counted}
+use Rattle.shapes.specs.Boxes.{b2-polygon-shape-set-as-box, b2-polygon-shape-set-as-box-angle}
+use Rattle.shapes.specs.Validate.{b2-polygon-shape-validate}
 use Rattle.calls.specs.Words.{word-at}
-use Rattle.calls.specs.Records.{points-at, polygon-at}
-use Rattle.calls.specs.Entries.{outline-answer, set-answer}
+use Rattle.calls.specs.Records.{float-at, vector-at, points-at, rotation-at, polygon-at, flag}
+use Rattle.calls.specs.Entries.{outline-answer, set-answer, box-answer, box-angle-answer, validate-answer}
 use Rattle.calls.proofs.Rows.{length-points}
 
 by-test : (test : Bool) {P : Type 0} → (test ≡ true → P) → (test ≡ false → P) → P
@@ -52,3 +58,39 @@ module _ (request : List ℕ) where
         let whole : answer ≡ b2-polygon-shape-set old (points-at request 38 n) =
         answer-is ∙ counted-whole old array (points-at request 38 n) n (length-points request 38 n) (λ few. rw (all few) at first) in
         simp (eq-eqb _ _ (size ∙ size-is), whole, old-is, n-is)
+
+  -- ---- the box
+  pub box-malformed : (length request ≡ 156 → ⊥) → box-answer request ≡ []
+  unfolding box-answer
+  box-malformed size = simp (ne-eqb _ _ size)
+
+  pub box-words : (old : B2polygonShape) (hx hy : Float) (answer : PolygonAnswer) → length request ≡ 156 → old ≡ polygon-at request 1
+      → hx ≡ float-at request 37 → hy ≡ float-at request 38 → answer ≡ b2-polygon-shape-set-as-box old hx hy
+      → outline-answer answer ≡ box-answer request
+  unfolding box-answer
+  box-words old hx hy answer size old-is hx-is hy-is answer-is = simp (eq-eqb _ _ size, answer-is, old-is, hx-is, hy-is)
+
+  -- ---- the box that is turned and moved
+  pub box-angle-malformed : (length request ≡ 172 → ⊥) → box-angle-answer request ≡ []
+  unfolding box-angle-answer
+  box-angle-malformed size = simp (ne-eqb _ _ size)
+
+  pub box-angle-words : (old : B2polygonShape) (hx hy : Float) (center : B2vec2) (q : B2Rot) (answer : PolygonAnswer)
+      → length request ≡ 172 → old ≡ polygon-at request 1 → hx ≡ float-at request 37 → hy ≡ float-at request 38
+      → center ≡ vector-at request 39 → q ≡ rotation-at request 41 → answer ≡ b2-polygon-shape-set-as-box-angle old hx hy center q
+      → outline-answer answer ≡ box-angle-answer request
+  unfolding box-angle-answer
+  box-angle-words old hx hy center q answer size old-is hx-is hy-is center-is q-is answer-is =
+      simp (eq-eqb _ _ size, answer-is, old-is, hx-is, hy-is, center-is, q-is)
+
+  -- ---- the convexity test
+  pub validate-malformed : (length request ≡ 148 → ⊥) → validate-answer request ≡ []
+  unfolding validate-answer
+  validate-malformed size = simp (ne-eqb _ _ size)
+
+  pub validate-words : (shape : B2polygonShape) (validity : Validity) (refusal valid : ℕ) → length request ≡ 148
+      → shape ≡ polygon-at request 1 → validity ≡ b2-polygon-shape-validate shape → refusal ≡ validity .refusal
+      → valid ≡ flag (validity .valid) → refusal ∷ valid ∷ [] ≡ validate-answer request
+  unfolding validate-answer
+  validate-words shape validity refusal valid size shape-is validity-is refusal-is valid-is =
+      simp (eq-eqb _ _ size, refusal-is, valid-is, validity-is, shape-is)
