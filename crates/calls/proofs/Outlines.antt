@@ -40,7 +40,8 @@ module _ (request : List ℕ) where
   pub set-short : length request < 152 → set-answer request ≡ []
   unfolding set-answer
   set-short short =
-      simp (ne-eqb (length request) (4 * (38 + 2 * word-at request 37)) (λ (e : length request ≡ 4 * (38 + 2 * word-at request 37)). omega arith))
+      let size = 4 * (38 + 2 * word-at request 37) in
+      simp (ne-eqb (length request) size (λ (e : length request ≡ size). omega arith))
 
   module _ (n : ℕ) (n-is : n ≡ word-at request 37) where
     size-is : 4 * (38 + 2 * n) ≡ 4 * (38 + 2 * word-at request 37)

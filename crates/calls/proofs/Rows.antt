@@ -22,7 +22,8 @@ points-next request i zero =
     ap (λ (n : ℕ). vector-at request n ∷ []) same
 points-next request i (suc k) =
     let same : i + 2 + 2 * k ≡ i + 2 * suc k = omega arith in
-    ap (_∷_ (vector-at request i)) (points-next request (i + 2) k ∙ ap (λ (n : ℕ). points-at request (i + 2) k ++ (vector-at request n ∷ [])) same)
+    ap (_∷_ (vector-at request i))
+    (points-next request (i + 2) k ∙ ap (λ (n : ℕ). points-at request (i + 2) k ++ (vector-at request n ∷ [])) same)
 
 pub point-read : (request : List ℕ) (i k : ℕ) (ps : List B2vec2) (v : B2vec2) → k < length ps → v ≡ vector-at request (i + 2 * k)
     → take k ps ≡ points-at request i k → take (k + 1) (set ps k v) ≡ points-at request i (k + 1)

@@ -15,7 +15,8 @@ use Rattle.shapes.specs.Boxes.{b2-polygon-shape-set-as-box, b2-polygon-shape-se
 use Rattle.shapes.specs.Validate.{b2-polygon-shape-validate}
 use Rattle.shapes.specs.Edge.{b2-set-one-sided, b2-set-two-sided}
 use Rattle.calls.specs.Words.{word-at}
-use Rattle.calls.specs.Records.{float-at, vector-at, points-at, rotation-at, polygon-at, edge-at, bits, flag, polygon-words, edge-words}
+use Rattle.calls.specs.Records.{float-at, vector-at, points-at, rotation-at, polygon-at, edge-at}
+use Rattle.calls.specs.Records.{bits, flag, polygon-words, edge-words}
 
 -- ---- shapes: an answer is the refusal, and the record after the call
 abbrev pub outline-answer : PolygonAnswer → List ℕ

@@ -35,7 +35,8 @@ returns-3 c =
     let called = c .before .before in
     let then = called .before .before in
     let word = then .before .before in
-    written-as _ _ _ _ _ (normalize-entry _ _ (word .before .if1 .left) (word .word .ensures) (then .if3 .taken)) (called .normalize .ensures)
+    written-as _ _ _ _ _ (normalize-entry _ _ (word .before .if1 .left) (word .word .ensures) (then .if3 .taken))
+    (called .normalize .ensures)
 
 call-requires : tie.Need-call-requires
 call-requires c κs = search needs

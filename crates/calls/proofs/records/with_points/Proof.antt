@@ -16,7 +16,8 @@ use Rattle.calls.proofs.records.with_points.Statement.{statement}
 use Rattle.calls.proofs.records.with_points.Tie as tie
 
 abbrev Inv-loop : tie.InvT-loop
-Inv-loop i ps all₀ k₀ all k = (k ≤ 8) × (i + 16 ≤ 37) × (length ps ≡ 8) × (length all ≡ 37) × (take (i + 2 * k) all ≡ take i all₀ ++ points-words (take k ps))
+Inv-loop i ps all₀ k₀ all k =
+    (k ≤ 8) × (i + 16 ≤ 37) × (length ps ≡ 8) × (length all ≡ 37) × (take (i + 2 * k) all ≡ take i all₀ ++ points-words (take k ps))
 
 abbrev μ-loop : tie.MeasureT-loop
 μ-loop i ps all₀ k₀ all k = 8 - k
@@ -25,8 +26,10 @@ loop-holds : tie.Need-loop-holds Inv-loop μ-loop
 unfolding points-words
 loop-holds c =
     let i = c .args .i in
+    let old = c .args .old in
     let same : i + 0 ≡ i = omega arith in
-    (omega arith, omega arith, c .good .1 .1 .0 .1 .0 .1, c .good .0 .1 .0 .1, ap (λ (n : ℕ). take n (c .args .old)) same ∙ sym (append-nil (take i (c .args .old))))
+    let none = ap (λ (n : ℕ). take n old) same ∙ sym (append-nil (take i old)) in
+    (omega arith, omega arith, c .good .1 .1 .0 .1 .0 .1, c .good .0 .1 .0 .1, none)
 
 mul-at : tie.Need-mul-at Inv-loop μ-loop
 mul-at c = search needs

@@ -52,8 +52,8 @@ returns-3 c =
     let eight = points .before in
     let old = eight .before in
     written-as _ _ _ _ _
-    (set-words _ _ (old .before .before .word .ensures) _ _ _ _ (old .before .if2 .left) (old .polygon .ensures) (points .points .ensures .0)
-    (eight .at-most-eight .ensures .2) (built .b2-polygon-shape-set-core .ensures))
+    (set-words _ _ (old .before .before .word .ensures) _ _ _ _ (old .before .if2 .left) (old .polygon .ensures)
+    (points .points .ensures .0) (eight .at-most-eight .ensures .2) (built .b2-polygon-shape-set-core .ensures))
     (written .put-polygon .ensures)
 
 pub set-spec : {M : Type 1} → statement M
