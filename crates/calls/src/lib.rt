@@ -5,6 +5,8 @@ use floats::b2_math;
 use floats::b2_math::B2vec2;
 use floats::bits;
 
+mod records;
+mod shape_entries;
 mod words;
 
 // 15, x: the root.
@@ -53,5 +55,5 @@ pub extern "C" fn calls(input: &[u8], out: &mut [u8]) -> u32
     if entry == 16 {
         return normalize(input, out);
     }
-    0
+    shape_entries::call(entry, input, out)
 }

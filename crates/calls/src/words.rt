@@ -5,7 +5,7 @@ ghost use lib.ListN.{length};
 ghost use Rattle.algebra.specs.Buffer.{over};
 ghost use Rattle.calls.specs.Words.{word-at, bytes-of-word, Written};
 
-fn wide(b: u8) -> u32
+pub fn wide(b: u8) -> u32
     ensures { λ r. ⌜ (r ≡ b) × (r < 256) ⌝ }
 {
     b as u32

@@ -1,7 +1,6 @@
 -- `calls` answers what the entry named by the first word answers, and nothing to any other request. Assumes nothing.
-use mathlib.Core.Path.{_≡_, sym, _∙_}
 use Rattle.calls.proofs.Bytes.{nothing-written, written-as}
-use Rattle.calls.proofs.Answers.{no-entry, root-entry, normalize-entry, other-entry}
+use Rattle.calls.proofs.Answers.{no-entry, root-entry, normalize-entry, shape-entry}
 use borrow.Author.Needs.{needs}
 use Rattle.calls.proofs.calls.Statement.{statement}
 use Rattle.calls.proofs.calls.Tie as tie
@@ -20,8 +19,10 @@ same-length c = search needs
 
 returns-2 : tie.Need-returns-2
 returns-2 c =
-    let word = c .before .before .before .before .before in
-    written-as _ _ _ _ _ (root-entry _ _ (word .before .if1 .left) (word .word .ensures) (c .before .before .before .before .if2 .taken)) (c .before .before .root .ensures)
+    let called = c .before .before in
+    let then = called .before .before in
+    let word = then .before in
+    written-as _ _ _ _ _ (root-entry _ _ (word .before .if1 .left) (word .word .ensures) (then .if2 .taken)) (called .root .ensures)
 
 normalize-requires : tie.Need-normalize-requires
 normalize-requires c κs = search needs
@@ -31,14 +32,25 @@ same-length-2 c = search needs
 
 returns-3 : tie.Need-returns-3
 returns-3 c =
-    let third = c .before .before .before .before in
-    let word = third .before .before in
-    written-as _ _ _ _ _ (normalize-entry _ _ (word .before .if1 .left) (word .word .ensures) (third .if3 .taken)) (c .before .before .normalize .ensures)
+    let called = c .before .before in
+    let then = called .before .before in
+    let word = then .before .before in
+    written-as _ _ _ _ _ (normalize-entry _ _ (word .before .if1 .left) (word .word .ensures) (then .if3 .taken))
+    (called .normalize .ensures)
+
+call-requires : tie.Need-call-requires
+call-requires c κs = search needs
+
+same-length-3 : tie.Need-same-length-3
+same-length-3 c = search needs
 
 returns-4 : tie.Need-returns-4
 returns-4 c =
-    let word = c .before .before in
-    nothing-written _ _ (other-entry _ _ (word .before .if1 .left) (word .word .ensures) (c .before .if2 .left) (c .if3 .left))
+    let called = c .before .before in
+    let other = called .before .before in
+    let word = other .before .before in
+    written-as _ _ _ _ _ (shape-entry _ _ (word .before .if1 .left) (word .word .ensures) (other .before .if2 .left) (other .if3 .left))
+    (called .call .ensures)
 
 pub calls-spec : {M : Type 1} → statement M
 calls-spec =
@@ -52,4 +64,6 @@ calls-spec =
     normalize-requires
     same-length-2
     returns-3
+    call-requires
+    same-length-3
     returns-4)

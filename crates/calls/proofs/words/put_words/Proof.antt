@@ -11,9 +11,6 @@ use Rattle.calls.specs.Words.{bytes-of}
 use Rattle.calls.proofs.Bytes.{length-bytes, word-written, written-whole, written-none}
 use Rattle.calls.proofs.words.put_words.Statement.{statement}
 use Rattle.calls.proofs.words.put_words.Tie as tie
-use Rattle.calls.proofs.words.put_words.Reads as reads
-use Rattle.calls.proofs.words.put_words.Lts as lts
-use Rattle.calls.proofs.words.put_word.Reads as put-word-reads
 
 abbrev Inv-loop : tie.InvT-loop
 Inv-loop out₀ words n i₀ out i =
@@ -66,7 +63,8 @@ loop-again c =
     let words = start .args .words .now in
     let i = at-loop .loop .i in
     let out = start .args .out .now in
-    let next = word-written words out (at-loop .loop .out) (c .before .before .put-word .last .0) i (omega arith) (at-loop .loop .inv .4) (c .before .before .put-word .ensures) in
+    let put = c .before .before .put-word in
+    let next = word-written words out (at-loop .loop .out) (put .last .0) i (omega arith) (at-loop .loop .inv .4) (put .ensures) in
     let room : length (bytes-of (take (i + 1) words)) ≤ length out =
     omega (arith, length-bytes (take (i + 1) words), length-take-le (i + 1) words (omega arith)) in
     (omega arith, refl, at-loop .loop .inv .2, ap length next ∙ length-over (bytes-of (take (i + 1) words)) out room, next)
