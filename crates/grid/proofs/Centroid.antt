@@ -20,9 +20,9 @@ use Rattle.floats.proofs.Caps.{add-cap, mul-cap, div-cap}
 use Rattle.floats.proofs.RangeValue.{shape-limit-is, value-limit}
 use Rattle.shapes.specs.Outline.{Fan, centroid-of}
 use Rattle.grid.specs.Grid.{GridNumber, GridPoint}
-use Rattle.grid.proofs.Moments.{Moment, least-is}
+use Rattle.grid.proofs.Moments.{moment-limit, Moment, least-is}
 use Rattle.grid.proofs.Fan.{FanSums}
-use Rattle.grid.proofs.Verdict.{grid-metres}
+use Rattle.grid.proofs.Exact.{steps-metres}
 
 module _ {sum : Fan} (f : FanSums sum) where
   -- the area, in units
@@ -45,18 +45,18 @@ module _ {sum : Fan} (f : FanSums sum) where
   inverse-low = rw one-mag at (div-double one-f32 (f .sums .own) area-pos inverse-f32)
 
   -- one coordinate: z its moment, s the first corner's
-  pub centroid-coordinate : {z s : Float} → Moment 24480 z (sum .area) → GridNumber s
+  pub centroid-coordinate : {z s : Float} → Moment moment-limit z (sum .area) → GridNumber s
       → T (within shape-limit (add binary32 (mul binary32 (div binary32 one32 (sum .area)) z) s))
   centroid-coordinate {z} {s} m s-grid =
       let i = div binary32 one32 (sum .area) in
-      let p = mul-cap 48960 tt inverse-f32 (m .own) (mag i) (24480 * mag (sum .area)) (abs-mag i) (m .most)
+      let p = mul-cap 48960 tt inverse-f32 (m .own) (mag i) (moment-limit * mag (sum .area)) (abs-mag i) (m .most)
       (room (mag i) (mag (sum .area)) inverse-low) in
       let c = add-cap 48964 tt (p .own) (s-grid .own) (48960 * metre + 4 * metre)
-      (abs-sum (val (mul binary32 i z)) (val s) (48960 * metre) (4 * metre) (p .cap) (grid-metres s-grid)) (omega arith) in
+      (abs-sum (val (mul binary32 i z)) (val s) (48960 * metre) (4 * metre) (p .cap) (steps-metres 4 tt s-grid)) (omega arith) in
       value-limit shape-limit-is (c .own)
       (abs-widen (val (add binary32 (mul binary32 i z) s)) (48964 * metre) (2 ^ 20 * metre) (c .cap) (mul-le-mul-right metre (lit≤ tt)))
     where
-      room : (i a : ℕ) → i * a ≤ 2 * (metre * metre) → i * (24480 * a) ≤ 48960 * (metre * metre)
+      room : (i a : ℕ) → i * a ≤ 2 * (metre * metre) → i * (moment-limit * a) ≤ 48960 * (metre * metre)
       room i a h = omega arith
 
   pub centroid-in-range : {s : B2vec2} → GridPoint s → T (point-in-range (centroid-of s sum))

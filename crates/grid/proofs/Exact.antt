@@ -1,20 +1,22 @@
 -- Differences of grid numbers, and cross products, squared lengths and distances of vectors of at most 2048 steps, are exact: every
 -- intermediate result has at most 24 digits. Assumes nothing.
 use mathlib.Core.Path.{_≡_, refl, ap, subst}
-use Prim.Native.Nat.{ℕ, _+_, _*_, _^_}
+use Prim.Native.Nat.{ℕ, _+_, _*_, _^_, _≤_}
+use native.Mathlib.Nat.{mul-le-mul-left}
 use native.Mathlib.Omega.{arith}
 use lib.Dec.{T, leb, leb→le, lit≤}
 use lib.Ieee.{Float, binary32, sub, mul}
 use Rattle.algebra.specs.Integer.{Z, _⊞_, _⊟_, _⊠_, _⊛_, _≐_, Abs}
 use Rattle.algebra.proofs.Integer.{same-trans, multiple-cancel-same, product-of-multiples}
-use Rattle.algebra.proofs.Magnitude.{abs-widen, abs-product, abs-difference, abs-sum}
+use Rattle.algebra.proofs.Magnitude.{abs-widen, abs-scale, abs-unscale, abs-product, abs-difference, abs-sum}
 use Rattle.algebra.proofs.Products.{product-same}
 use Rattle.algebra.specs.Plane.{Point, cross, dot}
 use Rattle.floats.specs.declared.b2_math.B2vec2.{B2vec2}
 use Rattle.floats.specs.Value.{metre, F32, val}
 use Rattle.floats.specs.B2Math.{b2-sub, b2-dot, b2-cross, b2-length-squared}
 use Rattle.floats.proofs.Dyadic.{Dyadic, exact-add, exact-sub, exact-mul}
-use Rattle.grid.specs.Grid.{Steps, StepsPoint, value-point}
+use Rattle.grid.specs.Grid.{steps-per-metre, Steps, StepsPoint, value-point}
+use Rattle.grid.proofs.Limits.{vector-limit, product-limit, cross-limit}
 
 pub steps-dyadic : {n : ℕ} {x : Float} (x-steps : Steps n x) → Dyadic x (x-steps .count) 8
 steps-dyadic x-steps = record { own = x-steps .own; is = x-steps .is }
@@ -34,13 +36,24 @@ steps-vec-sub low a-steps b-steps = (steps-sub low (a-steps .0) (b-steps .0), st
 pub sub-is : {m n : ℕ} {x y : Float} → T (leb (m + n) (2 ^ 24)) → Steps m x → Steps n y → val (sub binary32 x y) ≐ val x ⊟ val y
 unfolding steps-sub
 sub-is {m} {n} {x} {y} low x-steps y-steps =
-    multiple-cancel-same 256 (val (sub binary32 x y)) (val x ⊟ val y) (lit≤ tt)
-    (same-trans (256 ⊛ val (sub binary32 x y)) (metre ⊛ (x-steps .count ⊟ y-steps .count)) (256 ⊛ (val x ⊟ val y))
+    multiple-cancel-same steps-per-metre (val (sub binary32 x y)) (val x ⊟ val y) (lit≤ tt)
+    (same-trans (steps-per-metre ⊛ val (sub binary32 x y)) (metre ⊛ (x-steps .count ⊟ y-steps .count)) (steps-per-metre ⊛ (val x ⊟ val y))
     (steps-sub low x-steps y-steps .is)
     (apart (val x) (val y) (x-steps .count) (y-steps .count) (x-steps .is) (y-steps .is)))
   where
-    apart : (v w c e : Z) → 256 ⊛ v ≐ metre ⊛ c → 256 ⊛ w ≐ metre ⊛ e → metre ⊛ (c ⊟ e) ≐ 256 ⊛ (v ⊟ w)
+    apart : (v w c e : Z) → steps-per-metre ⊛ v ≐ metre ⊛ c → steps-per-metre ⊛ w ≐ metre ⊛ e → metre ⊛ (c ⊟ e) ≐ steps-per-metre ⊛ (v ⊟ w)
     apart v w c e h k = omega arith
+
+-- ---- sizes in metres
+pub steps-metres : {n : ℕ} {x : Float} (h : ℕ) → T (leb n (steps-per-metre * h)) → Steps n x → Abs (val x) (h * metre)
+steps-metres {n} {x} h low x-steps =
+    abs-unscale steps-per-metre (h * metre) (val x) (lit≤ tt)
+    (go (val x) (x-steps .count) (x-steps .is) (abs-scale metre n (x-steps .count) (x-steps .most)))
+  where
+    go : (v c : Z) → steps-per-metre ⊛ v ≐ metre ⊛ c → Abs (metre ⊛ c) (metre * n) → Abs (steps-per-metre ⊛ v)
+        (steps-per-metre * (h * metre))
+    go v c e k =
+        let wider : metre * n ≤ metre * (steps-per-metre * h) = mul-le-mul-left metre (leb→le n (steps-per-metre * h) low) in omega arith
 
 -- ---- products: z is exactly w, a number of (2^-149 m)²
 pub record Squared (z : Float) (w : Z) : Type 0 where
@@ -79,30 +92,31 @@ squared-of-dyadic {z} w c z-is w-is = record {
         omega arith
 
 -- a product of two numbers of at most 2048 steps
-product-count : {x y : Float} (x-steps : Steps 2048 x) (y-steps : Steps 2048 y) → Abs (x-steps .count ⊠ y-steps .count) (2 ^ 22)
-product-count x-steps y-steps = abs-product (x-steps .count) (y-steps .count) 2048 2048 (x-steps .most) (y-steps .most)
+product-count : {x y : Float} (x-steps : Steps vector-limit x) (y-steps : Steps vector-limit y) → Abs
+    (x-steps .count ⊠ y-steps .count) product-limit
+product-count x-steps y-steps = abs-product (x-steps .count) (y-steps .count) vector-limit vector-limit (x-steps .most) (y-steps .most)
 
-pub product-dyadic : {x y : Float} (x-steps : Steps 2048 x) (y-steps : Steps 2048 y) → Dyadic (mul binary32 x y)
-    (x-steps .count ⊠ y-steps .count) 16
+pub product-dyadic : {x y : Float} (x-steps : Steps vector-limit x) (y-steps : Steps vector-limit y)
+    → Dyadic (mul binary32 x y) (x-steps .count ⊠ y-steps .count) 16
 product-dyadic x-steps y-steps =
     exact-mul 8 8 tt (steps-dyadic x-steps) (steps-dyadic y-steps)
-    (abs-widen (x-steps .count ⊠ y-steps .count) (2 ^ 22) (2 ^ 24) (product-count x-steps y-steps) (lit≤ tt))
+    (abs-widen (x-steps .count ⊠ y-steps .count) product-limit (2 ^ 24) (product-count x-steps y-steps) (lit≤ tt))
 
 -- the vector of the counts
 abbrev pub counts : {n : ℕ} {v : B2vec2} → StepsPoint n v → Point
 counts v-steps = record { x = v-steps .0 .count; y = v-steps .1 .count }
 
-module _ {a b : B2vec2} (a-steps : StepsPoint 2048 a) (b-steps : StepsPoint 2048 b) where
-  pub cross-count : Abs (cross (counts a-steps) (counts b-steps)) (2 ^ 23)
+module _ {a b : B2vec2} (a-steps : StepsPoint vector-limit a) (b-steps : StepsPoint vector-limit b) where
+  pub cross-count : Abs (cross (counts a-steps) (counts b-steps)) cross-limit
   cross-count =
-      abs-difference (a-steps .0 .count ⊠ b-steps .1 .count) (a-steps .1 .count ⊠ b-steps .0 .count) (2 ^ 22) (2 ^ 22)
+      abs-difference (a-steps .0 .count ⊠ b-steps .1 .count) (a-steps .1 .count ⊠ b-steps .0 .count) product-limit product-limit
       (product-count (a-steps .0) (b-steps .1)) (product-count (a-steps .1) (b-steps .0))
 
   pub cross-dyadic : Dyadic (b2-cross a b) (cross (counts a-steps) (counts b-steps)) 16
   unfolding b2-cross
   cross-dyadic =
       exact-sub 16 tt (product-dyadic (a-steps .0) (b-steps .1)) (product-dyadic (a-steps .1) (b-steps .0))
-      (abs-widen (cross (counts a-steps) (counts b-steps)) (2 ^ 23) (2 ^ 24) cross-count (lit≤ tt))
+      (abs-widen (cross (counts a-steps) (counts b-steps)) cross-limit (2 ^ 24) cross-count (lit≤ tt))
 
   pub cross-exact : Squared (b2-cross a b) (cross (value-point a) (value-point b))
   cross-exact =
@@ -112,16 +126,16 @@ module _ {a b : B2vec2} (a-steps : StepsPoint 2048 a) (b-steps : StepsPoint 2048
       (product-steps (val (a .x)) (val (b .y)) (a-steps .0 .count) (b-steps .1 .count) (a-steps .0 .is) (b-steps .1 .is))
       (product-steps (val (a .y)) (val (b .x)) (a-steps .1 .count) (b-steps .0 .count) (a-steps .1 .is) (b-steps .0 .is)))
 
-  pub dot-count : Abs (dot (counts a-steps) (counts b-steps)) (2 ^ 23)
+  pub dot-count : Abs (dot (counts a-steps) (counts b-steps)) cross-limit
   dot-count =
-      abs-sum (a-steps .0 .count ⊠ b-steps .0 .count) (a-steps .1 .count ⊠ b-steps .1 .count) (2 ^ 22) (2 ^ 22)
+      abs-sum (a-steps .0 .count ⊠ b-steps .0 .count) (a-steps .1 .count ⊠ b-steps .1 .count) product-limit product-limit
       (product-count (a-steps .0) (b-steps .0)) (product-count (a-steps .1) (b-steps .1))
 
   pub dot-dyadic : Dyadic (b2-dot a b) (dot (counts a-steps) (counts b-steps)) 16
   unfolding b2-dot
   dot-dyadic =
       exact-add 16 tt (product-dyadic (a-steps .0) (b-steps .0)) (product-dyadic (a-steps .1) (b-steps .1))
-      (abs-widen (dot (counts a-steps) (counts b-steps)) (2 ^ 23) (2 ^ 24) dot-count (lit≤ tt))
+      (abs-widen (dot (counts a-steps) (counts b-steps)) cross-limit (2 ^ 24) dot-count (lit≤ tt))
 
   pub dot-exact : Squared (b2-dot a b) (dot (value-point a) (value-point b))
   dot-exact =
@@ -136,5 +150,5 @@ pub length-is-dot : (a : B2vec2) → b2-length-squared a ≡ b2-dot a a
 unfolding b2-length-squared b2-dot
 length-is-dot a = refl
 
-pub length-squared-exact : {a : B2vec2} → StepsPoint 2048 a → Squared (b2-length-squared a) (dot (value-point a) (value-point a))
+pub length-squared-exact : {a : B2vec2} → StepsPoint vector-limit a → Squared (b2-length-squared a) (dot (value-point a) (value-point a))
 length-squared-exact {a} a-steps = rw (length-is-dot a) (dot-exact a-steps a-steps)

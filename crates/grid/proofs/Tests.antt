@@ -17,12 +17,12 @@ use Rattle.floats.specs.B2Math.{b2-sub, b2-cross, b2-length-squared, b2-distanc
 use Rattle.floats.proofs.Value.{metre-pos}
 use Rattle.floats.proofs.Comparison.{bool-iff, lt-val, val-lt}
 use Rattle.floats.proofs.Dyadic.{Dyadic, dyadic-finer, dyadic-lt, lt-dyadic}
-use Rattle.floats.proofs.Literals.{bits-dyadic}
 use Rattle.hull.specs.Outline.{same-point, starts-before, wraps-closer}
-use Rattle.shapes.specs.Outline.{weld-limit, too-near, comes-before, closer}
-use Rattle.grid.specs.Grid.{Steps, StepsPoint, GridPoint, value-point}
+use Rattle.shapes.specs.Outline.{too-near, comes-before, closer}
+use Rattle.grid.specs.Grid.{steps-per-metre, Steps, StepsPoint, GridPoint, value-point}
 use Rattle.grid.proofs.Exact.{steps-vec-sub, sub-is, counts, Squared, cross-exact, length-squared-exact, dot-dyadic}
 use Rattle.grid.proofs.Compare.{lt-test, eq-test, squared-same, squared-zero, lt-squared, eq-squared}
+use Rattle.grid.proofs.Limits.{weld-limit-is, vector-limit}
 
 -- ---- vectors that are equal by value
 abbrev pub Same : Point → Point → Type 0
@@ -40,7 +40,7 @@ dot-same u u' v v' h k =
 
 -- the vector from p to q, both on the grid
 module _ {p q : B2vec2} (p-grid : GridPoint p) (q-grid : GridPoint q) where
-  pub side-steps : StepsPoint 2048 (b2-sub q p)
+  pub side-steps : StepsPoint vector-limit (b2-sub q p)
   side-steps = steps-vec-sub tt q-grid p-grid
 
   pub side-is : Same (value-point (b2-sub q p)) (from-to (value-point p) (value-point q))
@@ -87,9 +87,6 @@ closer-is p e j p-grid e-grid j-grid =
         (length-squared-exact (side-steps p-grid q-grid))
 
 -- ---- welding
-weld-limit-is : Dyadic weld-limit (whole 13743895) 41
-weld-limit-is = bits-dyadic 0x36d1_b717 13743895 41 tt tt
-
 -- the vector from k to v, its counts, and the squared distance in steps
 module _ {v k : B2vec2} (v-grid : GridPoint v) (k-grid : GridPoint k) where
   distance-dyadic : Dyadic (b2-distance-vec2-squared v k) (dot (counts (side-steps k-grid v-grid)) (counts (side-steps k-grid v-grid))) 16
@@ -122,15 +119,15 @@ module _ {v k : B2vec2} (v-grid : GridPoint v) (k-grid : GridPoint k) where
 -- no steps is the value 0
 module _ {n : ℕ} {z : Float} (z-steps : Steps n z) where
   value-none : z-steps .count ≐ whole 0 → val z ≐ whole 0
-  value-none e = multiple-cancel-same 256 (val z) (whole 0) (lit≤ tt) (go (val z) (z-steps .count) (z-steps .is) e)
+  value-none e = multiple-cancel-same steps-per-metre (val z) (whole 0) (lit≤ tt) (go (val z) (z-steps .count) (z-steps .is) e)
     where
-      go : (v c : Z) → 256 ⊛ v ≐ metre ⊛ c → c ≐ whole 0 → 256 ⊛ v ≐ 256 ⊛ whole 0
+      go : (v c : Z) → steps-per-metre ⊛ v ≐ metre ⊛ c → c ≐ whole 0 → steps-per-metre ⊛ v ≐ steps-per-metre ⊛ whole 0
       go v c h e = let m : metre * (c .0 + 0) ≡ metre * (0 + c .1) = ap (λ (x : ℕ). metre * x) e in omega arith
 
   none-value : val z ≐ whole 0 → z-steps .count ≐ whole 0
   none-value e = multiple-cancel-same metre (z-steps .count) (whole 0) metre-pos (go (val z) (z-steps .count) (z-steps .is) e)
     where
-      go : (v c : Z) → 256 ⊛ v ≐ metre ⊛ c → v ≐ whole 0 → metre ⊛ c ≐ metre ⊛ whole 0
+      go : (v c : Z) → steps-per-metre ⊛ v ≐ metre ⊛ c → v ≐ whole 0 → metre ⊛ c ≐ metre ⊛ whole 0
       go v c h e = omega arith
 
 both-none : (c : Point) → dot c c ≐ whole 0 → (c .x ≐ whole 0) × (c .y ≐ whole 0)
@@ -177,7 +174,7 @@ too-near-is v k v-grid k-grid =
     yes-and (val (v .x) ≐? val (k .x)) (val (v .y) ≐? val (k .y))
     (test-of-same (val (v .x)) (val (k .x)) (same .0)) (test-of-same (val (v .y)) (val (k .y)) (same .1)))
   where
-    side : StepsPoint 2048 (b2-sub v k)
+    side : StepsPoint vector-limit (b2-sub v k)
     side = side-steps k-grid v-grid
 
     apart : Same (value-point (b2-sub v k)) (from-to (value-point k) (value-point v))
