@@ -6,4 +6,5 @@ pub mod Facing
 pub mod AllPoints
 pub mod Built
 pub mod Sides
+pub mod Lent
 pub mod Controls
