@@ -1,13 +1,14 @@
 -- The loops of specs/Loops, a step at a time, for code that runs them over the places of an array. Assumes nothing.
 use mathlib.Core.Path.{_≡_, refl, sym, _∙_, ap}
-use mathlib.Core.List.{List, [], _∷_, _++_}
+use mathlib.Core.List.{List, [], _∷_, _++_, append-assoc}
 use mathlib.Core.Bool.{Bool, true, false, cond, _||_}
 use Prim.Native.Nat.{ℕ, zero, suc, _+_, _-_, _<_, _≤_}
 use native.Mathlib.Numerals.{add-one}
 use native.Mathlib.Omega.{arith}
 use lib.ListN.{length, getD, take, drop, set}
 use lib.Seq.{drop-cons, drop-length, take-suc-set}
-use Rattle.algebra.specs.Loops.{places, near-any, keep-unless, weld, scan}
+use mathlib.Core.Option.{Option, none, some, Option·map}
+use Rattle.algebra.specs.Loops.{places, near-any, keep-unless, weld, scan, stop-or, walk}
 
 module _ {A : Type 0} where
   -- ---- near-any, from place j on: a is the element there
@@ -45,6 +46,25 @@ module _ {A : Type 0} where
   pub weld-ended : (near : A → A → Bool) (kept l whole : List A) (i : ℕ) → i ≡ length l → weld near kept (drop i l) ≡ whole → kept ≡ whole
   weld-ended near kept l whole i end so-far = ap (weld near kept) (sym (drop-length l) ∙ ap (λ (k : ℕ). drop k l) (sym end)) ∙ so-far
 
+  -- ---- the walk: the corners done, and those to come from p on
+  pub walk-starts : (o : Option (List A)) → Option·map (_++_ []) o ≡ o
+  walk-starts none = refl
+  walk-starts (some l) = refl
+
+  map-one-more : (done : List A) (p : A) (o : Option (List A)) → Option·map (_++_ (done ++ (p ∷ []))) o ≡ Option·map (_++_ done) (Option·map (_∷_ p) o)
+  map-one-more done p none = refl
+  map-one-more done p (some l) = ap some (append-assoc done (p ∷ []) l)
+
+  module _ (same : A → A → Bool) (next : A → A) (start p : A) (fuel : ℕ) (done : List A) (whole : Option (List A))
+      (so-far : Option·map (_++_ done) (walk same next start (suc fuel) p) ≡ whole) where
+    pub walk-back : same (next p) start ≡ true → some (done ++ (p ∷ [])) ≡ whole
+    walk-back back = ap (λ (t : Bool). Option·map (_++_ done) (stop-or t p (walk same next start fuel (next p)))) (sym back) ∙ so-far
+
+    pub walk-next : same (next p) start ≡ false → Option·map (_++_ (done ++ (p ∷ []))) (walk same next start fuel (next p)) ≡ whole
+    walk-next not-back =
+        map-one-more done p (walk same next start fuel (next p))
+        ∙ ap (λ (t : Bool). Option·map (_++_ done) (stop-or t p (walk same next start fuel (next p)))) (sym not-back) ∙ so-far
+
 -- ---- a scan over the places from j on, n - j of them
 module _ (test : ℕ → ℕ → Bool) (candidate j n answer : ℕ) (within : j < n) (so-far : scan test candidate (places j (n - j)) ≡ answer) where
   one-place : places j (n - j) ≡ j ∷ places (j + 1) (n - (j + 1))
@@ -53,14 +73,9 @@ module _ (test : ℕ → ℕ → Bool) (candidate j n answer : ℕ) (within : j 
       count : n - j ≡ suc (n - (j + 1))
       count = omega arith
 
-  scan-here : scan test (cond (test candidate j) j candidate) (places (j + 1) (n - (j + 1))) ≡ answer
-  scan-here = ap (scan test candidate) (sym one-place) ∙ so-far
-
-  pub scan-taken : test candidate j ≡ true → scan test j (places (j + 1) (n - (j + 1))) ≡ answer
-  scan-taken found = ap (λ (t : Bool). scan test (cond t j candidate) (places (j + 1) (n - (j + 1)))) (sym found) ∙ scan-here
-
-  pub scan-left : test candidate j ≡ false → scan test candidate (places (j + 1) (n - (j + 1))) ≡ answer
-  scan-left not-found = ap (λ (t : Bool). scan test (cond t j candidate) (places (j + 1) (n - (j + 1)))) (sym not-found) ∙ scan-here
+  -- the candidate after place j
+  pub scan-next : scan test (cond (test candidate j) j candidate) (places (j + 1) (n - (j + 1))) ≡ answer
+  scan-next = ap (scan test candidate) (sym one-place) ∙ so-far
 
 pub scan-ended : (test : ℕ → ℕ → Bool) (candidate j n answer : ℕ) → n ≤ j → scan test candidate (places j (n - j)) ≡ answer → candidate ≡ answer
 scan-ended test candidate j n answer past so-far = ap (λ (k : ℕ). scan test candidate (places j k)) (sym none-left) ∙ so-far

@@ -1,1 +1,10 @@
 pub mod Tests
+pub mod Over
+pub mod Walking
+pub mod Around
+pub mod Facing
+pub mod AllPoints
+pub mod Built
+pub mod Sides
+pub mod Lent
+pub mod Controls

@@ -1,14 +1,15 @@
 -- Document 01, "Outlines": welding, the start, the walk, normals, area and centroid, on lists of points and in the code's order of
 -- operations. Places count from 0. Definitions only.
-use mathlib.Core.Bool.{Bool, true, _&&_, _||_}
+use mathlib.Core.Bool.{Bool, true, cond, _&&_, _||_}
 use mathlib.Core.List.{List, [], _∷_}
 use mathlib.Core.Option.{Option}
-use Prim.Native.Nat.{ℕ, _-_}
-use lib.Dec.{eqb}
+use Prim.Native.Nat.{ℕ, _+_, _-_}
+use lib.Dec.{ltb, eqb}
 use lib.ListN.{length, getD}
 use lib.Ieee.{Float, binary32, ofBits, add, mul, div, lt, eq}
 use Rattle.algebra.specs.Loops.{places, weld, scan, walk}
 use Rattle.floats.specs.declared.b2_math.B2vec2.{B2vec2}
+use Rattle.shapes.specs.declared.outline.FanSum.{FanSum}
 use Rattle.floats.specs.B2Common.{zero32, half32, one32}
 use Rattle.floats.specs.B2Math.{vec2, b2-add, b2-sub, b2-scale, b2-cross, b2-cross-vec-by-scalar, b2-length-squared, b2-distance-vec2-squared, b2-normalize}
 
@@ -61,6 +62,10 @@ next ps corner = scan (replaces ps corner) 0 (later-places ps)
 unfoldable pub row : List B2vec2 → Option (List ℕ)
 row ps = walk eqb (next ps) (start ps) 8 (start ps)
 
+-- the place after i, the first after the last
+abbrev pub place-after : ℕ → ℕ → ℕ
+place-after count i = cond (ltb (i + 1) count) (i + 1) 0
+
 -- ---- edges and normals: each corner with the next, the first after the last
 abbrev pub edges-from : B2vec2 → B2vec2 → List B2vec2 → List B2vec2
 edges-from first p [] = b2-sub first p ∷ []
@@ -81,28 +86,24 @@ long-enough (e ∷ es) = lt epsilon-squared (b2-length-squared e) && long-enough
 abbrev pub normal-of-edge : B2vec2 → B2vec2
 normal-of-edge e = b2-normalize (b2-cross-vec-by-scalar e one32) .v
 
--- ---- area and centroid: triangles from the first corner, summed in corner order
-pub record Fan : Type 0 where
-  pub area : Float
-  pub moment : B2vec2
-
+-- ---- area and centroid: triangles from the first corner, summed in corner order; a sum has the area and the moment so far
 -- 1/3, rounded: 11184811/2^25
 abbrev pub third : Float
 third = ofBits binary32 0x3eaa_aaab
 
 -- the triangle of p1, p2 and p3, all measured from the first corner, added to a sum
-abbrev pub with-triangle : B2vec2 → B2vec2 → B2vec2 → Fan → Fan
+abbrev pub with-triangle : B2vec2 → B2vec2 → B2vec2 → FanSum → FanSum
 with-triangle p1 p2 p3 sum =
     let part = mul binary32 half32 (b2-cross (b2-sub p2 p1) (b2-sub p3 p1)) in
     record { area = add binary32 (sum .area) part; moment = b2-add (sum .moment) (b2-scale (mul binary32 part third) (b2-add (b2-add p1 p2) p3)) }
 
-abbrev pub fan-from : B2vec2 → B2vec2 → List B2vec2 → Fan → Fan
+abbrev pub fan-from : B2vec2 → B2vec2 → List B2vec2 → FanSum → FanSum
 fan-from s p [] sum = with-triangle (b2-sub s s) (b2-sub p s) (b2-sub s s) sum
 fan-from s p (q ∷ qs) sum = fan-from s q qs (with-triangle (b2-sub s s) (b2-sub p s) (b2-sub q s) sum)
 
-unfoldable pub fan : List B2vec2 → Fan
+unfoldable pub fan : List B2vec2 → FanSum
 fan [] = record { area = zero32; moment = origin }
 fan (s ∷ ps) = fan-from s s ps (record { area = zero32; moment = origin })
 
-abbrev pub centroid-of : B2vec2 → Fan → B2vec2
+abbrev pub centroid-of : B2vec2 → FanSum → B2vec2
 centroid-of s sum = b2-add (b2-scale (div binary32 one32 (sum .area)) (sum .moment)) s

@@ -5,15 +5,16 @@ use mathlib.Core.List.{List, [], _∷_, _++_, map}
 use mathlib.Core.Option.{Option, none, some}
 use Prim.Native.Nat.{ℕ}
 use lib.Dec.{ltb}
-use lib.ListN.{length, drop}
+use lib.ListN.{length, take, drop}
 use lib.Ieee.{lt}
 use Rattle.floats.specs.declared.b2_math.B2vec2.{B2vec2}
 use Rattle.floats.specs.B2Common.{b2-epsilon}
 use Rattle.floats.specs.Ranges.{point-in-range}
 use Rattle.shapes.specs.declared.b2_polygon_shape.B2polygonShape.{B2polygonShape}
 use Rattle.shapes.specs.declared.b2_polygon_shape.PolygonAnswer.{PolygonAnswer}
+use Rattle.shapes.specs.declared.outline.FanSum.{FanSum}
 use Rattle.shapes.specs.Refusal.{accepted, wrong-number-of-points, shape-out-of-range, too-few-after-welding, walk-not-closed, edge-or-area-too-small}
-use Rattle.shapes.specs.Outline.{point-at, welded, row, edges, long-enough, normal-of-edge, Fan, fan, centroid-of}
+use Rattle.shapes.specs.Outline.{point-at, welded, row, edges, long-enough, normal-of-edge, fan, centroid-of}
 
 abbrev pub refused : ℕ → B2polygonShape → PolygonAnswer
 refused number old = record { refusal = number; shape = old }
@@ -27,7 +28,7 @@ abbrev pub put-first : List B2vec2 → List B2vec2 → List B2vec2
 put-first new old = new ++ drop (length new) old
 
 -- the outline of a row of corners: normals, then the centroid; the radius is kept
-abbrev pub finished : B2polygonShape → List B2vec2 → Fan → PolygonAnswer
+abbrev pub finished : B2polygonShape → List B2vec2 → FanSum → PolygonAnswer
 finished old corners sum = record {
   refusal = accepted;
   shape = record {
@@ -57,3 +58,8 @@ b2-polygon-shape-set old points =
     cond (ltb (length points) 3 || ltb 8 (length points)) (refused wrong-number-of-points old)
     (cond (not (all-points point-in-range points)) (refused shape-out-of-range old)
     (outline-of-welded old (welded points)))
+
+-- the same of the first count points
+unfoldable pub b2-polygon-shape-set-counted : B2polygonShape → List B2vec2 → ℕ → PolygonAnswer
+b2-polygon-shape-set-counted old points count =
+    cond (ltb count 3 || ltb 8 count) (refused wrong-number-of-points old) (b2-polygon-shape-set old (take count points))

@@ -1,7 +1,7 @@
 -- The convexity test, b2_polygon_shape_validate: no corner lies right of a face, by the rounded cross product. Counts 0 to 8; an outline of no
 -- or one corner passes. Refusals: 7 for the count, then 2 for any number of the outline that the count takes in. Definitions only.
 use mathlib.Core.Bool.{Bool, true, false, not, cond, _&&_, _||_}
-use Prim.Native.Nat.{ℕ, zero, suc, _+_}
+use Prim.Native.Nat.{ℕ, zero, suc}
 use lib.Dec.{ltb, eqb}
 use lib.ListN.{take}
 use lib.Ieee.{lt}
@@ -13,12 +13,8 @@ use Rattle.floats.specs.Ranges.{point-in-range, radius-in-range, normal-in-rang
 use Rattle.shapes.specs.declared.b2_polygon_shape.B2polygonShape.{B2polygonShape}
 use Rattle.shapes.specs.declared.b2_polygon_shape.Validity.{Validity}
 use Rattle.shapes.specs.Refusal.{accepted, shape-out-of-range, count-out-of-range}
-use Rattle.shapes.specs.Outline.{point-at}
+use Rattle.shapes.specs.Outline.{point-at, place-after}
 use Rattle.shapes.specs.Polygon.{all-points}
-
--- the place after i, the first after the last
-abbrev pub place-after : ℕ → ℕ → ℕ
-place-after count i = cond (ltb (i + 1) count) (i + 1) 0
 
 -- corner j is not right of the face from i, or is one of its ends
 abbrev pub not-right-of : List B2vec2 → ℕ → ℕ → ℕ → Bool

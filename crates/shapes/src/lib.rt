@@ -2,4 +2,7 @@
 pub mod b2_circle_shape;
 pub mod b2_edge_shape;
 pub mod b2_polygon_shape;
+mod convex;
 mod outline;
+mod places;
+pub mod shape_ranges;

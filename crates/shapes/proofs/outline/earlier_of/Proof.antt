@@ -1,3 +1,6 @@
+-- The place that the test picks. Assumes nothing.
+use native.Mathlib.Omega.{arith}
+use Rattle.shapes.proofs.Tests.{chosen, unchosen, earlier-at}
 use borrow.Author.Needs.{needs}
 use Rattle.shapes.proofs.outline.earlier_of.Statement.{statement}
 use Rattle.shapes.proofs.outline.earlier_of.Tie as tie
@@ -18,10 +21,18 @@ comes-before-requires : tie.Need-comes-before-requires
 comes-before-requires c κs = search needs
 
 returns : tie.Need-returns
-returns c = ?
+returns c =
+    let start = c .before .before .before .before in
+    let inside = start .good .0 .1 .0 .1 in
+    chosen _ _ _ _ (c .if1 .taken)
+    (earlier-at (start .args .t1) _ _ (start .args .best) (start .args .i) (omega arith) (omega arith) (c .before .comes-before .ensures))
 
 returns-2 : tie.Need-returns-2
-returns-2 c = ?
+returns-2 c =
+    let start = c .before .before .before .before in
+    let inside = start .good .0 .1 .0 .1 in
+    unchosen _ _ _ _ (c .if1 .left)
+    (earlier-at (start .args .t1) _ _ (start .args .best) (start .args .i) (omega arith) (omega arith) (c .before .comes-before .ensures))
 
 pub earlier-of-spec : {M : Type 1} → statement M
 earlier-of-spec =

@@ -1,38 +1,64 @@
+-- What the scan keeps from here, seen from the corner, is what it keeps of all places. Assumes nothing.
+use mathlib.Core.Path.{_≡_}
+use Prim.Native.Nat.{_≤_, _<_, _-_}
+use native.Mathlib.Omega.{arith}
+use lib.ListN.{length, take}
+use borrow.Author.Needs.{needs}
+use Rattle.algebra.specs.Loops.{places, scan}
+use Rattle.algebra.proofs.Loops.{scan-ended}
+use Rattle.shapes.specs.Outline.{replaces, next}
+use Rattle.shapes.proofs.Tests.{replaces-first, scanned-below, scanned-next, scanned-from-one}
 use Rattle.shapes.proofs.outline.next.Statement.{statement}
 use Rattle.shapes.proofs.outline.next.Tie as tie
-use Rattle.shapes.proofs.outline.next.Reads as reads
-use Rattle.shapes.proofs.outline.next.Lts as lts
-use Rattle.shapes.proofs.outline.better_of.Reads as better-of-reads
 
 abbrev Inv-loop : tie.InvT-loop
-Inv-loop ps n ih ie₀ j₀ ie j = ?
+Inv-loop ps n ih ie₀ j₀ ie j =
+    (j ≤ n) × (n ≤ 8) × (ie < n) × (ih < n) × (length ps ≡ 8)
+    × (scan (replaces (take n ps) ih) ie (places j (n - j)) ≡ next (take n ps) ih)
 
 abbrev μ-loop : tie.MeasureT-loop
-μ-loop ps n ih ie₀ j₀ ie j = ?
+μ-loop ps n ih ie₀ j₀ ie j = n - j
 
--- src/outline.rt:125:5
 loop-holds : tie.Need-loop-holds Inv-loop μ-loop
-loop-holds c = ?
+unfolding next
+loop-holds c =
+    let ps = c .args .ps in
+    let n = c .args .n in
+    let inside = c .good .0 .1 .0 .1 in
+    (omega arith, omega arith, omega arith, omega arith, inside, scanned-from-one _ ps n (omega arith))
 
--- src/outline.rt:126:9
 better-of-requires : tie.Need-better-of-requires Inv-loop μ-loop
-better-of-requires c κs = ?
+better-of-requires c κs = search needs
 
--- src/outline.rt:127:9
 add-j : tie.Need-add-j Inv-loop μ-loop
-add-j c = ?
+add-j c = search needs
 
--- src/outline.rt:125:5
 loop-less : tie.Need-loop-less Inv-loop μ-loop
-loop-less c = ?
+loop-less c = search needs
 
--- src/outline.rt:125:5
 loop-again : tie.Need-loop-again Inv-loop μ-loop
-loop-again c = ?
+loop-again c =
+    let loop = c .before .before in
+    let ps = loop .before .args .ps in
+    let n = loop .before .args .n in
+    let ih = loop .before .args .ih in
+    let ie = loop .loop .ie in
+    let j = loop .loop .j in
+    let inv = loop .loop .inv in (
+      omega arith,
+      omega arith,
+      scanned-below (replaces ps ih ie j) _ ie j n (c .better-of .ensures) (omega arith) (omega arith),
+      omega arith,
+      inv .4,
+      scanned-next (replaces ps ih ie j) _ ie j n (c .better-of .ensures) (omega arith) (replaces (take n ps) ih) _
+          (replaces-first ps n ih ie j (omega arith) (omega arith) (omega arith)) (inv .5),
+    )
 
--- src/outline.rt:119:1
 returns : tie.Need-returns Inv-loop μ-loop
-returns c = ?
+returns c =
+    let loop = c .before in
+    let n = loop .before .args .n in
+    (omega arith, scan-ended _ _ (loop .loop .j) n _ (omega arith) (loop .loop .inv .5))
 
 pub next-spec : {M : Type 1} → statement M
 next-spec =

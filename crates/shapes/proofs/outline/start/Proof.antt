@@ -1,38 +1,62 @@
+-- What the scan keeps from here is what it keeps of all places. Assumes nothing.
+use mathlib.Core.Path.{_≡_}
+use Prim.Native.Nat.{_≤_, _<_, _-_}
+use native.Mathlib.Omega.{arith}
+use lib.ListN.{length, take}
+use borrow.Author.Needs.{needs}
+use Rattle.algebra.specs.Loops.{places, scan}
+use Rattle.algebra.proofs.Loops.{scan-ended}
+use Rattle.shapes.specs.Outline.{earlier, start}
+use Rattle.shapes.proofs.Tests.{earlier-first, scanned-below, scanned-next, scanned-from-one}
 use Rattle.shapes.proofs.outline.start.Statement.{statement}
 use Rattle.shapes.proofs.outline.start.Tie as tie
-use Rattle.shapes.proofs.outline.start.Reads as reads
-use Rattle.shapes.proofs.outline.start.Lts as lts
-use Rattle.shapes.proofs.outline.earlier_of.Reads as earlier-of-reads
 
 abbrev Inv-loop : tie.InvT-loop
-Inv-loop ps n i0₀ i₀ i0 i = ?
+Inv-loop ps n i0₀ i₀ i0 i =
+    (i ≤ n) × (n ≤ 8) × (i0 < n) × (length ps ≡ 8)
+    × (scan (earlier (take n ps)) i0 (places i (n - i)) ≡ start (take n ps))
 
 abbrev μ-loop : tie.MeasureT-loop
-μ-loop ps n i0₀ i₀ i0 i = ?
+μ-loop ps n i0₀ i₀ i0 i = n - i
 
--- src/outline.rt:87:5
 loop-holds : tie.Need-loop-holds Inv-loop μ-loop
-loop-holds c = ?
+unfolding start
+loop-holds c =
+    let ps = c .args .ps in
+    let n = c .args .n in
+    let inside = c .good .0 .1 .0 .1 in
+    (omega arith, omega arith, omega arith, inside, scanned-from-one _ ps n (omega arith))
 
--- src/outline.rt:88:9
 earlier-of-requires : tie.Need-earlier-of-requires Inv-loop μ-loop
-earlier-of-requires c κs = ?
+earlier-of-requires c κs = search needs
 
--- src/outline.rt:89:9
 add-i : tie.Need-add-i Inv-loop μ-loop
-add-i c = ?
+add-i c = search needs
 
--- src/outline.rt:87:5
 loop-less : tie.Need-loop-less Inv-loop μ-loop
-loop-less c = ?
+loop-less c = search needs
 
--- src/outline.rt:87:5
 loop-again : tie.Need-loop-again Inv-loop μ-loop
-loop-again c = ?
+loop-again c =
+    let loop = c .before .before in
+    let ps = loop .before .args .ps in
+    let n = loop .before .args .n in
+    let i0 = loop .loop .i0 in
+    let i = loop .loop .i in
+    let inv = loop .loop .inv in (
+      omega arith,
+      omega arith,
+      scanned-below (earlier ps i0 i) _ i0 i n (c .earlier-of .ensures) (omega arith) (omega arith),
+      inv .3,
+      scanned-next (earlier ps i0 i) _ i0 i n (c .earlier-of .ensures) (omega arith) (earlier (take n ps)) _
+          (earlier-first ps n i0 i (omega arith) (omega arith)) (inv .4),
+    )
 
--- src/outline.rt:81:1
 returns : tie.Need-returns Inv-loop μ-loop
-returns c = ?
+returns c =
+    let loop = c .before in
+    let n = loop .before .args .n in
+    (omega arith, scan-ended _ _ (loop .loop .i) n _ (omega arith) (loop .loop .inv .4))
 
 pub start-spec : {M : Type 1} → statement M
 start-spec =

@@ -2,9 +2,11 @@
 use mathlib.Core.Path.{_≡_, refl, sym, _∙_}
 use Prim.Native.Nat.{_≤_, _<_, _-_}
 use native.Mathlib.Omega.{arith}
-use lib.ListN.{length, take, drop}
+use mathlib.Core.Logic.{⊎-elim}
+use lib.ListN.{length, take, drop, length-set}
 use lib.Seq.{getD-take, length-take-le}
 use borrow.Author.Needs.{needs}
+use borrow.Author.Tests.{not-true, not-false}
 use Rattle.algebra.specs.Loops.{weld}
 use Rattle.algebra.proofs.Loops.{weld-dropped, weld-kept, weld-ended}
 use Rattle.shapes.specs.Outline.{too-near, welded}
@@ -49,10 +51,41 @@ loop-less : tie.Need-loop-less Inv-loop μ-loop
 loop-less c = search needs
 
 loop-again : tie.Need-loop-again Inv-loop μ-loop
-loop-again c = ?
+loop-again c =
+    let loop = c .before .before .before .before in
+    let points = loop .before .args .t1 in
+    let count = loop .before .args .count in
+    let i = loop .loop .i in
+    let inv = loop .loop .inv in
+    let within : i < length (take count points) = first-places count i points (omega arith) (omega arith) in
+    ⊎-elim
+    (λ w. rw (w .1, w .2) (
+      omega arith,
+      omega arith,
+      omega arith,
+      inv .3,
+      simp length-set (inv .4),
+      weld-kept too-near (loop .loop .ps) (take count points) _ (loop .loop .n) i _ _ within (sym (getD-take count points i _ (omega arith))) (inv .5) (omega arith)
+          (sym (c .before .near-any .ensures) ∙ not-true _ (w .0 .taken)),
+    ))
+    (λ w. rw (w .1, w .2) (
+      omega arith,
+      omega arith,
+      omega arith,
+      inv .3,
+      inv .4,
+      weld-dropped too-near (loop .loop .ps) (take count points) _ (loop .loop .n) i _ _ within (sym (getD-take count points i _ (omega arith))) (inv .5)
+          (sym (c .before .near-any .ensures) ∙ not-false _ (w .0 .left)),
+    ))
+    (c .if1 .came)
 
 returns : tie.Need-returns Inv-loop μ-loop
-returns c = ?
+returns c =
+    let loop = c .before in
+    let points = loop .before .args .t1 in
+    let count = loop .before .args .count in
+    let end : loop .loop .i ≡ length (take count points) = omega (arith, length-take-le count points (omega arith)) in
+    (omega arith, loop .loop .inv .4, weld-ended too-near _ (take count points) _ (loop .loop .i) end (loop .loop .inv .5))
 
 pub weld-spec : {M : Type 1} → statement M
 weld-spec =

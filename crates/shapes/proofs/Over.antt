@@ -1,0 +1,44 @@
+-- One more at the end of a list, and points put over the first places of an array, one more at a time. Assumes nothing.
+use mathlib.Core.Path.{_≡_, refl, sym, _∙_, ap}
+use mathlib.Core.List.{List, [], _∷_, _++_, map, append-assoc}
+use Prim.Native.Nat.{ℕ, suc, _+_, _<_, _≤_}
+use native.Mathlib.Numerals.{add-one}
+use native.Mathlib.Omega.{arith}
+use lib.ListN.{length, getD, drop, set, length-append}
+use lib.Seq.{drop-cons, set-append-seam, length-front, length-take-le}
+use Rattle.floats.specs.declared.b2_math.B2vec2.{B2vec2}
+use Rattle.shapes.specs.Polygon.{put-first}
+
+pub length-one-more : {A : Type 0} (l : List A) (a : A) (n : ℕ) → length l ≡ n → length (l ++ (a ∷ [])) ≡ n + 1
+length-one-more l a n n-is = length-append l (a ∷ []) ∙ ap (λ (k : ℕ). k + 1) n-is
+
+pub map-one-more : {A B : Type 0} (f : A → B) (l : List A) (a : A) → map f (l ++ (a ∷ [])) ≡ map f l ++ (f a ∷ [])
+map-one-more f [] a = refl
+map-one-more f (b ∷ l) a = ap (_∷_ (f b)) (map-one-more f l a)
+
+module _ (new old : List B2vec2) where
+  pub put-length : length new ≤ length old → length (put-first new old) ≡ length old
+  put-length fits = length-front old new (length new) (sym (length-take-le (length new) old fits))
+
+  put-one-more : (p : B2vec2) → length new < length old → set (put-first new old) (length new) p ≡ put-first (new ++ (p ∷ [])) old
+  put-one-more p room =
+      ap (λ (l : List B2vec2). set (new ++ l) (length new) p) (drop-cons old (length new) p room)
+      ∙ set-append-seam new (getD old (length new) p) (drop (suc (length new)) old) p
+      ∙ sym (append-assoc new (p ∷ []) (drop (suc (length new)) old))
+      ∙ ap (λ (k : ℕ). (new ++ (p ∷ [])) ++ drop k old) (sym (length-one-more new p (length new) refl ∙ add-one (length new)))
+
+-- a store at the first place that is not yet written
+pub put-next : (array new old : List B2vec2) (p : B2vec2) (n : ℕ) → array ≡ put-first new old → length new ≡ n → n < length old
+    → set array n p ≡ put-first (new ++ (p ∷ [])) old
+put-next array new old p n array-is n-is room =
+    ap (λ (l : List B2vec2). set l n p) array-is ∙ ap (λ (k : ℕ). set (put-first new old) k p) (sym n-is)
+    ∙ put-one-more new old p (omega arith)
+
+-- stores in the first four places
+pub put-four : (old : List B2vec2) (a b c d : B2vec2) → 4 ≤ length old
+    → set (set (set (set old 0 a) 1 b) 2 c) 3 d ≡ put-first (a ∷ b ∷ c ∷ d ∷ []) old
+put-four [] a b c d four = absurd (omega arith)
+put-four (w ∷ []) a b c d four = absurd (omega arith)
+put-four (w ∷ x ∷ []) a b c d four = absurd (omega arith)
+put-four (w ∷ x ∷ y ∷ []) a b c d four = absurd (omega arith)
+put-four (w ∷ x ∷ y ∷ z ∷ old) a b c d four = refl
