@@ -25,7 +25,8 @@ use Rattle.floats.proofs.Comparison.{val-lt}
 use Rattle.floats.proofs.Literals.{zero-f32, zero-val}
 use Rattle.hull.specs.Hull.{FanPositive}
 use lib.ListN.{length}
-use Rattle.shapes.specs.Outline.{origin, Fan, with-triangle, fan-from, fan}
+use Rattle.shapes.specs.declared.outline.FanSum.{FanSum}
+use Rattle.shapes.specs.Outline.{origin, with-triangle, fan-from, fan}
 use Rattle.grid.specs.Grid.{Steps, GridPoint, GridList, value-point, values}
 use Rattle.grid.proofs.Tests.{side-steps}
 use Rattle.grid.proofs.Triangles.{triangle, triangle-is, part-not-negative, part-large, part-cap}
@@ -35,7 +36,7 @@ use Rattle.grid.proofs.Exact.{steps-metres}
 use Rattle.algebra.proofs.Integer as Integer
 
 -- ---- the sums after some triangles: the area at most h m², each moment at most b times the area
-pub record Sums (h b : ℕ) (sum : Fan) : Type 0 where
+pub record Sums (h b : ℕ) (sum : FanSum) : Type 0 where
   pub own : F32 (sum .area)
   pub least : whole 0 ≼ val (sum .area)
   pub most : Abs (val (sum .area)) (h * metre)
@@ -60,13 +61,13 @@ three-corners {u} {v} {w} u-steps v-steps w-steps =
 few-enough : (h : ℕ) → h ≤ area-limit → T (leb h (2 ^ 24))
 few-enough h l = le→leb h (2 ^ 24) (omega arith)
 
-pub record Stepped (h b : ℕ) (old part : Float) (sum : Fan) : Type 0 where
+pub record Stepped (h b : ℕ) (old part : Float) (sum : FanSum) : Type 0 where
   pub sums : Sums h b sum
   pub not-below : val old ≼ val (sum .area)
   pub part-not-below : val part ≼ val (sum .area)
 
 module _ {s p q : B2vec2} (s-grid : GridPoint s) (p-grid : GridPoint p) (q-grid : GridPoint q) where
-  step : (h b : ℕ) (sum : Fan) → whole 0 ≼ orient (value-point s) (value-point p) (value-point q) → h + 64 ≤ area-limit → b ≤ moment-limit
+  step : (h b : ℕ) (sum : FanSum) → whole 0 ≼ orient (value-point s) (value-point p) (value-point q) → h + 64 ≤ area-limit → b ≤ moment-limit
       → Sums h b sum
       → Stepped (h + 64) (2 * b + 96) (sum .area) (triangle s p q) (with-triangle (b2-sub s s) (b2-sub p s) (b2-sub q s) sum)
   unfolding b2-add b2-scale
@@ -100,7 +101,7 @@ module _ {s p q : B2vec2} (s-grid : GridPoint s) (p-grid : GridPoint p) (q-grid 
       fewer h l = mul-le-mul-right metre (omega arith)
 
 -- ---- all of them
-widened : {h b : ℕ} {sum : Fan} → h ≤ area-limit → b ≤ moment-limit → Sums h b sum → Sums area-limit moment-limit sum
+widened : {h b : ℕ} {sum : FanSum} → h ≤ area-limit → b ≤ moment-limit → Sums h b sum → Sums area-limit moment-limit sum
 widened {h} {b} {sum} h-low b-low t = record {
   own = t .own;
   least = t .least;
@@ -117,12 +118,12 @@ widened {h} {b} {sum} h-low b-low t = record {
               (mul-le-mul-right (mag (sum .area)) b-low);
         }
 
-record Ended (old : Float) (sum : Fan) : Type 0 where
+record Ended (old : Float) (sum : FanSum) : Type 0 where
   sums : Sums area-limit moment-limit sum
   not-below : val old ≼ val (sum .area)
 
 -- b doubles and grows by 96 with each triangle, so b + 96 doubles
-rest-sums : (s p : B2vec2) (qs : List B2vec2) (h b : ℕ) (sum : Fan) → GridPoint s → GridList (p ∷ qs)
+rest-sums : (s p : B2vec2) (qs : List B2vec2) (h b : ℕ) (sum : FanSum) → GridPoint s → GridList (p ∷ qs)
     → FanPositive (value-point s) (values (p ∷ qs)) → h + 64 * suc (length qs) ≤ area-limit → (b + 96) * 2 ^ suc (length qs) ≤ 96 * 2 ^ 8
     → Sums h b sum → Ended (sum .area) (fan-from s p qs sum)
 rest-sums s p [] h b sum s-grid grid turns h-low b-low before =
@@ -157,7 +158,7 @@ rest-sums s p (q ∷ qs) h b sum s-grid grid turns h-low b-low before =
     twice b n h = omega arith
 
 -- ---- the sums of a row of three to eight corners
-pub record FanSums (sum : Fan) : Type 0 where
+pub record FanSums (sum : FanSum) : Type 0 where
   pub sums : Sums area-limit moment-limit sum
   pub large : whole metre ≼ 2 ^ 17 ⊛ val (sum .area)
 
@@ -209,7 +210,7 @@ fan-sums s d e ds grid few turns =
     still t a z h k l = omega arith
 
 -- ---- above the builder's 2^-23
-pub area-enough : {sum : Fan} → FanSums sum → T (lt b2-epsilon (sum .area))
+pub area-enough : {sum : FanSum} → FanSums sum → T (lt b2-epsilon (sum .area))
 area-enough {sum} f = val-lt (epsilon-is .own) (f .sums .own)
     (multiple-cancel-lt (2 ^ 23) (val b2-epsilon) (val (sum .area)) (go (val b2-epsilon) (val (sum .area)) (epsilon-is .is) (f .large)))
   where
