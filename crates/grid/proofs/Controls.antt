@@ -22,7 +22,7 @@ use Rattle.shapes.specs.declared.b2_polygon_shape.B2polygonShape.{B2polygonShap
 use Rattle.shapes.specs.Outline.{origin, too-near, welded, comes-before, start, closer, next, row, edges, long-enough, fan}
 use Rattle.shapes.specs.Polygon.{outline-of-corners, outline-of-welded, b2-polygon-shape-set}
 use Rattle.shapes.specs.Validate.{polygon-in-range}
-use Rattle.grid.specs.Grid.{GridNumber, GridPoint, GridList, values}
+use Rattle.grid.specs.Grid.{grid-limit, GridNumber, GridPoint, GridList, values}
 use Rattle.grid.specs.Demand3.{ThreeToEight, HullRow, built-corners, refusal-of, outline-from}
 use Rattle.grid.proofs.Outline.{GridOutline}
 use Rattle.grid.proofs.Theorem.{first-sentence, built-outline, built-in-range}
@@ -105,18 +105,18 @@ abbrev steps-of : ℕ → ℕ
 steps-of b = 2 ^ 8 * bits-units b / 2 ^ 149
 
 abbrev on-grid : ℕ → Bool
-on-grid b = ltb (bits-field b) 255 && (eqb (2 ^ 8 * bits-units b) (2 ^ 149 * steps-of b) && leb (steps-of b) 1024)
+on-grid b = ltb (bits-field b) 255 && (eqb (2 ^ 8 * bits-units b) (2 ^ 149 * steps-of b) && leb (steps-of b) grid-limit)
 
 grid-number : (b : ℕ) → T (on-grid b) → GridNumber (ofBits binary32 b)
 grid-number b t =
-    let finite = and-yes (ltb (bits-field b) 255) (eqb (2 ^ 8 * bits-units b) (2 ^ 149 * steps-of b) && leb (steps-of b) 1024) t in
-    let whole-steps = and-yes (eqb (2 ^ 8 * bits-units b) (2 ^ 149 * steps-of b)) (leb (steps-of b) 1024) (finite .1) in
+    let finite = and-yes (ltb (bits-field b) 255) (eqb (2 ^ 8 * bits-units b) (2 ^ 149 * steps-of b) && leb (steps-of b) grid-limit) t in
+    let whole-steps = and-yes (eqb (2 ^ 8 * bits-units b) (2 ^ 149 * steps-of b)) (leb (steps-of b) grid-limit) (finite .1) in
     let d = bits-dyadic b (steps-of b) 8 (finite .0) (whole-steps .0) in
     record {
       own = d .own;
       count = signed (bits-sign b) (steps-of b);
       is = d .is;
-      most = abs-signed (bits-sign b) (steps-of b) 1024 (leb→le (steps-of b) 1024 (whole-steps .1));
+      most = abs-signed (bits-sign b) (steps-of b) grid-limit (leb→le (steps-of b) grid-limit (whole-steps .1));
     }
 
 abbrev all-on-grid : List (ℕ × ℕ) → Bool
@@ -130,7 +130,8 @@ grid-list (b ∷ l) t v m =
     let here = and-yes (on-grid (b .0)) (on-grid (b .1)) (both .0) in
     go (grid-number (b .0) (here .0), grid-number (b .1) (here .1)) (grid-list l (both .1) v) (List·Memᴰ·cases-cons m)
   where
-    go : GridPoint (at (b .0) (b .1)) → (List·Memᴰ v (points l) → GridPoint v) → (v ≡ at (b .0) (b .1)) ⊎ List·Memᴰ v (points l) → GridPoint v
+    go : GridPoint (at (b .0) (b .1)) → (List·Memᴰ v (points l) → GridPoint v) → (v ≡ at (b .0) (b .1)) ⊎ List·Memᴰ v (points l)
+        → GridPoint v
     go first later (inl e) = subst GridPoint (sym e) first
     go first later (inr k) = later k
 
@@ -142,16 +143,19 @@ square-hull : (old : B2polygonShape) → HullRow (values (points square)) (built
 square-hull old = first-sentence old (points square) (grid-list square tt) .corners-are-hull (computed old .square-accepted)
 
 smallest-suitable : (old : B2polygonShape) → ThreeToEight (points smallest) × (¬ OnLine (values (points smallest)))
-smallest-suitable old = first-sentence old (points smallest) (grid-list smallest tt) .accepted-exactly-when .0 (computed old .smallest-accepted)
+smallest-suitable old = first-sentence old (points smallest) (grid-list smallest tt) .accepted-exactly-when .0
+    (computed old .smallest-accepted)
 
 largest-suitable : (old : B2polygonShape) → ThreeToEight (points largest) × (¬ OnLine (values (points largest)))
 largest-suitable old = first-sentence old (points largest) (grid-list largest tt) .accepted-exactly-when .0 (computed old .largest-accepted)
 
-on-line-is : (old : B2polygonShape) → ThreeToEight (points on-line) × ThreeDifferent (values (points on-line)) × OnLine (values (points on-line))
+on-line-is : (old : B2polygonShape) → ThreeToEight (points on-line) × ThreeDifferent (values (points on-line)) × OnLine
+    (values (points on-line))
 on-line-is old = first-sentence old (points on-line) (grid-list on-line tt) .on-one-line .0 (computed old .on-line-refused)
 
 two-different-is : (old : B2polygonShape) → ThreeToEight (points two-different) × (¬ ThreeDifferent (values (points two-different)))
-two-different-is old = first-sentence old (points two-different) (grid-list two-different tt) .too-few-different .0 (computed old .two-different-refused)
+two-different-is old = first-sentence old (points two-different) (grid-list two-different tt) .too-few-different .0
+    (computed old .two-different-refused)
 
 -- an outline with the default skin
 abbrev skinned : B2polygonShape

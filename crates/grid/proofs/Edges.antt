@@ -19,23 +19,20 @@ use Rattle.floats.specs.declared.b2_math.B2vec2.{B2vec2}
 use Rattle.floats.specs.B2Math.{b2-sub, b2-length-squared}
 use Rattle.floats.proofs.Comparison.{val-lt}
 use Rattle.floats.proofs.Dyadic.{Dyadic, dyadic-finer, lt-dyadic}
-use Rattle.floats.proofs.Literals.{bits-dyadic}
 use Rattle.hull.proofs.Points.{value-eq}
 use Rattle.shapes.specs.Outline.{epsilon-squared, edges, edges-from, long-enough}
 use Rattle.grid.specs.Grid.{GridPoint, GridList, value-point, values}
 use Rattle.grid.proofs.Exact.{counts, dot-dyadic, length-is-dot}
-use Rattle.grid.proofs.Tests.{side-steps, no-steps-same}
+use Rattle.grid.proofs.Tests.{side-steps, squared-steps, no-steps-same}
 use Rattle.grid.proofs.Rows.{value-reduced}
-
-epsilon-squared-is : Dyadic epsilon-squared (whole 1) 46
-epsilon-squared-is = bits-dyadic 0x2880_0000 1 46 tt tt
+use Rattle.grid.proofs.Limits.{epsilon-squared-is}
 
 -- ---- one edge
 module _ {p q : B2vec2} (p-grid : GridPoint p) (q-grid : GridPoint q) (differ : ¬ (value-point q ≡ value-point p)) where
   -- at least one step squared
-  pub some-steps : whole 0 ≺ dot (counts (side-steps p-grid q-grid)) (counts (side-steps p-grid q-grid))
+  pub some-steps : whole 0 ≺ squared-steps p-grid q-grid
   some-steps = go (counts (side-steps p-grid q-grid)) (no-steps-same p-grid q-grid)
-      (sign-cases (dot (counts (side-steps p-grid q-grid)) (counts (side-steps p-grid q-grid))))
+      (sign-cases (squared-steps p-grid q-grid))
     where
       same : (value-point q .x ≐ value-point p .x) × (value-point q .y ≐ value-point p .y) → ⊥
       same h = differ (value-eq (value-point q) (value-point p) (value-reduced q) (value-reduced p) (h .0) (h .1))
@@ -50,14 +47,14 @@ module _ {p q : B2vec2} (p-grid : GridPoint p) (q-grid : GridPoint q) (differ : 
       go c none (inr (inr h)) = absurd (not-below (c .x ⊠ c .x) (c .y ⊠ c .y) (square-not-negative (c .x)) (square-not-negative (c .y)) h)
 
   pub length-dyadic : Dyadic (b2-length-squared (b2-sub q p))
-      (dot (counts (side-steps p-grid q-grid)) (counts (side-steps p-grid q-grid))) 16
+      (squared-steps p-grid q-grid) 16
   length-dyadic = rw (length-is-dot (b2-sub q p)) (dot-dyadic (side-steps p-grid q-grid) (side-steps p-grid q-grid))
 
   edge-long : T (lt epsilon-squared (b2-length-squared (b2-sub q p)))
   edge-long =
       val-lt (epsilon-squared-is .own) (length-dyadic .own)
       (lt-dyadic epsilon-squared-is (dyadic-finer 30 length-dyadic)
-      (go (dot (counts (side-steps p-grid q-grid)) (counts (side-steps p-grid q-grid))) some-steps))
+      (go (squared-steps p-grid q-grid) some-steps))
     where
       go : (d : Z) → whole 0 ≺ d → whole 1 ≺ 2 ^ 30 ⊛ d
       go d h = omega arith
@@ -76,8 +73,8 @@ edges-long-from first p (q ∷ qs) first-grid grid once new =
     (λ e. once .0 (L.List·Memᴰ·head (sym e))))
     (edges-long-from first q qs first-grid (λ v m. grid v (L.List·Memᴰ·tail m)) (once .1) (λ m. new (L.List·Memᴰ·tail m)))
 
-pub edges-long : (p q : B2vec2) (qs : List B2vec2) → GridList (p ∷ q ∷ qs) → Once (values (p ∷ q ∷ qs)) → T
-    (long-enough (edges (p ∷ q ∷ qs)))
+pub edges-long : (p q : B2vec2) (qs : List B2vec2) → GridList (p ∷ q ∷ qs) → Once (values (p ∷ q ∷ qs))
+    → T (long-enough (edges (p ∷ q ∷ qs)))
 unfolding edges long-enough
 edges-long p q qs grid once =
     yes-and (lt epsilon-squared (b2-length-squared (b2-sub q p))) (long-enough (edges-from p q qs))

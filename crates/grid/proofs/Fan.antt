@@ -13,7 +13,7 @@ use Rattle.algebra.specs.Integer.{Z, whole, _⊛_, _≐_, _≼_, _≺_, Abs}
 use Rattle.algebra.specs.Plane.{orient}
 use Rattle.algebra.proofs.Integer.{multiple-cancel-lt}
 use Rattle.algebra.proofs.Plane.{orient-begin, orient-first-twice}
-use Rattle.algebra.proofs.Magnitude.{abs-sum, abs-widen, abs-scale, abs-unscale}
+use Rattle.algebra.proofs.Magnitude.{abs-sum, abs-widen}
 use Rattle.algebra.proofs.Signs.{positive-weaken, zero-weaken}
 use Rattle.floats.specs.declared.b2_math.B2vec2.{B2vec2}
 use Rattle.floats.specs.Value.{metre, F32, mag, val}
@@ -22,8 +22,7 @@ use Rattle.floats.specs.B2Math.{b2-add, b2-sub, b2-scale}
 use Rattle.floats.proofs.Value.{metre-pos, mag-abs}
 use Rattle.floats.proofs.Caps.{add-cap}
 use Rattle.floats.proofs.Comparison.{val-lt}
-use Rattle.floats.proofs.Dyadic.{Dyadic}
-use Rattle.floats.proofs.Literals.{bits-dyadic, zero-f32, zero-val}
+use Rattle.floats.proofs.Literals.{zero-f32, zero-val}
 use Rattle.hull.specs.Hull.{FanPositive}
 use lib.ListN.{length}
 use Rattle.shapes.specs.declared.outline.FanSum.{FanSum}
@@ -31,7 +30,10 @@ use Rattle.shapes.specs.Outline.{origin, with-triangle, fan-from, fan}
 use Rattle.grid.specs.Grid.{Steps, GridPoint, GridList, value-point, values}
 use Rattle.grid.proofs.Tests.{side-steps}
 use Rattle.grid.proofs.Triangles.{triangle, triangle-is, part-not-negative, part-large, part-cap}
-use Rattle.grid.proofs.Moments.{mag-mono, area-step, Moment, moment-step}
+use Rattle.grid.proofs.Moments.{area-limit, moment-limit, mag-mono, area-step, Moment, moment-step}
+use Rattle.grid.proofs.Limits.{epsilon-is, vector-limit}
+use Rattle.grid.proofs.Exact.{steps-metres}
+use Rattle.algebra.proofs.Integer as Integer
 
 -- ---- the sums after some triangles: the area at most h m², each moment at most b times the area
 pub record Sums (h b : ℕ) (sum : FanSum) : Type 0 where
@@ -42,28 +44,21 @@ pub record Sums (h b : ℕ) (sum : FanSum) : Type 0 where
   pub y : Moment b (sum .moment .y) (sum .area)
 
 -- a vector between grid points has at most 8 m, and the sum of three at most 24 m
-steps-metres : {x : Float} → Steps 2048 x → Abs (val x) (8 * metre)
-steps-metres {x} x-steps =
-    abs-unscale 256 (8 * metre) (val x) (lit≤ tt)
-    (go (val x) (x-steps .count) (x-steps .is) (abs-scale metre 2048 (x-steps .count) (x-steps .most)))
-  where
-    go : (v c : Z) → 256 ⊛ v ≐ metre ⊛ c → Abs (metre ⊛ c) (metre * 2048) → Abs (256 ⊛ v) (256 * (8 * metre))
-    go v c e h = omega arith
-
 record ThreeCorners (y : Float) : Type 0 where
   own : F32 y
   most : Abs (val y) (24 * metre)
 
-three-corners : {u v w : Float} → Steps 2048 u → Steps 2048 v → Steps 2048 w → ThreeCorners (add binary32 (add binary32 u v) w)
+three-corners : {u v w : Float} → Steps vector-limit u → Steps vector-limit v → Steps vector-limit w → ThreeCorners
+    (add binary32 (add binary32 u v) w)
 three-corners {u} {v} {w} u-steps v-steps w-steps =
     let two = add-cap 16 tt (u-steps .own) (v-steps .own) (8 * metre + 8 * metre)
-    (abs-sum (val u) (val v) (8 * metre) (8 * metre) (steps-metres u-steps) (steps-metres v-steps)) (omega arith) in
+    (abs-sum (val u) (val v) (8 * metre) (8 * metre) (steps-metres 8 tt u-steps) (steps-metres 8 tt v-steps)) (omega arith) in
     let three = add-cap 24 tt (two .own) (w-steps .own) (16 * metre + 8 * metre)
-    (abs-sum (val (add binary32 u v)) (val w) (16 * metre) (8 * metre) (two .cap) (steps-metres w-steps)) (omega arith) in
+    (abs-sum (val (add binary32 u v)) (val w) (16 * metre) (8 * metre) (two .cap) (steps-metres 8 tt w-steps)) (omega arith) in
     record { own = three .own; most = three .cap }
 
 -- ---- one triangle more
-few-enough : (h : ℕ) → h ≤ 512 → T (leb h (2 ^ 24))
+few-enough : (h : ℕ) → h ≤ area-limit → T (leb h (2 ^ 24))
 few-enough h l = le→leb h (2 ^ 24) (omega arith)
 
 pub record Stepped (h b : ℕ) (old part : Float) (sum : FanSum) : Type 0 where
@@ -72,7 +67,8 @@ pub record Stepped (h b : ℕ) (old part : Float) (sum : FanSum) : Type 0 where
   pub part-not-below : val part ≼ val (sum .area)
 
 module _ {s p q : B2vec2} (s-grid : GridPoint s) (p-grid : GridPoint p) (q-grid : GridPoint q) where
-  step : (h b : ℕ) (sum : FanSum) → whole 0 ≼ orient (value-point s) (value-point p) (value-point q) → h + 64 ≤ 512 → b ≤ 24480 → Sums h b sum
+  step : (h b : ℕ) (sum : FanSum) → whole 0 ≼ orient (value-point s) (value-point p) (value-point q) → h + 64 ≤ area-limit → b ≤ moment-limit
+      → Sums h b sum
       → Stepped (h + 64) (2 * b + 96) (sum .area) (triangle s p q) (with-triangle (b2-sub s s) (b2-sub p s) (b2-sub q s) sum)
   unfolding b2-add b2-scale
   step h b sum turn h-low b-low before =
@@ -92,7 +88,7 @@ module _ {s p q : B2vec2} (s-grid : GridPoint s) (p-grid : GridPoint p) (q-grid 
       record {
         sums = record {
           own = grown .own;
-          least = at-least (val (sum .area)) (val new) (before .least) (grown .not-below);
+          least = Integer.le-trans (whole 0) (val (sum .area)) (val new) (before .least) (grown .not-below);
           most = grown .most;
           x = moment-step b b-low (before .x) part-f32 (part-cap t) a-low a-grown part-grown (x-three .own) (x-three .most);
           y = moment-step b b-low (before .y) part-f32 (part-cap t) a-low a-grown part-grown (y-three .own) (y-three .most);
@@ -101,40 +97,37 @@ module _ {s p q : B2vec2} (s-grid : GridPoint s) (p-grid : GridPoint p) (q-grid 
         part-not-below = grown .part-not-below;
       }
     where
-      fewer : (h : ℕ) → h + 64 ≤ 512 → h * metre ≤ 512 * metre
+      fewer : (h : ℕ) → h + 64 ≤ area-limit → h * metre ≤ area-limit * metre
       fewer h l = mul-le-mul-right metre (omega arith)
 
-      at-least : (a b : Z) → whole 0 ≼ a → a ≼ b → whole 0 ≼ b
-      at-least a b h k = omega arith
-
 -- ---- all of them
-widened : {h b : ℕ} {sum : FanSum} → h ≤ 512 → b ≤ 24480 → Sums h b sum → Sums 512 24480 sum
+widened : {h b : ℕ} {sum : FanSum} → h ≤ area-limit → b ≤ moment-limit → Sums h b sum → Sums area-limit moment-limit sum
 widened {h} {b} {sum} h-low b-low t = record {
   own = t .own;
   least = t .least;
-  most = abs-widen (val (sum .area)) (h * metre) (512 * metre) (t .most) (mul-le-mul-right metre h-low);
+  most = abs-widen (val (sum .area)) (h * metre) (area-limit * metre) (t .most) (mul-le-mul-right metre h-low);
   x = wider (t .x);
   y = wider (t .y);
 }
   where
-    wider : {z : Float} → Moment b z (sum .area) → Moment 24480 z (sum .area)
+    wider : {z : Float} → Moment b z (sum .area) → Moment moment-limit z (sum .area)
     wider {z} m =
         record {
           own = m .own;
-          most = abs-widen (val z) (b * mag (sum .area)) (24480 * mag (sum .area)) (m .most)
+          most = abs-widen (val z) (b * mag (sum .area)) (moment-limit * mag (sum .area)) (m .most)
               (mul-le-mul-right (mag (sum .area)) b-low);
         }
 
 record Ended (old : Float) (sum : FanSum) : Type 0 where
-  sums : Sums 512 24480 sum
+  sums : Sums area-limit moment-limit sum
   not-below : val old ≼ val (sum .area)
 
 -- b doubles and grows by 96 with each triangle, so b + 96 doubles
-rest-sums : (s p : B2vec2) (qs : List B2vec2) (h b : ℕ) (sum : FanSum) → GridPoint s → GridList (p ∷ qs) → FanPositive (value-point s)
-    (values (p ∷ qs))
-    → h + 64 * suc (length qs) ≤ 512 → (b + 96) * 2 ^ suc (length qs) ≤ 96 * 2 ^ 8 → Sums h b sum → Ended (sum .area) (fan-from s p qs sum)
+rest-sums : (s p : B2vec2) (qs : List B2vec2) (h b : ℕ) (sum : FanSum) → GridPoint s → GridList (p ∷ qs)
+    → FanPositive (value-point s) (values (p ∷ qs)) → h + 64 * suc (length qs) ≤ area-limit → (b + 96) * 2 ^ suc (length qs) ≤ 96 * 2 ^ 8
+    → Sums h b sum → Ended (sum .area) (fan-from s p qs sum)
 rest-sums s p [] h b sum s-grid grid turns h-low b-low before =
-    let b-less : 2 * b + 96 ≤ 24480 = omega arith in
+    let b-less : 2 * b + 96 ≤ moment-limit = omega arith in
     let t = step s-grid (grid p (L.List·Memᴰ·head refl)) s-grid h b sum
     (zero-weaken (orient (value-point s) (value-point p) (value-point s)) (orient-begin (value-point s) (value-point p))) (omega arith)
     (omega arith) before in
@@ -153,23 +146,20 @@ rest-sums s p (q ∷ qs) h b sum s-grid grid turns h-low b-low before =
     (omega arith) (twice b (2 ^ suc (length qs)) doubled) (t .sums) in
     record {
       sums = rest .sums;
-      not-below = le-trans-val (val (sum .area))
+      not-below = Integer.le-trans (val (sum .area))
           (val (with-triangle (b2-sub s s) (b2-sub p s) (b2-sub q s) sum .area)) (val (fan-from s p (q ∷ qs) sum .area)) (t .not-below)
           (rest .not-below);
     }
   where
-    b-less : (b n : ℕ) → 1 ≤ n → (b + 96) * (2 * n) ≤ 96 * 2 ^ 8 → b ≤ 24480
+    b-less : (b n : ℕ) → 1 ≤ n → (b + 96) * (2 * n) ≤ 96 * 2 ^ 8 → b ≤ moment-limit
     b-less b n h k = let m : (b + 96) * 1 ≤ (b + 96) * n = mul-le-mul-left (b + 96) h in omega arith
 
     twice : (b n : ℕ) → (b + 96) * (2 * n) ≤ 96 * 2 ^ 8 → (2 * b + 96 + 96) * n ≤ 96 * 2 ^ 8
     twice b n h = omega arith
 
-    le-trans-val : (x y z : Z) → x ≼ y → y ≼ z → x ≼ z
-    le-trans-val x y z h k = omega arith
-
 -- ---- the sums of a row of three to eight corners
 pub record FanSums (sum : FanSum) : Type 0 where
-  pub sums : Sums 512 24480 sum
+  pub sums : Sums area-limit moment-limit sum
   pub large : whole metre ≼ 2 ^ 17 ⊛ val (sum .area)
 
 sums-start : Sums 0 0 (record { area = zero32; moment = origin })
@@ -220,9 +210,6 @@ fan-sums s d e ds grid few turns =
     still t a z h k l = omega arith
 
 -- ---- above the builder's 2^-23
-epsilon-is : Dyadic b2-epsilon (whole 1) 23
-epsilon-is = bits-dyadic 0x3400_0000 1 23 tt tt
-
 pub area-enough : {sum : FanSum} → FanSums sum → T (lt b2-epsilon (sum .area))
 area-enough {sum} f = val-lt (epsilon-is .own) (f .sums .own)
     (multiple-cancel-lt (2 ^ 23) (val b2-epsilon) (val (sum .area)) (go (val b2-epsilon) (val (sum .area)) (epsilon-is .is) (f .large)))

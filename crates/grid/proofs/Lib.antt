@@ -1,3 +1,4 @@
+pub mod Limits
 pub mod Exact
 pub mod Compare
 pub mod Tests

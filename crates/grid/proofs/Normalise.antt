@@ -21,7 +21,6 @@ use Rattle.floats.specs.Sqrt.{sqrt}
 use Rattle.floats.proofs.Value.{metre-pos, metre-ticks, val-signed, abs-mag, positive-sign}
 use Rattle.floats.proofs.Comparison.{lt-val}
 use Rattle.floats.proofs.Dyadic.{Dyadic}
-use Rattle.floats.proofs.Literals.{bits-dyadic}
 use Rattle.floats.proofs.Near.{NearProduct, mul-near}
 use Rattle.floats.proofs.SqrtLaw.{SqrtLaw, sqrt-law}
 use Rattle.floats.proofs.SqrtOrder.{sqrt-low, sqrt-high}
@@ -31,6 +30,7 @@ use Rattle.grid.proofs.Exact.{counts, dot-dyadic, dot-count, length-is-
 use Rattle.grid.proofs.Tests.{Same, dot-same}
 use Rattle.grid.proofs.Rows.{cond-no}
 use Rattle.grid.proofs.UnitNormal.{UnitNormal, coordinate-most, unit-normal}
+use Rattle.grid.proofs.Limits.{epsilon-is, vector-limit, cross-limit}
 
 -- ---- normalising a vector that is not 0
 pub record Normalised (w : B2vec2) (u v : Z) : Type 0 where
@@ -40,7 +40,7 @@ pub record Normalised (w : B2vec2) (u v : Z) : Type 0 where
   pub squared : ℕ
   pub unit : UnitNormal u v (val (w .x)) (val (w .y)) length squared
 
-module _ {n : B2vec2} (n-steps : StepsPoint 2048 n) (some : whole 0 ≺ dot (counts n-steps) (counts n-steps)) where
+module _ {n : B2vec2} (n-steps : StepsPoint vector-limit n) (some : whole 0 ≺ dot (counts n-steps) (counts n-steps)) where
   squared-dyadic : Dyadic (b2-length-squared n) (dot (counts n-steps) (counts n-steps)) 16
   squared-dyadic = rw (length-is-dot n) (dot-dyadic n-steps n-steps)
 
@@ -57,10 +57,10 @@ module _ {n : B2vec2} (n-steps : StepsPoint 2048 n) (some : whole 0 ≺ dot (cou
   squared-bounds = go (val (b2-length-squared n)) (dot (counts n-steps) (counts n-steps)) (squared-dyadic .is) some
       (dot-count n-steps n-steps)
     where
-      go : (v c : Z) → 2 ^ 16 ⊛ v ≐ metre ⊛ c → whole 0 ≺ c → Abs c (2 ^ 23) → Squares v
+      go : (v c : Z) → 2 ^ 16 ⊛ v ≐ metre ⊛ c → whole 0 ≺ c → Abs c cross-limit → Squares v
       go v c e h k =
           let up = multiple-mono metre (whole 1) c (omega arith) in
-          let down = multiple-mono metre c (whole (2 ^ 23)) (omega arith) in
+          let down = multiple-mono metre c (whole cross-limit) (omega arith) in
           let m = metre-pos in
           record { above = omega arith; low = omega arith; high = omega arith }
 
@@ -103,9 +103,6 @@ module _ {n : B2vec2} (n-steps : StepsPoint 2048 n) (some : whole 0 ≺ dot (cou
       (cond-no (lt (b2-length n) b2-epsilon) (record { length = zero32; v = n })
       (record { length = b2-length n; v = times-reciprocal n (b2-length n) }) not-short)
     where
-      epsilon-is : Dyadic b2-epsilon (whole 1) 23
-      epsilon-is = bits-dyadic 0x3400_0000 1 23 tt tt
-
       go : (m : ℕ) (e : Z) → metre ≤ 2 ^ 8 * m → 2 ^ 23 ⊛ e ≐ metre ⊛ whole 1 → whole m ≺ e → ⊥
       go m e h k l = let p = metre-pos in omega arith
 
@@ -128,14 +125,14 @@ module _ {n : B2vec2} (n-steps : StepsPoint 2048 n) (some : whole 0 ≺ dot (cou
       go d m h = omega arith
 
   -- one coordinate times the reciprocal: at most 2 m, so within two ticks
-  product-near : {x : Float} → F32 x → Abs (2 ^ 24 ⊛ val x) ((2 ^ 24 + 1) * mag (b2-length n)) → NearProduct (mul binary32 x inverse)
-      (val x ⊠ val inverse) (2 * tick)
+  product-near : {x : Float} → F32 x → Abs (2 ^ 24 ⊛ val x) ((2 ^ 24 + 1) * mag (b2-length n))
+      → NearProduct (mul binary32 x inverse) (val x ⊠ val inverse) (2 * tick)
   product-near {x} x-f32 x-most =
       mul-near 1 (mag x) (mag inverse) tt x-f32 (inverse-law .own) (abs-mag x) (abs-mag inverse)
       (room (mag x) (mag (b2-length n)) (mag inverse) (size (sign x) (mag x) (rw val-signed at x-most)) (inverse-law .size))
     where
-      size : (s : Bool) (m : ℕ) → Abs (2 ^ 24 ⊛ signed s m) ((2 ^ 24 + 1) * mag (b2-length n)) → 2 ^ 24 * m ≤ (2 ^ 24 + 1) * mag
-          (b2-length n)
+      size : (s : Bool) (m : ℕ) → Abs (2 ^ 24 ⊛ signed s m) ((2 ^ 24 + 1) * mag (b2-length n))
+          → 2 ^ 24 * m ≤ (2 ^ 24 + 1) * mag (b2-length n)
       size true m h = omega arith
       size false m h = omega arith
 
@@ -177,13 +174,13 @@ module _ {n : B2vec2} (n-steps : StepsPoint 2048 n) (some : whole 0 ≺ dot (cou
           (same-sym (dot (value-point n) (value-point n)) (u ⊠ u ⊞ v ⊠ v)
           (dot-same (value-point n) (record { x = u; y = v }) (value-point n) (record { x = u; y = v }) h h)) square-is
 
-      same-product : (x u a : Z) → x ≐ u → Abs (metre ⊛ a ⊟ x ⊠ val inverse) (2 * tick * metre) → Abs (metre ⊛ a ⊟ u ⊠ val inverse)
-          (2 * tick * metre)
+      same-product : (x u a : Z) → x ≐ u → Abs (metre ⊛ a ⊟ x ⊠ val inverse) (2 * tick * metre)
+          → Abs (metre ⊛ a ⊟ u ⊠ val inverse) (2 * tick * metre)
       same-product x u a e h =
           abs-same (metre ⊛ a ⊟ x ⊠ val inverse) (metre ⊛ a ⊟ u ⊠ val inverse) (2 * tick * metre)
           (difference-same (metre ⊛ a) (metre ⊛ a) (x ⊠ val inverse) (u ⊠ val inverse) refl
           (product-same x u (val inverse) (val inverse) e refl)) h
 
-      length-times : (i : Z) (l : ℕ) → Abs (i ⊠ whole l ⊟ whole (metre * metre)) (2 * tick * metre) → Abs (l ⊛ i ⊟ whole (metre * metre))
-          (2 * tick * metre)
+      length-times : (i : Z) (l : ℕ) → Abs (i ⊠ whole l ⊟ whole (metre * metre)) (2 * tick * metre)
+          → Abs (l ⊛ i ⊟ whole (metre * metre)) (2 * tick * metre)
       length-times i l h = omega arith

@@ -198,8 +198,8 @@ pub record BuiltOutline (old shape : B2polygonShape) : Type 0 where
   pub outline : GridOutline shape
   pub radius : shape .«m_radius» ≡ old .«m_radius»
 
-built-outline-of : {old : B2polygonShape} {l : List B2vec2} {b : PolygonAnswer} → Verdict old l b → b .refusal ≡ 0 → BuiltOutline old
-    (b .shape)
+built-outline-of : {old : B2polygonShape} {l : List B2vec2} {b : PolygonAnswer} → Verdict old l b → b .refusal ≡ 0
+    → BuiltOutline old (b .shape)
 built-outline-of (wrong-number count e) r = absurd (let h = ap (λ (a : PolygonAnswer). a .refusal) e in omega arith)
 built-outline-of (too-few count few line e) r = absurd (let h = ap (λ (a : PolygonAnswer). a .refusal) e in omega arith)
 built-outline-of (on-line count three line e) r = absurd (let h = ap (λ (a : PolygonAnswer). a .refusal) e in omega arith)

@@ -25,7 +25,7 @@ module _ (old : B2polygonShape) (l : List B2vec2) (grid : GridList l) where
   pub built-outline : refusal-of old l ≡ accepted → GridOutline (outline-from old l)
   built-outline r = accepted-outline old l grid r .outline
 
-  -- every number of it is in range, its centroid too, where the radius is: so no contact call turns it down
+  -- every number of it is in range, its centroid too, where the radius is: the range test of the contact calls passes
   pub built-in-range : refusal-of old l ≡ accepted → T (radius-in-range (old .«m_radius»)) → T (polygon-in-range (outline-from old l))
   built-in-range r radius =
       let b = accepted-outline old l grid r in

@@ -7,4 +7,5 @@ pub mod AllPoints
 pub mod Built
 pub mod Counted
 pub mod Sides
+pub mod Lent
 pub mod Controls
