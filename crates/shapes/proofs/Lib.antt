@@ -7,4 +7,5 @@ pub mod AllPoints
 pub mod Built
 pub mod Sides
 pub mod Lent
+pub mod Calls
 pub mod Controls
