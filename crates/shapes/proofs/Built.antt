@@ -1,25 +1,24 @@
 -- The outline builder, refusal by refusal: what each way out of the code answers is what the definition says. Assumes nothing.
 use mathlib.Core.Path.{_≡_, refl, sym, _∙_, ap}
-use mathlib.Core.Bool.{Bool, true, false, not, cond, _&&_, _||_}
+use mathlib.Core.Bool.{Bool, true, false, not, cond, _&&_}
 use mathlib.Core.List.{List, [], _∷_, map}
 use mathlib.Core.Option.{Option, none, some}
 use Prim.Native.Nat.{ℕ, suc, _<_, _≤_}
 use native.Mathlib.Omega.{arith}
-use lib.Dec.{ltb}
 use lib.ListN.{length, take, length-map}
 use lib.Seq.{length-take-le, take-at}
-use lib.Ieee.{Float, binary32, div, lt}
+use lib.Ieee.{binary32, div, lt}
 use borrow.Author.Tests.{lt-ltb, le-ltb}
 use Rattle.floats.specs.declared.b2_math.B2vec2.{B2vec2}
 use Rattle.floats.specs.B2Common.{one32, b2-epsilon}
 use Rattle.floats.specs.B2Math.{b2-add, b2-scale}
 use Rattle.floats.specs.Ranges.{point-in-range}
 use Rattle.shapes.specs.declared.b2_polygon_shape.B2polygonShape.{B2polygonShape}
-use Rattle.shapes.specs.declared.b2_polygon_shape.PolygonAnswer.{PolygonAnswer}
 use Rattle.shapes.specs.declared.outline.Points.{Points}
 use Rattle.shapes.specs.declared.outline.FanSum.{FanSum}
-use Rattle.shapes.specs.Refusal.{accepted, wrong-number-of-points, shape-out-of-range, too-few-after-welding, walk-not-closed, edge-or-area-too-small}
-use Rattle.shapes.specs.Outline.{point-at, welded, row, edges-from, edges, long-enough, normal-of-edge, fan, centroid-of}
+use Rattle.shapes.specs.Refusal.{accepted, wrong-number-of-points, shape-out-of-range, too-few-after-welding}
+use Rattle.shapes.specs.Refusal.{walk-not-closed, edge-or-area-too-small}
+use Rattle.shapes.specs.Outline.{point-at, welded, row, edges-from, edges, long-enough, normal-of-edge, fan}
 use Rattle.shapes.specs.Polygon.{
   refused,
   all-points,
@@ -46,21 +45,24 @@ module _ (old : B2polygonShape) (points : List B2vec2) (count : ℕ) where
   -- ---- 2: the ranges
   module _ (enough : 3 ≤ count) (not-more : count ≤ 8) (eight : length points ≡ 8) where
     counted-is : b2-polygon-shape-set-counted old points count
-        ≡ cond (not (all-points point-in-range (take count points))) (refused shape-out-of-range old) (outline-of-welded old (welded (take count points)))
+        ≡ cond (not (all-points point-in-range (take count points))) (refused shape-out-of-range old)
+        (outline-of-welded old (welded (take count points)))
     unfolding b2-polygon-shape-set-counted b2-polygon-shape-set
     counted-is = simp (length-take-le count points (omega arith), le-ltb count 3 enough, le-ltb 8 count not-more)
 
     pub out-of-range : all-points point-in-range (take count points) ≡ false
         → refused shape-out-of-range old ≡ b2-polygon-shape-set-counted old points count
     out-of-range outside =
-        sym (counted-is ∙ ap (λ (t : Bool). cond (not t) (refused shape-out-of-range old) (outline-of-welded old (welded (take count points)))) outside)
+        sym (counted-is ∙ ap (λ (t : Bool). cond (not t) (refused shape-out-of-range old)
+        (outline-of-welded old (welded (take count points)))) outside)
 
     -- the points that welding keeps
     pub of-welded : (ps : List B2vec2) → all-points point-in-range (take count points) ≡ true → ps ≡ welded (take count points)
         → outline-of-welded old ps ≡ b2-polygon-shape-set-counted old points count
     of-welded ps inside ps-is =
         ap (outline-of-welded old) ps-is
-        ∙ sym (counted-is ∙ ap (λ (t : Bool). cond (not t) (refused shape-out-of-range old) (outline-of-welded old (welded (take count points)))) inside)
+        ∙ sym (counted-is ∙ ap (λ (t : Bool). cond (not t) (refused shape-out-of-range old)
+        (outline-of-welded old (welded (take count points)))) inside)
 
 -- ---- a row of three corners or more: they stand in the first places, over the old vertices
 module _ (ps vs : List B2vec2) where
@@ -83,7 +85,8 @@ module _ (old : B2polygonShape) (ps : List B2vec2) where
 
   pub of-row : 3 ≤ length ps → outline-of-row old ps (row ps) ≡ outline-of-welded old ps
   unfolding outline-of-welded
-  of-row enough = ap (λ (t : Bool). cond t (refused too-few-after-welding old) (outline-of-row old ps (row ps))) (sym (le-ltb (length ps) 3 enough))
+  of-row enough =
+      ap (λ (t : Bool). cond t (refused too-few-after-welding old) (outline-of-row old ps (row ps))) (sym (le-ltb (length ps) 3 enough))
 
   -- ---- 4: the walk
   pub not-closed : (vs : List B2vec2) (o : Option (List ℕ)) (r : Points) → Walked ps vs o r → r .count < 3
@@ -139,7 +142,8 @@ module _ (old : B2polygonShape) (corners : List B2vec2) where
     unfolding outline-of-corners
     area-too-small small = simp (all-long, ap (λ (x : FanSum). lt b2-epsilon (x .area)) (sym sum-is) ∙ small)
 
-    pub outline-built : (vs ns : List B2vec2) (m : ℕ) (s scaled centroid : B2vec2) → lt b2-epsilon (sum .area) ≡ true → vs ≡ put-first corners (old .«m_vertices»)
+    pub outline-built : (vs ns : List B2vec2) (m : ℕ) (s scaled centroid : B2vec2) → lt b2-epsilon (sum .area) ≡ true
+        → vs ≡ put-first corners (old .«m_vertices»)
         → ns ≡ put-first (map normal-of-edge (edges corners)) (old .«m_normals») → m ≡ length corners
         → scaled ≡ b2-scale (div binary32 one32 (sum .area)) (sum .moment) → centroid ≡ b2-add scaled s → s ≡ point-at corners 0
         → record {

@@ -78,15 +78,18 @@ module _ {M : Type 1} (𝓤 : URA M) (H : Heap 𝓤) (A : Atoms 𝓤) (mem : Mem
         join ! $ frame ! $ done !
 
     -- what the slice owns gives what it asks, and is kept
-    pub apart : (i : ℕ) → i < 2 ^ 64 → ent 𝓤 (sep 𝓤 (sem 𝓤 H A (Slice κ x)) (⋆ 𝓤 H A (Token ∷ []))) (sep 𝓤 (Point .pre (to i)) (sem 𝓤 H A (Slice κ x)))
+    pub apart : (i : ℕ) → i < 2 ^ 64
+        → ent 𝓤 (sep 𝓤 (sem 𝓤 H A (Slice κ x)) (⋆ 𝓤 H A (Token ∷ []))) (sep 𝓤 (Point .pre (to i)) (sem 𝓤 H A (Slice κ x)))
     apart i i-fits =
         qed W (‵ (Slice κ x) ∷ Token ∷ []) ∵
-        use1 W (‵ (Slice κ x) ⊛ ‵ (Slice κ x)) (shr-slice-copy 𝓤 H A W (named 0) κ vec.the-row .twice x (slice x ∷ [])) $ split ! $ nothing ! $
+        use1 W (‵ (Slice κ x) ⊛ ‵ (Slice κ x)) (shr-slice-copy 𝓤 H A W (named 0) κ vec.the-row .twice x (slice x ∷ [])) $ split ! $
+        nothing ! $
         owned ! usize (Is usize) (uint-makes 𝓤 H A W w64) i _ (refl, i-fits) $ fjoin ! $ move ! (1 ∷ 0 ∷ []) $ fjoin ! $
         move ! (2 ∷ 0 ∷ []) $ use2 W (raw (Point .pre (to i))) (asked i) $ frame ! $ done !
 
     abbrev pub Got : ℕ → Val → B2vec2 → Item 𝓤
-    Got i v r = (Token ⊛ ‵ (vec.the-row .own r (v ∷ []))) ⊛ raw (ensured 𝓤 H A point.ended (point.clauses 𝓤 H A mem run) (κ, tt) (x, (i, tt)) tt r)
+    Got i v r =
+        (Token ⊛ ‵ (vec.the-row .own r (v ∷ []))) ⊛ raw (ensured 𝓤 H A point.ended (point.clauses 𝓤 H A mem run) (κ, tt) (x, (i, tt)) tt r)
 
     pub said : (i : ℕ) (r : B2vec2)
         → ent 𝓤 (ensured 𝓤 H A point.ended (point.clauses 𝓤 H A mem run) (κ, tt) (x, (i, tt)) tt r) (fact 𝓤 (r ≡ point-at (now x) i))
@@ -106,7 +109,16 @@ module _ {M : Type 1} (𝓤 : URA M) (H : Heap 𝓤) (A : Atoms 𝓤) (mem : Mem
           (old, (a0 .p, (a1 .p, (a2 .p, (a3 .p, (a4 .p, (a5 .p, (a6 .p, (a7 .p, (length (now x), tt)))))))))),
           (
             value old ∷ [],
-            (a0 .v ∷ [], (a1 .v ∷ [], (a2 .v ∷ [], (a3 .v ∷ [], (a4 .v ∷ [], (a5 .v ∷ [], (a6 .v ∷ [], (a7 .v ∷ [], (vint w64 (length (now x)) ∷ [], tt))))))))),
+            (
+              a0 .v ∷ [],
+              (
+                a1 .v ∷ [],
+                (
+                  a2 .v ∷ [],
+                  (a3 .v ∷ [], (a4 .v ∷ [], (a5 .v ∷ [], (a6 .v ∷ [], (a7 .v ∷ [], (vint w64 (length (now x)) ∷ [], tt)))))),
+                ),
+              ),
+            ),
           ),
         ),
         tt,
@@ -117,10 +129,14 @@ module _ {M : Type 1} (𝓤 : URA M) (H : Heap 𝓤) (A : Atoms 𝓤) (mem : Mem
           let made = (laws.makes vec.the-type vec-laws.the-plain) 𝓤 H A in
           qed W (‵ (polygon.the-row .own old (value old ∷ [])) ∷ []) ∵ nothing ! $
           owned ! usize (Is usize) (uint-makes 𝓤 H A W w64) (length (now x)) _ (refl, fits) $ join ! $
-          owned ! vec.the-row (Is vec.the-row) made (a7 .p) _ (a7 .is) $ join ! $ owned ! vec.the-row (Is vec.the-row) made (a6 .p) _ (a6 .is) $ join ! $
-          owned ! vec.the-row (Is vec.the-row) made (a5 .p) _ (a5 .is) $ join ! $ owned ! vec.the-row (Is vec.the-row) made (a4 .p) _ (a4 .is) $ join ! $
-          owned ! vec.the-row (Is vec.the-row) made (a3 .p) _ (a3 .is) $ join ! $ owned ! vec.the-row (Is vec.the-row) made (a2 .p) _ (a2 .is) $ join ! $
-          owned ! vec.the-row (Is vec.the-row) made (a1 .p) _ (a1 .is) $ join ! $ owned ! vec.the-row (Is vec.the-row) made (a0 .p) _ (a0 .is) $ join ! $
+          owned ! vec.the-row (Is vec.the-row) made (a7 .p) _ (a7 .is) $ join ! $
+          owned ! vec.the-row (Is vec.the-row) made (a6 .p) _ (a6 .is) $ join ! $
+          owned ! vec.the-row (Is vec.the-row) made (a5 .p) _ (a5 .is) $ join ! $
+          owned ! vec.the-row (Is vec.the-row) made (a4 .p) _ (a4 .is) $ join ! $
+          owned ! vec.the-row (Is vec.the-row) made (a3 .p) _ (a3 .is) $ join ! $
+          owned ! vec.the-row (Is vec.the-row) made (a2 .p) _ (a2 .is) $ join ! $
+          owned ! vec.the-row (Is vec.the-row) made (a1 .p) _ (a1 .is) $ join ! $
+          owned ! vec.the-row (Is vec.the-row) made (a0 .p) _ (a0 .is) $ join ! $
           move ! (1 ∷ 0 ∷ []) $ join ! $ nothing ! $ join ! $ frame ! $ done !
 
       abbrev pub Built : Val → PolygonAnswer → Item 𝓤

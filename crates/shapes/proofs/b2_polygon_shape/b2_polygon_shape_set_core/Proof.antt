@@ -57,7 +57,8 @@ returns-4 c =
     let ps = take (kept .weld .result .count) (kept .weld .result .at) in
     let ps-length : length ps ≡ kept .weld .result .count = length-take-le _ (kept .weld .result .at) (omega arith) in
     let welded-so =
-    of-welded _ _ count (omega arith) (omega arith) eight ps (sym (inside .points-in-range .ensures) ∙ not-false _ (kept .before .if3 .left))
+    of-welded _ _ count (omega arith) (omega arith) eight ps (sym (inside .points-in-range .ensures)
+    ∙ not-false _ (kept .before .if3 .left))
     (kept .weld .ensures .2) in
     too-few-kept _ ps (omega arith) ∙ welded-so
 
@@ -79,7 +80,8 @@ returns-5 c =
     let ps = take (kept .weld .result .count) (kept .weld .result .at) in
     let ps-length : length ps ≡ kept .weld .result .count = length-take-le _ (kept .weld .result .at) (omega arith) in
     let welded-so =
-    of-welded _ _ count (omega arith) (omega arith) eight ps (sym (inside .points-in-range .ensures) ∙ not-false _ (kept .before .if3 .left))
+    of-welded _ _ count (omega arith) (omega arith) eight ps (sym (inside .points-in-range .ensures)
+    ∙ not-false _ (kept .before .if3 .left))
     (kept .weld .ensures .2) in
     not-closed _ ps _ (row ps) (walk .walk .result) (walk .walk .ensures .2) (omega arith) ∙ of-row _ ps (omega arith) ∙ welded-so
 
@@ -99,11 +101,14 @@ returns-6 c =
     let ps = take (kept .weld .result .count) (kept .weld .result .at) in
     let ps-length : length ps ≡ kept .weld .result .count = length-take-le _ (kept .weld .result .at) (omega arith) in
     let welded-so =
-    of-welded _ _ count (omega arith) (omega arith) eight ps (sym (inside .points-in-range .ensures) ∙ not-false _ (kept .before .if3 .left))
+    of-welded _ _ count (omega arith) (omega arith) eight ps (sym (inside .points-in-range .ensures)
+    ∙ not-false _ (kept .before .if3 .left))
     (kept .weld .ensures .2) in
     let corners = take (walk .walk .result .count) (walk .walk .result .at) in
-    let corners-so = of-corners _ ps _ (row ps) (walk .walk .result) (walk .walk .ensures .2) (omega arith) ∙ of-row _ ps (omega arith) ∙ welded-so in
-    let corners-length : length corners ≡ walk .walk .result .count = corners-count ps _ (row ps) (walk .walk .result) (walk .walk .ensures .2) (omega arith) in
+    let corners-so =
+    of-corners _ ps _ (row ps) (walk .walk .result) (walk .walk .ensures .2) (omega arith) ∙ of-row _ ps (omega arith) ∙ welded-so in
+    let corners-length : length corners ≡ walk .walk .result .count =
+    corners-count ps _ (row ps) (walk .walk .result) (walk .walk .ensures .2) (omega arith) in
     edge-too-short _ corners _ _ (omega arith) (faces .normals .ensures) (c .if6 .taken) ∙ corners-so
 
 fan-requires : tie.Need-fan-requires
@@ -132,11 +137,14 @@ returns-7 c =
     let ps = take (kept .weld .result .count) (kept .weld .result .at) in
     let ps-length : length ps ≡ kept .weld .result .count = length-take-le _ (kept .weld .result .at) (omega arith) in
     let welded-so =
-    of-welded _ _ count (omega arith) (omega arith) eight ps (sym (inside .points-in-range .ensures) ∙ not-false _ (kept .before .if3 .left))
+    of-welded _ _ count (omega arith) (omega arith) eight ps (sym (inside .points-in-range .ensures)
+    ∙ not-false _ (kept .before .if3 .left))
     (kept .weld .ensures .2) in
     let corners = take (walk .walk .result .count) (walk .walk .result .at) in
-    let corners-so = of-corners _ ps _ (row ps) (walk .walk .result) (walk .walk .ensures .2) (omega arith) ∙ of-row _ ps (omega arith) ∙ welded-so in
-    let corners-length : length corners ≡ walk .walk .result .count = corners-count ps _ (row ps) (walk .walk .result) (walk .walk .ensures .2) (omega arith) in
+    let corners-so =
+    of-corners _ ps _ (row ps) (walk .walk .result) (walk .walk .ensures .2) (omega arith) ∙ of-row _ ps (omega arith) ∙ welded-so in
+    let corners-length : length corners ≡ walk .walk .result .count =
+    corners-count ps _ (row ps) (walk .walk .result) (walk .walk .ensures .2) (omega arith) in
     let long = long-edges (edges corners) _ _ _ (faces .normals .ensures) (fan .before .if6 .left) in
     let vs-are = over-vertices ps _ (row ps) (walk .walk .result) (walk .walk .ensures .2) (omega arith) in
     let eight-corners = walk .walk .ensures .1 in
@@ -160,11 +168,14 @@ returns-8 c =
     let ps = take (kept .weld .result .count) (kept .weld .result .at) in
     let ps-length : length ps ≡ kept .weld .result .count = length-take-le _ (kept .weld .result .at) (omega arith) in
     let welded-so =
-    of-welded _ _ count (omega arith) (omega arith) eight ps (sym (inside .points-in-range .ensures) ∙ not-false _ (kept .before .if3 .left))
+    of-welded _ _ count (omega arith) (omega arith) eight ps (sym (inside .points-in-range .ensures)
+    ∙ not-false _ (kept .before .if3 .left))
     (kept .weld .ensures .2) in
     let corners = take (walk .walk .result .count) (walk .walk .result .at) in
-    let corners-so = of-corners _ ps _ (row ps) (walk .walk .result) (walk .walk .ensures .2) (omega arith) ∙ of-row _ ps (omega arith) ∙ welded-so in
-    let corners-length : length corners ≡ walk .walk .result .count = corners-count ps _ (row ps) (walk .walk .result) (walk .walk .ensures .2) (omega arith) in
+    let corners-so =
+    of-corners _ ps _ (row ps) (walk .walk .result) (walk .walk .ensures .2) (omega arith) ∙ of-row _ ps (omega arith) ∙ welded-so in
+    let corners-length : length corners ≡ walk .walk .result .count =
+    corners-count ps _ (row ps) (walk .walk .result) (walk .walk .ensures .2) (omega arith) in
     let long = long-edges (edges corners) _ _ _ (faces .normals .ensures) (fan .before .if6 .left) in
     area-too-small _ corners _ (long .0) (fan .fan .ensures) (c .if7 .left) ∙ corners-so
 
