@@ -204,7 +204,8 @@ module _ {M : Type 1} (𝓤 : URA M) (H : Heap 𝓤) (A : Atoms 𝓤) (W : Given
           free0 ! $
           keep ! (0 ∷ 1 ∷ 2 ∷ []) $
           by !
-          (exits r u (lent-is old (now x) _ _ _ _ _ _ _ _ r p0-is p1-is p2-is p3-is p4-is p5-is p6-is p7-is r-is) old-is))))))))))))))))))))))))))))))))))))))))))))))))))
+          (exits r u (lent-is old (now x) _ _ _ _ _ _ _ _ r p0-is p1-is p2-is p3-is p4-is p5-is p6-is p7-is r-is) old-is)
+          )))))))))))))))))))))))))))))))))))))))))))))))))
 
   module _ (C : Calls 𝓤 H) (Λ : Loops 𝓤 H) (fm : FmC 𝓤 H (W .laws) C) (known : Triple 𝓤 (C point-or) (asks.Point 𝓤 H A mem run))
       (known-eight : Triple 𝓤 (C set-of-eight) (asks.Eight 𝓤 H A mem run)) where

@@ -72,7 +72,8 @@ returns-6 c =
     let welded =
     after-weld _ _ (start .args .count) (kept .weld .result) (omega arith) (omega arith) (start .good .1 .0 .1 .0 .1)
     (sym (inside .points-in-range .ensures) ∙ not-false _ (kept .before .if3 .left)) (kept .weld .ensures) in
-    let walked = after-walk _ _ _ (kept .weld .result) welded (enough .if4 .left) (walk .walk .result) (walk .walk .ensures .2) (faces .before .if5 .left) in
+    let walked =
+    after-walk _ _ _ (kept .weld .result) welded (enough .if4 .left) (walk .walk .result) (walk .walk .ensures .2) (faces .before .if5 .left) in
     let corners = first-of (walk .walk .result) in
     let length-is = walked .corners-length in
     edge-too-short _ corners _ _ (omega arith) (faces .normals .ensures) (c .if6 .taken) ∙ walked .corners-so
@@ -101,7 +102,8 @@ returns-7 c =
     let welded =
     after-weld _ _ (start .args .count) (kept .weld .result) (omega arith) (omega arith) (start .good .1 .0 .1 .0 .1)
     (sym (inside .points-in-range .ensures) ∙ not-false _ (kept .before .if3 .left)) (kept .weld .ensures) in
-    let walked = after-walk _ _ _ (kept .weld .result) welded (enough .if4 .left) (walk .walk .result) (walk .walk .ensures .2) (faces .before .if5 .left) in
+    let walked =
+    after-walk _ _ _ (kept .weld .result) welded (enough .if4 .left) (walk .walk .result) (walk .walk .ensures .2) (faces .before .if5 .left) in
     let corners = first-of (walk .walk .result) in
     let length-is = walked .corners-length in
     let long = long-edges (edges corners) _ _ _ (faces .normals .ensures) (fan .before .if6 .left) in
@@ -124,7 +126,8 @@ returns-8 c =
     let welded =
     after-weld _ _ (start .args .count) (kept .weld .result) (omega arith) (omega arith) (start .good .1 .0 .1 .0 .1)
     (sym (inside .points-in-range .ensures) ∙ not-false _ (kept .before .if3 .left)) (kept .weld .ensures) in
-    let walked = after-walk _ _ _ (kept .weld .result) welded (enough .if4 .left) (walk .walk .result) (walk .walk .ensures .2) (faces .before .if5 .left) in
+    let walked =
+    after-walk _ _ _ (kept .weld .result) welded (enough .if4 .left) (walk .walk .result) (walk .walk .ensures .2) (faces .before .if5 .left) in
     let corners = first-of (walk .walk .result) in
     let length-is = walked .corners-length in
     let long = long-edges (edges corners) _ _ _ (faces .normals .ensures) (fan .before .if6 .left) in
