@@ -1,18 +1,16 @@
 -- Around a row of corners: the edges and the fan of triangles from place i on, and the steps of the two loops over them. Assumes nothing.
-use mathlib.Core.Path.{_≡_, refl, sym, _∙_, ap, subst}
-use mathlib.Core.Bool.{Bool, true, false, cond, _&&_}
-use mathlib.Core.List.{List, [], _∷_, _++_, map, append-assoc, append-nil}
+use mathlib.Core.Path.{_≡_, refl, sym, _∙_, ap}
+use mathlib.Core.Bool.{Bool, cond}
+use mathlib.Core.List.{List, [], _∷_}
 use mathlib.Core.Logic.{_⊎_, inl, inr}
 use Prim.Native.Nat.{ℕ, _+_, _<_, _≤_}
 use native.Mathlib.Numerals.{add-one}
 use native.Mathlib.Omega.{arith}
-use lib.Dec.{ltb}
-use lib.ListN.{length, getD, take, drop, set, length-map, drop-of-length-le, List·getD-eq-default}
+use lib.ListN.{length, getD, take, drop, drop-of-length-le, List·getD-eq-default}
 use lib.Seq.{drop-cons, getD-drop, length-take-le}
-use lib.Ieee.{lt}
 use borrow.Author.Tests.{lt-ltb, le-ltb}
 use Rattle.floats.specs.declared.b2_math.B2vec2.{B2vec2}
-use Rattle.floats.specs.B2Math.{b2-sub, b2-length-squared}
+use Rattle.floats.specs.B2Math.{b2-sub}
 use Rattle.floats.specs.B2Common.{zero32}
 use Rattle.shapes.specs.declared.outline.FanSum.{FanSum}
 use Rattle.shapes.specs.Outline.{origin, point-at, place-after, edges-from, edges, with-triangle, fan-from, fan}
@@ -43,7 +41,8 @@ module _ (vs : List B2vec2) (m i : ℕ) (d : B2vec2) (within : i < m) (few : m �
     edge-at e e-is = from-following-at e (getD vs i d) e-is ∙ ap (b2-sub (following (take m vs) i)) corner-at
 
 -- ---- what follows is the head of the rest, or the first corner
-following-by : (l : List B2vec2) (i : ℕ) → i < length l → (i + 1 < length l) ⊎ (length l ≤ i + 1) → getD l (i + 1) (point-at l 0) ≡ following l i
+following-by : (l : List B2vec2) (i : ℕ) → i < length l → (i + 1 < length l) ⊎ (length l ≤ i + 1)
+    → getD l (i + 1) (point-at l 0) ≡ following l i
 following-by l i within (inl more) =
     at-place l (i + 1) (point-at l 0) more
     ∙ ap (λ (t : Bool). point-at l (cond t (i + 1) 0)) (sym (lt-ltb (i + 1) (length l) more))
@@ -52,7 +51,8 @@ following-by l i within (inr last) =
 
 following-is : (l : List B2vec2) (i : ℕ) → i < length l → getD (drop (i + 1) l) 0 (point-at l 0) ≡ following l i
 following-is l i within =
-    getD-drop (i + 1) l 0 (point-at l 0) ∙ ap (λ (k : ℕ). getD l k (point-at l 0)) plain ∙ following-by l i within (less-or-not (i + 1) (length l))
+    getD-drop (i + 1) l 0 (point-at l 0) ∙ ap (λ (k : ℕ). getD l k (point-at l 0)) plain
+    ∙ following-by l i within (less-or-not (i + 1) (length l))
   where
     plain : i + 1 + 0 ≡ i + 1
     plain = omega arith
@@ -101,20 +101,20 @@ pub fan-next : (l : List B2vec2) (i : ℕ) (s p1 p2 p3 : B2vec2) (sum new : FanS
 fan-next l i s p1 p2 p3 sum new within s-is p1-is p2-is p3-is new-is so-far =
     ap (fan-rest (point-at l 0) (drop (i + 1) l)) new-here ∙ sym here ∙ so-far
   where
-    first : B2vec2
-    first = point-at l 0
-
-    new-here : new ≡ with-triangle (b2-sub (point-at l 0) (point-at l 0)) (b2-sub (point-at l i) (point-at l 0)) (b2-sub (following l i) (point-at l 0)) sum
+    new-here : new
+        ≡ with-triangle (b2-sub (point-at l 0) (point-at l 0)) (b2-sub (point-at l i) (point-at l 0)) (b2-sub (following l i) (point-at l 0)) sum
     new-here = new-is ∙ (simp (p1-is, p2-is, p3-is, s-is))
 
     here : fan-rest (point-at l 0) (drop i l) sum
         ≡ fan-rest (point-at l 0) (drop (i + 1) l)
-        (with-triangle (b2-sub (point-at l 0) (point-at l 0)) (b2-sub (point-at l i) (point-at l 0)) (b2-sub (following l i) (point-at l 0)) sum)
+        (with-triangle (b2-sub (point-at l 0) (point-at l 0)) (b2-sub (point-at l i) (point-at l 0))
+        (b2-sub (following l i) (point-at l 0)) sum)
     here =
         ap (λ (rest : List B2vec2). fan-rest (point-at l 0) rest sum) (rest-at l i within)
         ∙ fan-head (point-at l 0) (point-at l i) (drop (i + 1) l) sum
         ∙ ap (λ (q : B2vec2). fan-rest (point-at l 0) (drop (i + 1) l)
-        (with-triangle (b2-sub (point-at l 0) (point-at l 0)) (b2-sub (point-at l i) (point-at l 0)) (b2-sub q (point-at l 0)) sum)) (following-is l i within)
+        (with-triangle (b2-sub (point-at l 0) (point-at l 0)) (b2-sub (point-at l i) (point-at l 0)) (b2-sub q (point-at l 0)) sum))
+        (following-is l i within)
 
 pub fan-ended : (l : List B2vec2) (i : ℕ) (sum : FanSum) → length l ≤ i → fan-rest (point-at l 0) (drop i l) sum ≡ fan l → sum ≡ fan l
 fan-ended l i sum past so-far = ap (λ (rest : List B2vec2). fan-rest (point-at l 0) rest sum) (sym (drop-of-length-le l past)) ∙ so-far

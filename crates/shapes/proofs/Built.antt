@@ -1,25 +1,24 @@
 -- The outline builder, refusal by refusal: what each way out of the code answers is what the definition says. Assumes nothing.
 use mathlib.Core.Path.{_≡_, refl, sym, _∙_, ap}
-use mathlib.Core.Bool.{Bool, true, false, not, cond, _&&_, _||_}
+use mathlib.Core.Bool.{Bool, true, false, not, cond, _&&_}
 use mathlib.Core.List.{List, [], _∷_, map}
 use mathlib.Core.Option.{Option, none, some}
 use Prim.Native.Nat.{ℕ, suc, _<_, _≤_}
 use native.Mathlib.Omega.{arith}
-use lib.Dec.{ltb}
 use lib.ListN.{length, take, length-map}
 use lib.Seq.{length-take-le, take-at}
-use lib.Ieee.{Float, binary32, div, lt}
+use lib.Ieee.{binary32, div, lt}
 use borrow.Author.Tests.{lt-ltb, le-ltb}
 use Rattle.floats.specs.declared.b2_math.B2vec2.{B2vec2}
 use Rattle.floats.specs.B2Common.{one32, b2-epsilon}
 use Rattle.floats.specs.B2Math.{b2-add, b2-scale}
 use Rattle.floats.specs.Ranges.{point-in-range}
 use Rattle.shapes.specs.declared.b2_polygon_shape.B2polygonShape.{B2polygonShape}
-use Rattle.shapes.specs.declared.b2_polygon_shape.PolygonAnswer.{PolygonAnswer}
 use Rattle.shapes.specs.declared.outline.Points.{Points}
 use Rattle.shapes.specs.declared.outline.FanSum.{FanSum}
-use Rattle.shapes.specs.Refusal.{accepted, wrong-number-of-points, shape-out-of-range, too-few-after-welding, walk-not-closed, edge-or-area-too-small}
-use Rattle.shapes.specs.Outline.{point-at, welded, row, edges-from, edges, long-enough, normal-of-edge, fan, centroid-of}
+use Rattle.shapes.specs.Refusal.{accepted, wrong-number-of-points, shape-out-of-range, too-few-after-welding}
+use Rattle.shapes.specs.Refusal.{walk-not-closed, edge-or-area-too-small}
+use Rattle.shapes.specs.Outline.{point-at, welded, row, edges-from, edges, long-enough, normal-of-edge, fan}
 use Rattle.shapes.specs.Polygon.{
   refused,
   all-points,
@@ -46,32 +45,35 @@ module _ (old : B2polygonShape) (points : List B2vec2) (count : ℕ) where
   -- ---- 2: the ranges
   module _ (enough : 3 ≤ count) (not-more : count ≤ 8) (eight : length points ≡ 8) where
     counted-is : b2-polygon-shape-set-counted old points count
-        ≡ cond (not (all-points point-in-range (take count points))) (refused shape-out-of-range old) (outline-of-welded old (welded (take count points)))
+        ≡ cond (not (all-points point-in-range (take count points))) (refused shape-out-of-range old)
+        (outline-of-welded old (welded (take count points)))
     unfolding b2-polygon-shape-set-counted b2-polygon-shape-set
     counted-is = simp (length-take-le count points (omega arith), le-ltb count 3 enough, le-ltb 8 count not-more)
 
     pub out-of-range : all-points point-in-range (take count points) ≡ false
         → refused shape-out-of-range old ≡ b2-polygon-shape-set-counted old points count
     out-of-range outside =
-        sym (counted-is ∙ ap (λ (t : Bool). cond (not t) (refused shape-out-of-range old) (outline-of-welded old (welded (take count points)))) outside)
+        sym (counted-is ∙ ap (λ (t : Bool). cond (not t) (refused shape-out-of-range old)
+        (outline-of-welded old (welded (take count points)))) outside)
 
     -- the points that welding keeps
-    pub of-welded : (ps : List B2vec2) → all-points point-in-range (take count points) ≡ true → ps ≡ welded (take count points)
+    of-welded : (ps : List B2vec2) → all-points point-in-range (take count points) ≡ true → ps ≡ welded (take count points)
         → outline-of-welded old ps ≡ b2-polygon-shape-set-counted old points count
     of-welded ps inside ps-is =
         ap (outline-of-welded old) ps-is
-        ∙ sym (counted-is ∙ ap (λ (t : Bool). cond (not t) (refused shape-out-of-range old) (outline-of-welded old (welded (take count points)))) inside)
+        ∙ sym (counted-is ∙ ap (λ (t : Bool). cond (not t) (refused shape-out-of-range old)
+        (outline-of-welded old (welded (take count points)))) inside)
 
 -- ---- a row of three corners or more: they stand in the first places, over the old vertices
 module _ (ps vs : List B2vec2) where
   corners-are : (places : List ℕ) (r : Points) → Walked ps vs (some places) r → take (r .count) (r .at) ≡ map (point-at ps) places
   corners-are places r walked = ap (take (r .count)) (walked .1) ∙ take-at (map (point-at ps) places) _ (r .count) (sym (walked .0))
 
-  pub corners-count : (o : Option (List ℕ)) (r : Points) → Walked ps vs o r → 3 ≤ r .count → length (take (r .count) (r .at)) ≡ r .count
+  corners-count : (o : Option (List ℕ)) (r : Points) → Walked ps vs o r → 3 ≤ r .count → length (take (r .count) (r .at)) ≡ r .count
   corners-count none r walked enough = absurd (omega arith)
   corners-count (some places) r walked enough = ap length (corners-are places r walked) ∙ sym (walked .0)
 
-  pub over-vertices : (o : Option (List ℕ)) (r : Points) → Walked ps vs o r → 3 ≤ r .count → r .at ≡ put-first (take (r .count) (r .at)) vs
+  over-vertices : (o : Option (List ℕ)) (r : Points) → Walked ps vs o r → 3 ≤ r .count → r .at ≡ put-first (take (r .count) (r .at)) vs
   over-vertices none r walked enough = absurd (omega arith)
   over-vertices (some places) r walked enough = walked .1 ∙ ap (λ (new : List B2vec2). put-first new vs) (sym (corners-are places r walked))
 
@@ -81,12 +83,13 @@ module _ (old : B2polygonShape) (ps : List B2vec2) where
   unfolding outline-of-welded
   too-few-kept few = simp (lt-ltb (length ps) 3 few)
 
-  pub of-row : 3 ≤ length ps → outline-of-row old ps (row ps) ≡ outline-of-welded old ps
+  of-row : 3 ≤ length ps → outline-of-row old ps (row ps) ≡ outline-of-welded old ps
   unfolding outline-of-welded
-  of-row enough = ap (λ (t : Bool). cond t (refused too-few-after-welding old) (outline-of-row old ps (row ps))) (sym (le-ltb (length ps) 3 enough))
+  of-row enough =
+      ap (λ (t : Bool). cond t (refused too-few-after-welding old) (outline-of-row old ps (row ps))) (sym (le-ltb (length ps) 3 enough))
 
   -- ---- 4: the walk
-  pub not-closed : (vs : List B2vec2) (o : Option (List ℕ)) (r : Points) → Walked ps vs o r → r .count < 3
+  not-closed : (vs : List B2vec2) (o : Option (List ℕ)) (r : Points) → Walked ps vs o r → r .count < 3
       → refused walk-not-closed old ≡ outline-of-row old ps o
   not-closed vs none r walked few = refl
   not-closed vs (some places) r walked few =
@@ -94,7 +97,7 @@ module _ (old : B2polygonShape) (ps : List B2vec2) where
       let count-is = walked .0 in
       simp (lt-ltb (length places) 3 (omega arith))
 
-  pub of-corners : (vs : List B2vec2) (o : Option (List ℕ)) (r : Points) → Walked ps vs o r → 3 ≤ r .count
+  of-corners : (vs : List B2vec2) (o : Option (List ℕ)) (r : Points) → Walked ps vs o r → 3 ≤ r .count
       → outline-of-corners old (take (r .count) (r .at)) ≡ outline-of-row old ps o
   of-corners vs none r walked enough = absurd (omega arith)
   of-corners vs (some places) r walked enough =
@@ -103,6 +106,42 @@ module _ (old : B2polygonShape) (ps : List B2vec2) where
       ap (outline-of-corners old) (corners-are ps vs places r walked)
       ∙ ap (λ (t : Bool). cond t (refused walk-not-closed old) (outline-of-corners old (map (point-at ps) places)))
       (sym (le-ltb (length places) 3 (omega arith)))
+
+-- ---- what is known after welding, and after the walk
+abbrev pub first-of : Points → List B2vec2
+first-of r = take (r .count) (r .at)
+
+pub record AfterWeld (old : B2polygonShape) (points : List B2vec2) (count : ℕ) (kept : Points) : Type 0 where
+  pub kept-length : length (first-of kept) ≡ kept .count
+  pub kept-so : outline-of-welded old (first-of kept) ≡ b2-polygon-shape-set-counted old points count
+
+pub record AfterWalk (old : B2polygonShape) (points : List B2vec2) (count : ℕ) (w : Points) : Type 0 where
+  pub corners-length : length (first-of w) ≡ w .count
+  pub corners-over : w .at ≡ put-first (first-of w) (old .«m_vertices»)
+  pub corners-so : outline-of-corners old (first-of w) ≡ b2-polygon-shape-set-counted old points count
+
+module _ (old : B2polygonShape) (points : List B2vec2) (count : ℕ) (kept : Points) where
+  pub after-weld : 3 ≤ count → count ≤ 8 → length points ≡ 8 → all-points point-in-range (take count points) ≡ true
+      → (kept .count ≤ count) × (length (kept .at) ≡ 8) × (first-of kept ≡ welded (take count points)) → AfterWeld old points count kept
+  after-weld enough not-more eight inside welds = record {
+    kept-length = length-take-le (kept .count) (kept .at) (omega arith);
+    kept-so = of-welded old points count enough not-more eight (first-of kept) inside (welds .2);
+  }
+
+  module _ (known : AfterWeld old points count kept) (enough : 3 ≤ kept .count) (w : Points)
+      (walked : Walked (first-of kept) (old .«m_vertices») (row (first-of kept)) w) where
+    row-so : outline-of-row old (first-of kept) (row (first-of kept)) ≡ b2-polygon-shape-set-counted old points count
+    row-so = let same = known .kept-length in of-row old (first-of kept) (omega arith) ∙ known .kept-so
+
+    pub walk-not-back : w .count < 3 → refused walk-not-closed old ≡ b2-polygon-shape-set-counted old points count
+    walk-not-back few = not-closed old (first-of kept) (old .«m_vertices») (row (first-of kept)) w walked few ∙ row-so
+
+    pub after-walk : 3 ≤ w .count → AfterWalk old points count w
+    after-walk closed = record {
+      corners-length = corners-count (first-of kept) (old .«m_vertices») (row (first-of kept)) w walked closed;
+      corners-over = over-vertices (first-of kept) (old .«m_vertices») (row (first-of kept)) w walked closed;
+      corners-so = of-corners old (first-of kept) (old .«m_vertices») (row (first-of kept)) w walked closed ∙ row-so;
+    }
 
 -- ---- 5: edges and area
 length-edges-from : (first p : B2vec2) (qs : List B2vec2) → length (edges-from first p qs) ≡ suc (length qs)
@@ -139,7 +178,8 @@ module _ (old : B2polygonShape) (corners : List B2vec2) where
     unfolding outline-of-corners
     area-too-small small = simp (all-long, ap (λ (x : FanSum). lt b2-epsilon (x .area)) (sym sum-is) ∙ small)
 
-    pub outline-built : (vs ns : List B2vec2) (m : ℕ) (s scaled centroid : B2vec2) → lt b2-epsilon (sum .area) ≡ true → vs ≡ put-first corners (old .«m_vertices»)
+    pub outline-built : (vs ns : List B2vec2) (m : ℕ) (s scaled centroid : B2vec2) → lt b2-epsilon (sum .area) ≡ true
+        → vs ≡ put-first corners (old .«m_vertices»)
         → ns ≡ put-first (map normal-of-edge (edges corners)) (old .«m_normals») → m ≡ length corners
         → scaled ≡ b2-scale (div binary32 one32 (sum .area)) (sum .moment) → centroid ≡ b2-add scaled s → s ≡ point-at corners 0
         → record {

@@ -1,8 +1,8 @@
--- The marked cases of document 01 about outlines and validate, computed by antt from the definitions; the given shape is any. Assumes nothing.
+-- The marked cases of document 01 about outlines and validate, computed by antt from the definitions; the given shape is any. Assumes
+-- nothing.
 use mathlib.Core.Path.{_≡_, refl}
 use mathlib.Core.Bool.{true}
 use mathlib.Core.List.{List, [], _∷_}
-use Prim.Native.Nat.{ℕ}
 use lib.ListN.{take}
 use lib.Ieee.{Float, binary32, neg, add, sub, mul, div, le, lt, eq, ofBits}
 use Rattle.floats.specs.declared.b2_math.B2vec2.{B2vec2}

@@ -28,7 +28,8 @@ pub facing-starts : (l old : List B2vec2) → Facing l old 0 old
 facing-starts l old =
     record { done = []; done-length = refl; filled = refl; rest = edges-start l; long = ap long-enough (edges-start l) }
 
-module _ (l old ns : List B2vec2) (i : ℕ) (e : B2vec2) (f : Facing l old i ns) (within : i < length l) (e-is : e ≡ b2-sub (following l i) (point-at l i)) where
+module _ (l old ns : List B2vec2) (i : ℕ) (e : B2vec2) (f : Facing l old i ns) (within : i < length l)
+    (e-is : e ≡ b2-sub (following l i) (point-at l i)) where
   edges-here : edges-rest (point-at l 0) (drop i l) ≡ e ∷ edges-rest (point-at l 0) (drop (i + 1) l)
   edges-here = edges-next l i within ∙ ap (λ (x : B2vec2). x ∷ edges-rest (point-at l 0) (drop (i + 1) l)) (sym e-is)
 
@@ -36,7 +37,8 @@ module _ (l old ns : List B2vec2) (i : ℕ) (e : B2vec2) (f : Facing l old i ns)
       → t && long-enough (edges-rest (point-at l 0) (drop (i + 1) l)) ≡ long-enough (edges l)
   unfolding long-enough
   long-here t t-is =
-      ap (λ (u : Bool). u && long-enough (edges-rest (point-at l 0) (drop (i + 1) l))) (sym t-is) ∙ sym (ap long-enough edges-here) ∙ f .long
+      ap (λ (u : Bool). u && long-enough (edges-rest (point-at l 0) (drop (i + 1) l))) (sym t-is) ∙ sym (ap long-enough edges-here)
+      ∙ f .long
 
   -- the edge is long enough
   pub facing-next : (n : B2vec2) → length l ≤ length old → n ≡ normal-of-edge e → lt epsilon-squared (b2-length-squared e) ≡ true
@@ -55,7 +57,8 @@ module _ (l old ns : List B2vec2) (i : ℕ) (e : B2vec2) (f : Facing l old i ns)
   }
 
   -- it is too short
-  pub facing-short : (r : Points) → lt epsilon-squared (b2-length-squared e) ≡ false → r .count ≡ 0 → Faced (edges l) old (long-enough (edges l)) r
+  pub facing-short : (r : Points) → lt epsilon-squared (b2-length-squared e) ≡ false → r .count ≡ 0
+      → Faced (edges l) old (long-enough (edges l)) r
   facing-short r is-short count-is = subst (λ (t : Bool). Faced (edges l) old t r) (long-here false is-short) count-is
 
 pub facing-ended : (l old ns : List B2vec2) (i : ℕ) (r : Points) → Facing l old i ns → i ≡ length l → r .count ≡ i → r .at ≡ ns

@@ -1,10 +1,10 @@
 -- A lent slice of any length, read at eight places: the builder over those places and the slice's length is the builder over the slice.
 -- Assumes nothing.
-use mathlib.Core.Path.{_≡_, refl, sym, _∙_, ap}
+use mathlib.Core.Path.{_≡_, refl, _∙_, ap}
 use mathlib.Core.Bool.{Bool, true, false, cond, _||_}
 use mathlib.Core.List.{List, [], _∷_}
 use mathlib.Core.Logic.{_⊎_, inl, inr}
-use Prim.Native.Nat.{ℕ, _<_, _≤_}
+use Prim.Native.Nat.{_<_, _≤_}
 use native.Mathlib.Omega.{arith}
 use lib.Dec.{ltb}
 use lib.ListN.{length, take}
@@ -43,7 +43,8 @@ module _ (old : B2polygonShape) (l : List B2vec2) where
   unfolding b2-polygon-shape-set-counted b2-polygon-shape-set
   counted-by (inl many) = simp (le-ltb (length l) 3 (omega arith), lt-ltb 8 (length l) many)
   counted-by (inr few) =
-      ap (λ (k : List B2vec2). cond (ltb (length l) 3 || ltb 8 (length l)) (refused wrong-number-of-points old) (b2-polygon-shape-set old k))
+      ap (λ (k : List B2vec2). cond (ltb (length l) 3 || ltb 8 (length l)) (refused wrong-number-of-points old)
+      (b2-polygon-shape-set old k))
       (eight-hold-all l few)
       ∙ cond-twice (ltb (length l) 3 || ltb 8 (length l)) (refused wrong-number-of-points old) _
 

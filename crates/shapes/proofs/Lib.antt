@@ -8,4 +8,5 @@ pub mod Built
 pub mod Counted
 pub mod Sides
 pub mod Lent
+pub mod Calls
 pub mod Controls

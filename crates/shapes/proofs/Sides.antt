@@ -1,6 +1,6 @@
 -- On which side of a face a corner lies, and the two counts over corners and faces, a step at a time. Assumes nothing.
-use mathlib.Core.Path.{_≡_, sym, _∙_, ap}
-use mathlib.Core.Bool.{Bool, true, false, not, _&&_, _||_}
+use mathlib.Core.Path.{_≡_, sym, _∙_}
+use mathlib.Core.Bool.{Bool, true, not, _&&_}
 use mathlib.Core.List.{List}
 use Prim.Native.Nat.{ℕ, _+_, _<_}
 use native.Mathlib.Numerals.{add-one}
@@ -10,7 +10,7 @@ use borrow.Author.Tests.{eq-eqb, ne-eqb}
 use Rattle.floats.specs.declared.b2_math.B2vec2.{B2vec2}
 use Rattle.floats.specs.B2Common.{zero32}
 use Rattle.floats.specs.B2Math.{b2-sub, b2-cross}
-use Rattle.shapes.specs.Outline.{point-at, place-after}
+use Rattle.shapes.specs.Outline.{place-after}
 use Rattle.shapes.specs.Validate.{not-right-of, corners-not-right, faces-convex}
 use Rattle.shapes.proofs.Tests.{at-place}
 
@@ -38,12 +38,14 @@ module _ (vs : List B2vec2) (count i j : ℕ) where
           at-place vs j d j-in,
         )
 
-pub corners-next : (vs : List B2vec2) (count i j : ℕ) (so-far here : Bool) → so-far ≡ corners-not-right vs count i j → here ≡ not-right-of vs count i j
+pub corners-next : (vs : List B2vec2) (count i j : ℕ) (so-far here : Bool) → so-far ≡ corners-not-right vs count i j
+    → here ≡ not-right-of vs count i j
     → so-far && here ≡ corners-not-right vs count i (j + 1)
 unfolding corners-not-right
 corners-next vs count i j so-far here so-far-is here-is = rw (add-one, so-far-is, here-is)
 
-pub faces-next : (vs : List B2vec2) (count i : ℕ) (so-far here : Bool) → so-far ≡ faces-convex vs count i → here ≡ corners-not-right vs count i count
+pub faces-next : (vs : List B2vec2) (count i : ℕ) (so-far here : Bool) → so-far ≡ faces-convex vs count i
+    → here ≡ corners-not-right vs count i count
     → so-far && here ≡ faces-convex vs count (i + 1)
 unfolding faces-convex
 faces-next vs count i so-far here so-far-is here-is = rw (add-one, so-far-is, here-is)

@@ -1,6 +1,6 @@
 -- The tests of the outline builder, from the values that the code computes on the way. Assumes nothing.
 use mathlib.Core.Path.{_≡_, refl, sym, _∙_, ap}
-use mathlib.Core.Bool.{Bool, true, false, cond, _&&_, _||_}
+use mathlib.Core.Bool.{Bool, true, false, cond, _||_}
 use Prim.Native.Nat.{ℕ, zero, suc, _+_, _-_, _<_, _≤_}
 use mathlib.Core.List.{List, [], _∷_}
 use mathlib.Core.Logic.{_⊎_, inl, inr}
@@ -16,7 +16,8 @@ use Rattle.floats.specs.B2Common.{zero32}
 use Rattle.floats.specs.B2Math.{b2-sub, b2-cross, b2-length-squared}
 use Rattle.shapes.specs.Outline.{origin, point-at, later-places, comes-before, earlier, closer, replaces}
 
-module _ (corner candidate p r v : B2vec2) (k : Float) (r-is : r ≡ b2-sub candidate corner) (v-is : v ≡ b2-sub p corner) (k-is : k ≡ b2-cross r v) where
+module _ (corner candidate p r v : B2vec2) (k : Float) (r-is : r ≡ b2-sub candidate corner) (v-is : v ≡ b2-sub p corner)
+    (k-is : k ≡ b2-cross r v) where
   cross-is : k ≡ b2-cross (b2-sub candidate corner) (b2-sub p corner)
   cross-is = k-is ∙ ap (λ u. b2-cross u v) r-is ∙ ap (λ u. b2-cross (b2-sub candidate corner) u) v-is
 
@@ -74,7 +75,8 @@ earlier-at l d r best i best-in i-in r-is = r-is ∙ simp (at-place l best d bes
 
 module _ (l : List B2vec2) (corner candidate j : ℕ) where
   pub replaces-itself : candidate ≡ corner → replaces l corner candidate j ≡ true
-  replaces-itself same = ap (λ (t : Bool). t || closer (point-at l corner) (point-at l candidate) (point-at l j)) (eq-eqb candidate corner same)
+  replaces-itself same =
+      ap (λ (t : Bool). t || closer (point-at l corner) (point-at l candidate) (point-at l j)) (eq-eqb candidate corner same)
 
   pub replaces-at : (d : B2vec2) (r : Bool) → corner < length l → candidate < length l → j < length l → (candidate ≡ corner → ⊥)
       → r ≡ closer (getD l corner d) (getD l candidate d) (getD l j d) → r ≡ replaces l corner candidate j

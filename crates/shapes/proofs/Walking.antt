@@ -1,7 +1,6 @@
 -- The walk of the outline builder on its way: the corners done stand over the old points, and those to come complete the row. Assumes
 -- nothing.
 use mathlib.Core.Path.{_≡_, refl, sym, _∙_, ap, subst}
-use mathlib.Core.Bool.{Bool, true, false}
 use mathlib.Core.List.{List, [], _∷_, _++_, map}
 use mathlib.Core.Option.{Option, some, Option·map}
 use Prim.Native.Nat.{ℕ, suc, _+_, _-_, _<_, _≤_}
@@ -62,16 +61,21 @@ module _ (ps old corners : List B2vec2) (m ih : ℕ) (p : B2vec2) (w : Walking p
     filled = filled-here;
     rest =
         ap (λ (k : ℕ). Option·map (_++_ (w .done ++ (ih ∷ []))) (walk eqb (next ps) (start ps) (8 - (m + 1)) k)) after-is
-        ∙ walk-next eqb (next ps) (start ps) ih (8 - (m + 1)) (w .done) (row ps) rest-here (ne-eqb (next ps ih) (start ps) (λ e. other (after-is ∙ e)));
+        ∙ walk-next eqb (next ps) (start ps) ih (8 - (m + 1)) (w .done) (row ps) rest-here
+        (ne-eqb (next ps ih) (start ps) (λ e. other (after-is ∙ e)));
   }
 
   -- it is the start
   pub walking-back : (r : Points) → next ps ih ≡ start ps → r .count ≡ m + 1 → r .at ≡ set corners m p → Walked ps old (row ps) r
   unfolding done-here
   walking-back r back count-is at-is =
-      subst (λ (o : Option (List ℕ)). Walked ps old o r)
-      (walk-back eqb (next ps) (start ps) ih (8 - (m + 1)) (w .done) (row ps) rest-here (eq-eqb (next ps ih) (start ps) back))
-      (count-is ∙ sym (length-map (w .done ++ (ih ∷ [])) (point-at ps) ∙ length-one-more (w .done) ih m (w .done-length)), at-is ∙ filled-here)
+      subst (λ (o : Option (List ℕ)). Walked ps old o r) row-is (count-is ∙ sym places-length, at-is ∙ filled-here)
+    where
+      row-is : some (w .done ++ (ih ∷ [])) ≡ row ps
+      row-is = walk-back eqb (next ps) (start ps) ih (8 - (m + 1)) (w .done) (row ps) rest-here (eq-eqb (next ps ih) (start ps) back)
+
+      places-length : length (map (point-at ps) (w .done ++ (ih ∷ []))) ≡ m + 1
+      places-length = length-map (w .done ++ (ih ∷ [])) (point-at ps) ∙ length-one-more (w .done) ih m (w .done-length)
 
 -- not back after eight
 pub walking-lost : (ps old corners : List B2vec2) (m ih : ℕ) (r : Points) → Walking ps old m ih corners → 8 ≤ m → r .count ≡ 0

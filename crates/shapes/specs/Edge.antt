@@ -1,6 +1,5 @@
 -- Walls, b2_set_one_sided and b2_set_two_sided: the radius is kept, and by the second the ghost points too. Refusal 2. Definitions only.
 use mathlib.Core.Bool.{Bool, true, false, cond, _&&_}
-use Prim.Native.Nat.{ℕ}
 use Rattle.floats.specs.declared.b2_math.B2vec2.{B2vec2}
 use Rattle.floats.specs.Ranges.{point-in-range}
 use Rattle.shapes.specs.declared.b2_edge_shape.B2edgeShape.{B2edgeShape}

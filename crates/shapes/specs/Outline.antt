@@ -11,7 +11,8 @@ use Rattle.algebra.specs.Loops.{places, weld, scan, walk}
 use Rattle.floats.specs.declared.b2_math.B2vec2.{B2vec2}
 use Rattle.shapes.specs.declared.outline.FanSum.{FanSum}
 use Rattle.floats.specs.B2Common.{zero32, half32, one32}
-use Rattle.floats.specs.B2Math.{vec2, b2-add, b2-sub, b2-scale, b2-cross, b2-cross-vec-by-scalar, b2-length-squared, b2-distance-vec2-squared, b2-normalize}
+use Rattle.floats.specs.B2Math.{vec2, b2-add, b2-sub, b2-scale, b2-cross, b2-cross-vec-by-scalar}
+use Rattle.floats.specs.B2Math.{b2-length-squared, b2-distance-vec2-squared, b2-normalize}
 
 abbrev pub origin : B2vec2
 origin = vec2 zero32 zero32
@@ -95,7 +96,11 @@ third = ofBits binary32 0x3eaa_aaab
 abbrev pub with-triangle : B2vec2 → B2vec2 → B2vec2 → FanSum → FanSum
 with-triangle p1 p2 p3 sum =
     let part = mul binary32 half32 (b2-cross (b2-sub p2 p1) (b2-sub p3 p1)) in
-    record { area = add binary32 (sum .area) part; moment = b2-add (sum .moment) (b2-scale (mul binary32 part third) (b2-add (b2-add p1 p2) p3)) }
+    record {
+      area = add binary32 (sum .area) part;
+      moment = b2-add (sum .moment)
+          (b2-scale (mul binary32 part third) (b2-add (b2-add p1 p2) p3));
+    }
 
 abbrev pub fan-from : B2vec2 → B2vec2 → List B2vec2 → FanSum → FanSum
 fan-from s p [] sum = with-triangle (b2-sub s s) (b2-sub p s) (b2-sub s s) sum

@@ -8,7 +8,7 @@ use Prim.Native.Nat.{ℕ}
 use lib.ListN.{length}
 use Rattle.floats.specs.declared.b2_math.B2vec2.{B2vec2}
 use Rattle.shapes.specs.declared.outline.Points.{Points}
-use Rattle.shapes.specs.Outline.{point-at, edges, long-enough, normal-of-edge}
+use Rattle.shapes.specs.Outline.{point-at, edges, normal-of-edge}
 use Rattle.shapes.specs.Polygon.{put-first}
 
 -- new points over the old ones

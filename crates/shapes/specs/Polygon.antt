@@ -1,4 +1,5 @@
--- The outline builder, b2_polygon_shape_set, as document 01 has it: weld, start, walk, normals, centroid, with the refusals 1, 2, 3, 4, 5 in
+-- The outline builder, b2_polygon_shape_set, as document 01 has it: weld, start, walk, normals, centroid, with the refusals 1, 2, 3, 4,
+-- 5 in
 -- that order and no other; a refused call hands back the outline that it was given. Definitions only.
 use mathlib.Core.Bool.{Bool, true, not, cond, _&&_, _||_}
 use mathlib.Core.List.{List, [], _∷_, _++_, map}
@@ -13,7 +14,8 @@ use Rattle.floats.specs.Ranges.{point-in-range}
 use Rattle.shapes.specs.declared.b2_polygon_shape.B2polygonShape.{B2polygonShape}
 use Rattle.shapes.specs.declared.b2_polygon_shape.PolygonAnswer.{PolygonAnswer}
 use Rattle.shapes.specs.declared.outline.FanSum.{FanSum}
-use Rattle.shapes.specs.Refusal.{accepted, wrong-number-of-points, shape-out-of-range, too-few-after-welding, walk-not-closed, edge-or-area-too-small}
+use Rattle.shapes.specs.Refusal.{accepted, wrong-number-of-points, shape-out-of-range, too-few-after-welding}
+use Rattle.shapes.specs.Refusal.{walk-not-closed, edge-or-area-too-small}
 use Rattle.shapes.specs.Outline.{point-at, welded, row, edges, long-enough, normal-of-edge, fan, centroid-of}
 
 abbrev pub refused : ℕ → B2polygonShape → PolygonAnswer
@@ -42,7 +44,8 @@ finished old corners sum = record {
 
 unfoldable pub outline-of-corners : B2polygonShape → List B2vec2 → PolygonAnswer
 outline-of-corners old corners =
-    cond (long-enough (edges corners) && lt b2-epsilon (fan corners .area)) (finished old corners (fan corners)) (refused edge-or-area-too-small old)
+    cond (long-enough (edges corners) && lt b2-epsilon (fan corners .area)) (finished old corners (fan corners))
+    (refused edge-or-area-too-small old)
 
 abbrev pub outline-of-row : B2polygonShape → List B2vec2 → Option (List ℕ) → PolygonAnswer
 outline-of-row old ps none = refused walk-not-closed old

@@ -1,6 +1,5 @@
 // Outlines (Box2D's b2_polygon_shape.h).
 ghost use mathlib.Core.Path.{_≡_};
-ghost use mathlib.Core.List.{[], _∷_};
 ghost use Rattle.shapes.specs.Polygon.{b2-polygon-shape-set-counted, b2-polygon-shape-set};
 ghost use Rattle.shapes.specs.Boxes.{b2-polygon-shape-set-as-box, b2-polygon-shape-set-as-box-angle};
 ghost use Rattle.shapes.specs.Validate.{b2-polygon-shape-validate};
@@ -112,24 +111,6 @@ pub fn b2_polygon_shape_set_core(
     }
 }
 
-// The outline of count points, in eight places.
-fn set_of_eight(
-    old: B2polygonShape,
-    p0: B2vec2,
-    p1: B2vec2,
-    p2: B2vec2,
-    p3: B2vec2,
-    p4: B2vec2,
-    p5: B2vec2,
-    p6: B2vec2,
-    p7: B2vec2,
-    count: usize,
-) -> PolygonAnswer
-    ensures { λ r. ⌜ r ≡ b2-polygon-shape-set-counted old (p0 ∷ p1 ∷ p2 ∷ p3 ∷ p4 ∷ p5 ∷ p6 ∷ p7 ∷ []) count ⌝ }
-{
-    b2_polygon_shape_set_core(old, [p0, p1, p2, p3, p4, p5, p6, p7], count)
-}
-
 // The outline of the points of a lent slice.
 pub fn b2_polygon_shape_set(old: B2polygonShape, vertices: &[B2vec2]) -> PolygonAnswer
     ensures { λ r. ⌜ r ≡ b2-polygon-shape-set old (now (vertices .entry)) ⌝ }
@@ -142,7 +123,7 @@ pub fn b2_polygon_shape_set(old: B2polygonShape, vertices: &[B2vec2]) -> Polygon
     let p5 = places::point_or(vertices, 5);
     let p6 = places::point_or(vertices, 6);
     let p7 = places::point_or(vertices, 7);
-    set_of_eight(old, p0, p1, p2, p3, p4, p5, p6, p7, vertices.len())
+    places::set_of_eight(old, p0, p1, p2, p3, p4, p5, p6, p7, vertices.len())
 }
 
 // A box of half-widths hx and hy around the origin.

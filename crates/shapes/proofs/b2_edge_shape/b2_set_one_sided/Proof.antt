@@ -25,9 +25,11 @@ returns c =
     let third = c .before in
     let second = third .before in
     let first = second .before in
-    let args = first .before .before .args in
-    chosen (point-in-range (args .v0) && point-in-range (args .v1) && point-in-range (args .v2) && point-in-range (args .v3)) _ _ _ (c .if1 .taken)
-    (simp (third .point-in-range4 .ensures, second .point-in-range3 .ensures, first .point-in-range2 .ensures, first .before .point-in-range .ensures))
+    let zeroth = first .before in
+    let args = zeroth .before .args in
+    chosen (point-in-range (args .v0) && point-in-range (args .v1) && point-in-range (args .v2) && point-in-range (args .v3)) _ _ _
+    (c .if1 .taken)
+    (simp (third .point-in-range4 .ensures, second .point-in-range3 .ensures, first .point-in-range2 .ensures, zeroth .point-in-range .ensures))
 
 returns-2 : tie.Need-returns-2
 unfolding b2-set-one-sided
@@ -35,9 +37,11 @@ returns-2 c =
     let third = c .before in
     let second = third .before in
     let first = second .before in
-    let args = first .before .before .args in
-    unchosen (point-in-range (args .v0) && point-in-range (args .v1) && point-in-range (args .v2) && point-in-range (args .v3)) _ _ _ (c .if1 .left)
-    (simp (third .point-in-range4 .ensures, second .point-in-range3 .ensures, first .point-in-range2 .ensures, first .before .point-in-range .ensures))
+    let zeroth = first .before in
+    let args = zeroth .before .args in
+    unchosen (point-in-range (args .v0) && point-in-range (args .v1) && point-in-range (args .v2) && point-in-range (args .v3)) _ _ _
+    (c .if1 .left)
+    (simp (third .point-in-range4 .ensures, second .point-in-range3 .ensures, first .point-in-range2 .ensures, zeroth .point-in-range .ensures))
 
 pub b2-set-one-sided-spec : {M : Type 1} → statement M
 b2-set-one-sided-spec =

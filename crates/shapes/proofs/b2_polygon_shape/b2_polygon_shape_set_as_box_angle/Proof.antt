@@ -38,7 +38,8 @@ returns-2 c =
     let tests = shape .before in
     let args = tests .before .before .before .args in
     chosen (not (rotation-in-range (args .q))) _ _ _ (c .if2 .taken) (simp (rotation .rotation-in-range .ensures))
-    ∙ unchosen (not (coordinate-in-range (args .hx) && coordinate-in-range (args .hy) && point-in-range (args .center))) _ _ _ (shape .if1 .left)
+    ∙ unchosen (not (coordinate-in-range (args .hx) && coordinate-in-range (args .hy) && point-in-range (args .center))) _ _ _
+    (shape .if1 .left)
     (simp (tests .point-in-range .ensures, tests .before .coordinate-in-range2 .ensures, tests .before .before .coordinate-in-range .ensures))
 
 b2-mul-transform-by-vec2-requires : tie.Need-b2-mul-transform-by-vec2-requires
@@ -101,7 +102,8 @@ returns-3 c =
       vertex1 .b2-mul-transform-by-vec2 .ensures,
     )
     (unchosen (not (rotation-in-range (args .q))) _ _ _ (placed .if2 .left) (simp (rotation .rotation-in-range .ensures))
-    ∙ unchosen (not (coordinate-in-range (args .hx) && coordinate-in-range (args .hy) && point-in-range (args .center))) _ _ _ (shape .if1 .left)
+    ∙ unchosen (not (coordinate-in-range (args .hx) && coordinate-in-range (args .hy) && point-in-range (args .center))) _ _ _
+    (shape .if1 .left)
     (simp (tests .point-in-range .ensures, tests .before .coordinate-in-range2 .ensures, tests .before .before .coordinate-in-range .ensures)))
 
 pub b2-polygon-shape-set-as-box-angle-spec : {M : Type 1} → statement M

@@ -1,7 +1,7 @@
 -- The corners below j are tested so far. Assumes nothing.
 use borrow.Author.Needs.{needs}
 use mathlib.Core.Path.{_≡_, refl, _∙_, ap}
-use Prim.Native.Nat.{ℕ, _≤_, _<_, _-_}
+use Prim.Native.Nat.{_≤_, _<_, _-_}
 use native.Mathlib.Omega.{arith}
 use Rattle.shapes.specs.Validate.{corners-not-right}
 use Rattle.shapes.proofs.Sides.{corners-next}
@@ -30,8 +30,13 @@ loop-less c = search needs
 loop-again : tie.Need-loop-again Inv-loop μ-loop
 loop-again c =
     let loop = c .before .before in
-    let args = loop .before .args in
-    (omega arith, omega arith, omega arith, corners-next (args .vs) (args .count) (args .i) (loop .loop .j) _ _ (loop .loop .inv .3) (c .not-right-of .ensures))
+    let args = loop .before .args in (
+      omega arith,
+      omega arith,
+      omega arith,
+      corners-next (args .vs) (args .count) (args .i) (loop .loop .j) _ _ (loop .loop .inv .3)
+          (c .not-right-of .ensures),
+    )
 
 returns : tie.Need-returns Inv-loop μ-loop
 returns c =

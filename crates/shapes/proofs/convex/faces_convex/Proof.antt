@@ -1,7 +1,7 @@
 -- The faces below i are tested so far. Assumes nothing.
 use borrow.Author.Needs.{needs}
 use mathlib.Core.Path.{_≡_, refl, _∙_, ap}
-use Prim.Native.Nat.{ℕ, _≤_, _<_, _-_}
+use Prim.Native.Nat.{_≤_, _-_}
 use native.Mathlib.Omega.{arith}
 use Rattle.shapes.specs.Validate.{faces-convex}
 use Rattle.shapes.proofs.Sides.{faces-next}

@@ -62,7 +62,8 @@ returns-3 c =
     let start = after .before in
     let eight = start .good .0 .1 .0 .1 in
     let next-below = after .after .ensures .0 in
-    neither-end (start .args .t1) (start .args .count) (start .args .i) (start .args .j) _ (after .after .ensures .1) (first .if1 .left) _ _ _ _
+    neither-end (start .args .t1) (start .args .count) (start .args .i) (start .args .j) _ (after .after .ensures .1)
+    (first .if1 .left) _ _ _ _
     (second .if2 .left) (omega arith) (omega arith) (omega arith) (e .b2-sub .ensures) (v .b2-sub2 .ensures) (c .b2-cross .ensures)
 
 pub not-right-of-spec : {M : Type 1} → statement M

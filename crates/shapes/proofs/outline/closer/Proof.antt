@@ -16,7 +16,8 @@ b2-cross-requires c κs = search needs
 returns : tie.Need-returns
 returns c =
     let cross = c .before in
-    closer-below _ _ _ _ _ _ (cross .before .before .b2-sub .ensures) (cross .before .b2-sub2 .ensures) (cross .b2-cross .ensures) (c .if1 .taken)
+    closer-below _ _ _ _ _ _ (cross .before .before .b2-sub .ensures) (cross .before .b2-sub2 .ensures) (cross .b2-cross .ensures)
+    (c .if1 .taken)
 
 b2-length-squared-requires : tie.Need-b2-length-squared-requires
 b2-length-squared-requires c κs = search needs
@@ -28,7 +29,8 @@ returns-2 : tie.Need-returns-2
 returns-2 c =
     let cross = c .before .before .before .before in
     closer-level _ _ _ _ _ _ (cross .before .before .b2-sub .ensures) (cross .before .b2-sub2 .ensures) (cross .b2-cross .ensures) _ _
-    (c .before .before .before .if1 .left) (c .before .before .if2 .taken) (c .before .b2-length-squared .ensures) (c .b2-length-squared2 .ensures)
+    (c .before .before .before .if1 .left) (c .before .before .if2 .taken) (c .before .b2-length-squared .ensures)
+    (c .b2-length-squared2 .ensures)
 
 returns-3 : tie.Need-returns-3
 returns-3 c =

@@ -1,7 +1,7 @@
 -- The sum so far, and the triangles that are left. Assumes nothing.
 use borrow.Author.Needs.{needs}
-use mathlib.Core.Path.{_≡_, refl, sym, _∙_, ap}
-use Prim.Native.Nat.{_≤_, _<_, _-_}
+use mathlib.Core.Path.{_≡_}
+use Prim.Native.Nat.{_≤_, _-_}
 use native.Mathlib.Omega.{arith}
 use lib.ListN.{length, take, drop}
 use lib.Seq.{length-take-le}
@@ -31,8 +31,15 @@ loop-holds c =
     let vs = start .args .t1 in
     let m = start .args .m in
     let eight = start .good .0 .1 .0 .1 in
-    let count : length (take m vs) ≡ m = length-take-le m vs (omega arith) in
-    (omega arith, omega arith, eight, corner-at vs m 0 _ (omega arith) (omega arith), c .b2-sub .ensures, fan-start (take m vs) (omega arith))
+    let count : length (take m vs) ≡ m = length-take-le m vs (omega arith) in (
+      omega arith,
+      omega arith,
+      eight,
+      corner-at vs m 0 _ (omega arith) (omega arith),
+      c .b2-sub .ensures,
+      fan-start (take m vs)
+          (omega arith),
+    )
 
 mul-b2-sub : tie.Need-mul-b2-sub Inv-loop μ-loop
 mul-b2-sub c = search needs
@@ -78,7 +85,8 @@ loop-again c =
     let count : length (take m vs) ≡ m = length-take-le m vs (omega arith) in
     let p2-is = from-corner-at vs m i _ (omega arith) (omega arith) _ _ (second .b2-sub2 .ensures) in
     let p3-is =
-    from-following-at vs m i _ (omega arith) (omega arith) _ (after .after .ensures .0) (after .after .ensures .1) _ _ (third .b2-sub3 .ensures) in (
+    from-following-at vs m i _ (omega arith) (omega arith) _ (after .after .ensures .0) (after .after .ensures .1) _ _
+    (third .b2-sub3 .ensures) in (
       omega arith,
       omega arith,
       inv .2,

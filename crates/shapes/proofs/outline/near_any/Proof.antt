@@ -38,7 +38,8 @@ returns c =
     let n = loop .before .args .n in
     let j = loop .loop .j in
     let within : j < length (take n ps) = first-places n j ps (omega arith) (omega arith) in
-    near-found too-near _ (take n ps) j _ _ within (sym (getD-take n ps j _ (omega arith))) (loop .loop .inv .3) (sym (c .before .too-near .ensures) ∙ c .if1 .taken)
+    near-found too-near _ (take n ps) j _ _ within (sym (getD-take n ps j _ (omega arith))) (loop .loop .inv .3)
+    (sym (c .before .too-near .ensures) ∙ c .if1 .taken)
 
 add-j : tie.Need-add-j Inv-loop μ-loop
 add-j c = search needs
@@ -56,7 +57,8 @@ loop-again c =
       omega arith,
       omega arith,
       loop .loop .inv .2,
-      near-next too-near _ (take n ps) j _ _ within (sym (getD-take n ps j _ (omega arith))) (loop .loop .inv .3) (sym (c .before .too-near .ensures) ∙ c .if1 .left),
+      near-next too-near _ (take n ps) j _ _ within (sym (getD-take n ps j _ (omega arith))) (loop .loop .inv .3)
+          (sym (c .before .too-near .ensures) ∙ c .if1 .left),
     )
 
 returns-2 : tie.Need-returns-2 Inv-loop μ-loop

@@ -65,7 +65,8 @@ loop-again c =
       omega arith,
       inv .3,
       simp length-set (inv .4),
-      weld-kept too-near (loop .loop .ps) (take count points) _ (loop .loop .n) i _ _ within (sym (getD-take count points i _ (omega arith))) (inv .5) (omega arith)
+      weld-kept too-near (loop .loop .ps) (take count points) _ (loop .loop .n) i _ _ within
+          (sym (getD-take count points i _ (omega arith))) (inv .5) (omega arith)
           (sym (c .before .near-any .ensures) ∙ not-true _ (w .0 .taken)),
     ))
     (λ w. rw (w .1, w .2) (
@@ -74,7 +75,8 @@ loop-again c =
       omega arith,
       inv .3,
       inv .4,
-      weld-dropped too-near (loop .loop .ps) (take count points) _ (loop .loop .n) i _ _ within (sym (getD-take count points i _ (omega arith))) (inv .5)
+      weld-dropped too-near (loop .loop .ps) (take count points) _ (loop .loop .n) i _ _ within
+          (sym (getD-take count points i _ (omega arith))) (inv .5)
           (sym (c .before .near-any .ensures) ∙ not-false _ (w .0 .left)),
     ))
     (c .if1 .came)
