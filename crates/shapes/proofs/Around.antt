@@ -3,7 +3,7 @@ use mathlib.Core.Path.{_≡_, refl, sym, _∙_, ap, subst}
 use mathlib.Core.Bool.{Bool, true, false, cond, _&&_}
 use mathlib.Core.List.{List, [], _∷_, _++_, map, append-assoc, append-nil}
 use mathlib.Core.Logic.{_⊎_, inl, inr}
-use Prim.Native.Nat.{ℕ, zero, suc, _+_, _-_, _<_, _≤_}
+use Prim.Native.Nat.{ℕ, _+_, _<_, _≤_}
 use native.Mathlib.Numerals.{add-one}
 use native.Mathlib.Omega.{arith}
 use lib.Dec.{ltb}
@@ -16,7 +16,7 @@ use Rattle.floats.specs.B2Math.{b2-sub, b2-length-squared}
 use Rattle.floats.specs.B2Common.{zero32}
 use Rattle.shapes.specs.declared.outline.FanSum.{FanSum}
 use Rattle.shapes.specs.Outline.{origin, point-at, place-after, edges-from, edges, with-triangle, fan-from, fan}
-use Rattle.shapes.proofs.Tests.{at-place, at-first-place}
+use Rattle.shapes.proofs.Tests.{less-or-not, at-place, at-first-place}
 
 -- the corner after the one at i
 abbrev pub following : List B2vec2 → ℕ → B2vec2
@@ -49,15 +49,6 @@ following-by l i within (inl more) =
     ∙ ap (λ (t : Bool). point-at l (cond t (i + 1) 0)) (sym (lt-ltb (i + 1) (length l) more))
 following-by l i within (inr last) =
     List·getD-eq-default l (point-at l 0) last ∙ ap (λ (t : Bool). point-at l (cond t (i + 1) 0)) (sym (le-ltb (i + 1) (length l) last))
-
-less-or-not : (a b : ℕ) → (a < b) ⊎ (b ≤ a)
-less-or-not a zero = inr (omega arith)
-less-or-not zero (suc b) = inl (omega arith)
-less-or-not (suc a) (suc b) = go (less-or-not a b)
-  where
-    go : (a < b) ⊎ (b ≤ a) → (suc a < suc b) ⊎ (suc b ≤ suc a)
-    go (inl h) = inl (omega arith)
-    go (inr h) = inr (omega arith)
 
 following-is : (l : List B2vec2) (i : ℕ) → i < length l → getD (drop (i + 1) l) 0 (point-at l 0) ≡ following l i
 following-is l i within =

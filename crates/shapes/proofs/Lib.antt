@@ -6,3 +6,6 @@ pub mod Facing
 pub mod AllPoints
 pub mod Built
 pub mod Sides
+pub mod Lent
+pub mod Calls
+pub mod Controls

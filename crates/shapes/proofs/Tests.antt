@@ -3,6 +3,7 @@ use mathlib.Core.Path.{_≡_, refl, sym, _∙_, ap}
 use mathlib.Core.Bool.{Bool, true, false, cond, _&&_, _||_}
 use Prim.Native.Nat.{ℕ, zero, suc, _+_, _-_, _<_, _≤_}
 use mathlib.Core.List.{List, [], _∷_}
+use mathlib.Core.Logic.{_⊎_, inl, inr}
 use native.Mathlib.Omega.{arith}
 use lib.ListN.{length, take, getD}
 use lib.Seq.{length-take-le, getD-take}
@@ -36,6 +37,15 @@ module _ (corner candidate p r v : B2vec2) (k : Float) (r-is : r ≡ b2-sub cand
   unfolding closer
   closer-above not-below not-level =
       simp (not-level, ap (λ x. lt x zero32) (sym cross-is) ∙ not-below, ap (λ x. eq x zero32) (sym cross-is) ∙ not-level)
+
+pub less-or-not : (a b : ℕ) → (a < b) ⊎ (b ≤ a)
+less-or-not a zero = inr (omega arith)
+less-or-not zero (suc b) = inl (omega arith)
+less-or-not (suc a) (suc b) = go (less-or-not a b)
+  where
+    go : (a < b) ⊎ (b ≤ a) → (suc a < suc b) ⊎ (suc b ≤ suc a)
+    go (inl h) = inl (omega arith)
+    go (inr h) = inr (omega arith)
 
 -- a place below n is a place of the first n
 pub first-places : {A : Type 0} (n j : ℕ) (l : List A) → j < n → n ≤ length l → j < length (take n l)

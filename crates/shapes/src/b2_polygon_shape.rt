@@ -1,11 +1,11 @@
 // Outlines (Box2D's b2_polygon_shape.h).
 ghost use mathlib.Core.Path.{_≡_};
-ghost use mathlib.Core.List.{[], _∷_};
-ghost use Rattle.shapes.specs.Polygon.{put-first, b2-polygon-shape-set-counted};
+ghost use Rattle.shapes.specs.Polygon.{b2-polygon-shape-set-counted, b2-polygon-shape-set};
 ghost use Rattle.shapes.specs.Boxes.{b2-polygon-shape-set-as-box, b2-polygon-shape-set-as-box-angle};
 ghost use Rattle.shapes.specs.Validate.{b2-polygon-shape-validate};
 use crate::convex;
 use crate::outline;
+use crate::places;
 use crate::shape_ranges;
 use floats::b2_common::B2_EPSILON;
 use floats::b2_math;
@@ -111,16 +111,19 @@ pub fn b2_polygon_shape_set_core(
     }
 }
 
-// Four points over the old ones.
-fn put_four(old: [B2vec2; 8], a: B2vec2, b: B2vec2, c: B2vec2, d: B2vec2) -> [B2vec2; 8]
-    ensures { λ r. ⌜ r ≡ put-first (a ∷ b ∷ c ∷ d ∷ []) old ⌝ }
+// The outline of the points of a lent slice.
+pub fn b2_polygon_shape_set(old: B2polygonShape, vertices: &[B2vec2]) -> PolygonAnswer
+    ensures { λ r. ⌜ r ≡ b2-polygon-shape-set old (now (vertices .entry)) ⌝ }
 {
-    let mut new = old;
-    new[0] = a;
-    new[1] = b;
-    new[2] = c;
-    new[3] = d;
-    new
+    let p0 = places::point_or(vertices, 0);
+    let p1 = places::point_or(vertices, 1);
+    let p2 = places::point_or(vertices, 2);
+    let p3 = places::point_or(vertices, 3);
+    let p4 = places::point_or(vertices, 4);
+    let p5 = places::point_or(vertices, 5);
+    let p6 = places::point_or(vertices, 6);
+    let p7 = places::point_or(vertices, 7);
+    places::set_of_eight(old, p0, p1, p2, p3, p4, p5, p6, p7, vertices.len())
 }
 
 // A box of half-widths hx and hy around the origin.
@@ -137,14 +140,14 @@ pub fn b2_polygon_shape_set_as_box(old: B2polygonShape, hx: f32, hy: f32) -> Pol
     }
     let old_vertices = old.m_vertices;
     let old_normals = old.m_normals;
-    let vs = put_four(
+    let vs = places::put_four(
         old_vertices,
         B2vec2 { x: -hx, y: -hy },
         B2vec2 { x: hx, y: -hy },
         B2vec2 { x: hx, y: hy },
         B2vec2 { x: -hx, y: hy },
     );
-    let ns = put_four(
+    let ns = places::put_four(
         old_normals,
         B2vec2 { x: 0.0, y: -1.0 },
         B2vec2 { x: 1.0, y: 0.0 },
@@ -191,14 +194,14 @@ pub fn b2_polygon_shape_set_as_box_angle(
     let xf = B2Transform { p: center, q: q };
     let old_vertices = old.m_vertices;
     let old_normals = old.m_normals;
-    let vs = put_four(
+    let vs = places::put_four(
         old_vertices,
         b2_math::b2_mul_transform_by_vec2(xf, B2vec2 { x: -hx, y: -hy }),
         b2_math::b2_mul_transform_by_vec2(xf, B2vec2 { x: hx, y: -hy }),
         b2_math::b2_mul_transform_by_vec2(xf, B2vec2 { x: hx, y: hy }),
         b2_math::b2_mul_transform_by_vec2(xf, B2vec2 { x: -hx, y: hy }),
     );
-    let ns = put_four(
+    let ns = places::put_four(
         old_normals,
         b2_math::b2_mul_rot_by_vec2(q, B2vec2 { x: 0.0, y: -1.0 }),
         b2_math::b2_mul_rot_by_vec2(q, B2vec2 { x: 1.0, y: 0.0 }),

@@ -4,4 +4,5 @@ pub mod b2_edge_shape;
 pub mod b2_polygon_shape;
 mod convex;
 mod outline;
+mod places;
 pub mod shape_ranges;

@@ -2,8 +2,8 @@
 use native.Mathlib.Omega.{arith}
 use Rattle.shapes.proofs.Over.{put-four}
 use borrow.Author.Needs.{needs}
-use Rattle.shapes.proofs.b2_polygon_shape.put_four.Statement.{statement}
-use Rattle.shapes.proofs.b2_polygon_shape.put_four.Tie as tie
+use Rattle.shapes.proofs.places.put_four.Statement.{statement}
+use Rattle.shapes.proofs.places.put_four.Tie as tie
 
 array-set-from-new : tie.Need-array-set-from-new
 array-set-from-new c = search needs
