@@ -51,29 +51,29 @@ returns : tie.Need-returns
 unfolding edge-words points-words
 returns c =
     let written = c .before .before in
-    let b9 = written .before .before .before in
-    let b8 = b9 .before in
-    let b7 = b8 .before in
-    let b6 = b7 .before in
-    let b5 = b6 .before in
-    let b4 = b5 .before in
-    let b3 = b4 .before in
-    let b2 = b3 .before in
-    let flagged = b2 .before in
+    let y3 = written .before .before .before in
+    let x3 = y3 .before in
+    let y2 = x3 .before in
+    let x2 = y2 .before in
+    let y1 = x2 .before in
+    let x1 = y1 .before in
+    let y0 = x1 .before in
+    let x0 = y0 .before in
+    let flagged = x0 .before in
     let radius = flagged .before in
     written-as _ _ _ _ _
     (simp (
       radius .before .wide .ensures .0,
       radius .f32-to-bits .ensures,
       flagged .flag .ensures,
-      b2 .f32-to-bits2 .ensures,
-      b3 .f32-to-bits3 .ensures,
-      b4 .f32-to-bits4 .ensures,
-      b5 .f32-to-bits5 .ensures,
-      b6 .f32-to-bits6 .ensures,
-      b7 .f32-to-bits7 .ensures,
-      b8 .f32-to-bits8 .ensures,
-      b9 .f32-to-bits9 .ensures,
+      x0 .f32-to-bits2 .ensures,
+      y0 .f32-to-bits3 .ensures,
+      x1 .f32-to-bits4 .ensures,
+      y1 .f32-to-bits5 .ensures,
+      x2 .f32-to-bits6 .ensures,
+      y2 .f32-to-bits7 .ensures,
+      x3 .f32-to-bits8 .ensures,
+      y3 .f32-to-bits9 .ensures,
     ))
     (written .put-words .ensures)
 
