@@ -1,21 +1,16 @@
 -- A lent slice of any length, read at eight places: the builder over those places and the slice's length is the builder over the slice.
 -- Assumes nothing.
-use mathlib.Core.Path.{_≡_, refl, _∙_, ap}
-use mathlib.Core.Bool.{Bool, true, false, cond, _||_}
+use mathlib.Core.Path.{_≡_, refl, _∙_}
 use mathlib.Core.List.{List, [], _∷_}
-use mathlib.Core.Logic.{_⊎_, inl, inr}
-use Prim.Native.Nat.{_<_, _≤_}
+use Prim.Native.Nat.{_≤_}
 use native.Mathlib.Omega.{arith}
-use lib.Dec.{ltb}
 use lib.ListN.{length, take}
-use borrow.Author.Tests.{lt-ltb, le-ltb}
 use Rattle.floats.specs.declared.b2_math.B2vec2.{B2vec2}
 use Rattle.shapes.specs.declared.b2_polygon_shape.B2polygonShape.{B2polygonShape}
 use Rattle.shapes.specs.declared.b2_polygon_shape.PolygonAnswer.{PolygonAnswer}
-use Rattle.shapes.specs.Refusal.{wrong-number-of-points}
 use Rattle.shapes.specs.Outline.{point-at}
-use Rattle.shapes.specs.Polygon.{refused, b2-polygon-shape-set, b2-polygon-shape-set-counted}
-use Rattle.shapes.proofs.Tests.{less-or-not}
+use Rattle.shapes.specs.Polygon.{b2-polygon-shape-set, b2-polygon-shape-set-counted}
+use Rattle.shapes.proofs.Counted.{counted-whole}
 
 -- the points at the first eight places, the origin past the end
 abbrev pub first-eight : List B2vec2 → List B2vec2
@@ -34,23 +29,10 @@ eight-hold-all (a ∷ b ∷ c ∷ d ∷ e ∷ f ∷ g ∷ []) few = refl
 eight-hold-all (a ∷ b ∷ c ∷ d ∷ e ∷ f ∷ g ∷ h ∷ []) few = refl
 eight-hold-all (a ∷ b ∷ c ∷ d ∷ e ∷ f ∷ g ∷ h ∷ i ∷ l) few = absurd (omega arith)
 
-cond-twice : {A : Type 0} (t : Bool) (a b : A) → cond t a (cond t a b) ≡ cond t a b
-cond-twice true a b = refl
-cond-twice false a b = refl
-
 module _ (old : B2polygonShape) (l : List B2vec2) where
-  counted-by : (8 < length l) ⊎ (length l ≤ 8) → b2-polygon-shape-set-counted old (first-eight l) (length l) ≡ b2-polygon-shape-set old l
-  unfolding b2-polygon-shape-set-counted b2-polygon-shape-set
-  counted-by (inl many) = simp (le-ltb (length l) 3 (omega arith), lt-ltb 8 (length l) many)
-  counted-by (inr few) =
-      ap (λ (k : List B2vec2). cond (ltb (length l) 3 || ltb 8 (length l)) (refused wrong-number-of-points old)
-      (b2-polygon-shape-set old k))
-      (eight-hold-all l few)
-      ∙ cond-twice (ltb (length l) 3 || ltb 8 (length l)) (refused wrong-number-of-points old) _
-
   -- the points that were read one by one, and what the builder answered
   pub lent-is : (p0 p1 p2 p3 p4 p5 p6 p7 : B2vec2) (r : PolygonAnswer) → p0 ≡ point-at l 0 → p1 ≡ point-at l 1 → p2 ≡ point-at l 2
       → p3 ≡ point-at l 3 → p4 ≡ point-at l 4 → p5 ≡ point-at l 5 → p6 ≡ point-at l 6 → p7 ≡ point-at l 7
       → r ≡ b2-polygon-shape-set-counted old (p0 ∷ p1 ∷ p2 ∷ p3 ∷ p4 ∷ p5 ∷ p6 ∷ p7 ∷ []) (length l) → r ≡ b2-polygon-shape-set old l
   lent-is p0 p1 p2 p3 p4 p5 p6 p7 r p0-is p1-is p2-is p3-is p4-is p5-is p6-is p7-is r-is =
-      r-is ∙ (simp (p0-is, p1-is, p2-is, p3-is, p4-is, p5-is, p6-is, p7-is)) ∙ counted-by (less-or-not 8 (length l))
+      r-is ∙ (simp (p0-is, p1-is, p2-is, p3-is, p4-is, p5-is, p6-is, p7-is)) ∙ counted-whole old (first-eight l) l (length l) refl (eight-hold-all l)
