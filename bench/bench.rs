@@ -1,4 +1,4 @@
-//! Nanoseconds per call of ours, the Rust's and the hardware's, measured side by side in one run. usage: bench [ROUNDS]
+//! Nanoseconds per call of ours, the Rust's, Box2D's and the hardware's, measured side by side in one run. usage: bench [ROUNDS]
 //! Each figure is the best of ROUNDS passes over the same operands; the passes of the contestants alternate.
 use box2d_rs::b2_math::{b2_sqrt, B2vec2};
 use box2d_rs::shapes::b2_polygon_shape::B2polygonShape;
@@ -9,7 +9,11 @@ extern "C" {
     fn direct_root(x: f32) -> f32;
     fn direct_normalize(v: *mut f32, len: usize) -> f32;
     fn direct_outline(points: *const f32, points_len: usize, out: *mut f32, out_len: usize) -> u32;
+    fn direct_box(hx: f32, hy: f32, out: *mut f32, out_len: usize) -> u32;
+    fn direct_validate(shape: *const f32, shape_len: usize, count: usize) -> u32;
     fn box2d_set(points: *const f32, n: i32) -> f32;
+    fn box2d_box(hx: f32, hy: f32) -> f32;
+    fn box2d_validate(corners: *const f32, n: i32) -> bool;
 }
 
 const OPERANDS: usize = 4096;
@@ -68,6 +72,52 @@ fn outlines(n: usize, rounds: usize) {
             p.m_centroid.x + p.m_normals[0].x + p.m_vertices[2].y
         }),
         ("Box2D", &|i| unsafe { box2d_set(&lists[i % 256][0].x, n as i32) }),
+    ]);
+}
+
+fn boxes(rounds: usize) {
+    let shape = std::cell::RefCell::new(B2polygonShape::default());
+    let out = std::cell::RefCell::new([0.0f32; 34]);
+    let half = |i: usize| (1 + i % 256) as f32 / 256.0;
+    compare("box", rounds, &|| (), &[
+        ("ours", &|i| {
+            let mut out = out.borrow_mut();
+            unsafe { direct_box(half(i), half(i + 1), out.as_mut_ptr(), 34) };
+            out[32] + out[16] + out[5]
+        }),
+        ("Rust", &|i| {
+            let mut p = shape.borrow_mut();
+            p.set_as_box(half(i), half(i + 1));
+            p.m_centroid.x + p.m_normals[0].x + p.m_vertices[2].y
+        }),
+        ("Box2D", &|i| unsafe { box2d_box(half(i), half(i + 1)) }),
+    ]);
+}
+
+/// The convexity test of built outlines. Each contestant is given the corners; ours reads, and tests the range of, the normals too.
+fn validates(n: usize, rounds: usize) {
+    let shapes: Vec<B2polygonShape> = (0..256)
+        .map(|i| {
+            let mut p = B2polygonShape::default();
+            p.set(&points(n, i));
+            p
+        })
+        .collect();
+    let flat: Vec<[f32; 34]> = shapes
+        .iter()
+        .map(|p| {
+            let mut f = [0.0f32; 34];
+            for (k, v) in p.m_vertices.iter().chain(&p.m_normals).chain([&p.m_centroid]).enumerate() {
+                f[2 * k] = v.x;
+                f[2 * k + 1] = v.y;
+            }
+            f
+        })
+        .collect();
+    compare(&format!("validate {n} corners"), rounds, &|| (), &[
+        ("ours", &|i| unsafe { direct_validate(flat[i % 256].as_ptr(), 34, shapes[i % 256].m_count) } as f32),
+        ("Rust", &|i| shapes[i % 256].clone().validate() as u32 as f32),
+        ("Box2D", &|i| unsafe { box2d_validate(flat[i % 256].as_ptr(), shapes[i % 256].m_count as i32) } as u32 as f32),
     ]);
 }
 
@@ -142,4 +192,7 @@ fn main() {
     ]);
     outlines(4, rounds);
     outlines(8, rounds);
+    boxes(rounds);
+    validates(4, rounds);
+    validates(8, rounds);
 }

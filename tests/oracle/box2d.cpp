@@ -185,9 +185,20 @@ extern "C" size_t box2d_answer(const uint32_t *request, uint32_t *out) {
     return (size_t)(to.at - out);
 }
 
-// For the benchmark: one outline built over and over in place.
+// For the benchmark: one outline, built over and over in place or tested.
 extern "C" float box2d_set(const float *points, int n) {
     static b2PolygonShape p;
     p.Set(reinterpret_cast<const b2Vec2 *>(points), n);
     return p.m_centroid.x + p.m_normals[0].x + p.m_vertices[2].y;
+}
+extern "C" float box2d_box(float hx, float hy) {
+    static b2PolygonShape p;
+    p.SetAsBox(hx, hy);
+    return p.m_centroid.x + p.m_normals[0].x + p.m_vertices[2].y;
+}
+extern "C" bool box2d_validate(const b2Vec2 *corners, int n) {
+    static b2PolygonShape p;
+    std::memcpy(p.m_vertices, corners, n * sizeof *corners);
+    p.m_count = n;
+    return p.Validate();
 }

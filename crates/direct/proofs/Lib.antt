@@ -1,3 +1,4 @@
 pub mod Front
 pub mod Flat
 pub mod Outline
+pub mod Convex

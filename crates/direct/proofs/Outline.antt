@@ -1,4 +1,4 @@
--- What `direct_outline` answers and leaves, by cases: no room, a refusal, an outline. Assumes nothing.
+-- What is answered and left, by cases: no room, a refusal, an outline. Assumes nothing.
 use mathlib.Core.Path.{_≡_, refl, sym, _∙_, ap, subst}
 use mathlib.Core.List.{List, [], _∷_, _++_, map}
 use Prim.Native.Nat.{ℕ, zero, suc, _+_, _*_, _/_, _≤_, _<_}
@@ -12,7 +12,7 @@ use Rattle.floats.specs.declared.b2_math.B2vec2.{B2vec2}
 use Rattle.shapes.specs.declared.b2_polygon_shape.PolygonAnswer.{PolygonAnswer}
 use Rattle.shapes.specs.Polygon.{b2-polygon-shape-set-counted}
 use Rattle.shapes.proofs.Counted.{counted-whole}
-use Rattle.direct.specs.Outlines.{points-of, empty-outline, built, code-of, floats-of, outline-code, outline-left}
+use Rattle.direct.specs.Outlines.{points-of, empty-outline, built, code-of, floats-of, left-by, code, left}
 
 length-places : (i n : ℕ) → length (places i n) ≡ n
 length-places i zero = refl
@@ -29,23 +29,29 @@ built-counted xs ps n read answer n-is all were-read is =
     (λ (few : n ≤ 8). subst (λ (k : ℕ). take k ps ≡ points-of xs k) (all few) were-read)
     ∙ ap (λ (k : ℕ). Rattle.shapes.specs.Polygon.b2-polygon-shape-set empty-outline (points-of xs k)) n-is
 
-module _ (xs out : List Float) where
-  pub no-room : length out < 34 → (0 ≡ outline-code xs out) × (out ≡ outline-left xs out)
-  unfolding outline-code outline-left
+module _ (answer : PolygonAnswer) (out : List Float) where
+  -- an accepted outline is written
+  pub accepted-code : (after : List Float) → answer .refusal ≡ 0 → after ≡ over (floats-of (answer .shape)) out
+      → (1 ≡ code-of answer) × (after ≡ left-by answer out)
+  accepted-code after accepted written = (
+    simp (eq-eqb (answer .refusal) 0 accepted),
+    written ∙ simp (eq-eqb (answer .refusal) 0 accepted),
+  )
+
+  pub refused-code : (answer .refusal ≡ 0 → ⊥) → (256 + answer .refusal ≡ code-of answer) × (out ≡ left-by answer out)
+  refused-code not-accepted = (
+    simp (ne-eqb (answer .refusal) 0 not-accepted),
+    simp (ne-eqb (answer .refusal) 0 not-accepted),
+  )
+
+  pub no-room : length out < 34 → (0 ≡ code answer out) × (out ≡ left answer out)
+  unfolding code left
   no-room short = (simp (lt-ltb _ _ short), simp (lt-ltb _ _ short))
 
-  module _ (answer : PolygonAnswer) (room : 34 ≤ length out) (is : answer ≡ built xs) where
-    pub refused-code : (answer .refusal ≡ 0 → ⊥) → (256 + answer .refusal ≡ outline-code xs out) × (out ≡ outline-left xs out)
-    unfolding outline-code outline-left
-    refused-code not-accepted = (
-      simp (le-ltb _ _ room, sym is, ne-eqb (answer .refusal) 0 not-accepted),
-      simp (le-ltb _ _ room, sym is, ne-eqb (answer .refusal) 0 not-accepted),
-    )
-
-    pub accepted-code : (left : List Float) → answer .refusal ≡ 0 → left ≡ over (floats-of (answer .shape)) out
-        → (1 ≡ outline-code xs out) × (left ≡ outline-left xs out)
-    unfolding outline-code outline-left
-    accepted-code left accepted written = (
-      simp (le-ltb _ _ room, sym is, eq-eqb (answer .refusal) 0 accepted),
-      written ∙ simp (le-ltb _ _ room, sym is, eq-eqb (answer .refusal) 0 accepted),
-    )
+  pub with-room : (n : ℕ) (given : PolygonAnswer) (after : List Float) → 34 ≤ length out → given ≡ answer
+      → (n ≡ code-of given) × (after ≡ left-by given out) → (n ≡ code answer out) × (after ≡ left answer out)
+  unfolding code left
+  with-room n given after room is so = (
+    so .0 ∙ simp (le-ltb _ _ room, is),
+    so .1 ∙ simp (le-ltb _ _ room, is),
+  )

@@ -5,7 +5,7 @@ ghost use mathlib.Core.List.{_∷_};
 ghost use lib.ListN.{length};
 ghost use Rattle.floats.specs.B2Math.{b2-sqrt};
 ghost use Rattle.direct.specs.Direct.{normalized, normalized-length};
-ghost use Rattle.direct.specs.Outlines.{empty-outline, outline-code, outline-left};
+ghost use Rattle.direct.specs.Outlines.{empty-outline, built, boxed, code, left, convex-code};
 use floats::b2_common::B2_POLYGON_RADIUS;
 use floats::b2_math;
 use floats::b2_math::B2vec2;
@@ -52,7 +52,7 @@ fn empty_outline() -> B2polygonShape
 // written. 0, with nothing written, where out has no room for 34 floats.
 #[no_mangle]
 pub extern "C" fn direct_outline(points: &[f32], out: &mut [f32]) -> u32
-    ensures { λ r. ⌜ (r ≡ outline-code (now (points .entry)) (now (out .entry))) × (now (out .exit) ≡ outline-left (now (points .entry)) (now (out .entry))) ⌝ }
+    ensures { λ r. ⌜ (r ≡ code (built (now (points .entry))) (now (out .entry))) × (now (out .exit) ≡ left (built (now (points .entry))) (now (out .entry))) ⌝ }
 {
     if out.len() < 34 {
         return 0;
@@ -61,15 +61,40 @@ pub extern "C" fn direct_outline(points: &[f32], out: &mut [f32]) -> u32
     let read = if n < 8 { n } else { 8 };
     let ps = outlines::points(points, read);
     let answer = b2_polygon_shape::b2_polygon_shape_set_core(empty_outline(), ps, n);
-    let refusal = answer.refusal;
-    if refusal != 0 {
-        return 256 + (refusal as u32);
+    outlines::put_answer(answer, out)
+}
+
+// The same of a box.
+#[no_mangle]
+pub extern "C" fn direct_box(hx: f32, hy: f32, out: &mut [f32]) -> u32
+    ensures { λ r. ⌜ (r ≡ code (boxed hx hy) (now (out .entry))) × (now (out .exit) ≡ left (boxed hx hy) (now (out .entry))) ⌝ }
+{
+    if out.len() < 34 {
+        return 0;
     }
-    let shape = answer.shape;
-    let vertices = shape.m_vertices;
-    let normals = shape.m_normals;
-    outlines::put_points(out, vertices);
-    outlines::put_points(&mut out[16..], normals);
-    outlines::put_point(&mut out[32..], shape.m_centroid);
-    1
+    let answer = b2_polygon_shape::b2_polygon_shape_set_as_box(empty_outline(), hx, hy);
+    outlines::put_answer(answer, out)
+}
+
+// Whether the outline of count corners, in 34 floats as above, is convex: 1, 0, or 256 and the refusal; 2 for fewer floats.
+#[no_mangle]
+pub extern "C" fn direct_validate(shape: &[f32], count: usize) -> u32
+    ensures { λ r. ⌜ r ≡ convex-code (now (shape .entry)) count ⌝ }
+{
+    if shape.len() < 34 {
+        return 2;
+    }
+    let vertices = outlines::points(shape, 8);
+    let normals = outlines::points(&shape[16..], 8);
+    let answer = b2_polygon_shape::b2_polygon_shape_validate(B2polygonShape {
+        m_radius: B2_POLYGON_RADIUS,
+        m_centroid: outlines::point(shape, 16),
+        m_vertices: vertices,
+        m_normals: normals,
+        m_count: count,
+    });
+    if answer.refusal != 0 {
+        return 256 + (answer.refusal as u32);
+    }
+    if answer.valid { 1 } else { 0 }
 }

@@ -47,7 +47,7 @@ returns : tie.Need-returns Inv-loop μ-loop
 returns c =
     let loop = c .before .loop in
     let all : loop .i ≡ c .before .before .before .args .n = omega arith in
-    ap (λ k. take k (loop .ps)) (sym all) ∙ loop .inv .4 ∙ ap (points-of (c .before .before .before .args .xs .now)) all
+    (loop .inv .3, ap (λ k. take k (loop .ps)) (sym all) ∙ loop .inv .4 ∙ ap (points-of (c .before .before .before .args .xs .now)) all)
 
 pub points-spec : {M : Type 1} → statement M
 points-spec =
