@@ -28,7 +28,13 @@ module _ (xs : List Float) (count : ℕ) where
   -- the outline of the parts that were read
   pub of-parts : (centroid : B2vec2) (vertices normals : List B2vec2) → centroid ≡ point-of xs 16 → vertices ≡ points-of xs 8
       → normals ≡ points-of (drop 16 xs) 8
-      → b2-polygon-shape-validate (record { «m_radius» = b2-polygon-radius; «m_centroid» = centroid; «m_vertices» = vertices; «m_normals» = normals; «m_count» = count })
+      → b2-polygon-shape-validate (record {
+        «m_radius» = b2-polygon-radius;
+        «m_centroid» = centroid;
+        «m_vertices» = vertices;
+        «m_normals» = normals;
+        «m_count» = count;
+      })
       ≡ b2-polygon-shape-validate (outline-in xs count)
   of-parts centroid vertices normals centroid-is vertices-are normals-are = simp (centroid-is, vertices-are, normals-are)
 

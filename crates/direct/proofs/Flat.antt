@@ -37,7 +37,9 @@ pub points-next : (xs : List Float) (ps : List B2vec2) (p : B2vec2) (i : ℕ) �
     → take (i + 1) (set ps i p) ≡ points-of xs (i + 1)
 points-next xs ps p i room so-far p-is =
     ap (λ (n : ℕ). take n (set ps i p)) (add-one i) ∙ take-suc-set ps i p room ∙ ap₂ (λ (l : List B2vec2) (q : B2vec2). l ++ (q ∷ [])) so-far p-is
-    ∙ sym (ap (λ (n : ℕ). points-of xs n) (add-one i) ∙ ap (map (point-of xs)) (places-next 0 i ∙ ap (λ (n : ℕ). places 0 i ++ (n ∷ [])) (native.Mathlib.Nat.zero-add i)) ∙ map-next (point-of xs) (places 0 i) i)
+    ∙ sym (ap (λ (n : ℕ). points-of xs n) (add-one i)
+    ∙ ap (map (point-of xs)) (places-next 0 i ∙ ap (λ (n : ℕ). places 0 i ++ (n ∷ [])) (native.Mathlib.Nat.zero-add i))
+    ∙ map-next (point-of xs) (places 0 i) i)
 
 -- ---- writing
 pub two-stores : (l : List Float) (x y : Float) → 2 ≤ length l → set (set l 0 x) 1 y ≡ x ∷ y ∷ drop 2 l
@@ -56,12 +58,14 @@ length-flat [] = refl
 length-flat (p ∷ ps) = omega (arith, length-flat ps)
 
 -- one more point is written behind the first i
-pub point-written : (ps : List B2vec2) (old buffer part : List Float) (p d : B2vec2) (i : ℕ) → i < length ps → p ≡ getD ps i d → buffer ≡ over (flat (take i ps)) old
+pub point-written : (ps : List B2vec2) (old buffer part : List Float) (p d : B2vec2) (i : ℕ) → i < length ps → p ≡ getD ps i d
+    → buffer ≡ over (flat (take i ps)) old
     → part ≡ over (p .x ∷ p .y ∷ []) (midOf (2 * i) (length buffer - 2 * i) buffer)
     → putMid (2 * i) (length buffer - 2 * i) buffer part ≡ over (flat (take (i + 1) ps)) old
 point-written ps old buffer part p d i within p-is before-written part-written =
     let so-far : length (flat (take i ps)) ≡ 2 * i = length-flat (take i ps) ∙ ap (λ (n : ℕ). 2 * n) (length-take-le i ps (omega arith)) in
     let one-more : flat (take (i + 1) ps) ≡ flat (take i ps) ++ (p .x ∷ p .y ∷ []) =
-    ap (λ (n : ℕ). flat (take n ps)) (add-one i) ∙ ap flat (take-suc ps i d within) ∙ ap (λ (q : B2vec2). flat (take i ps ++ (q ∷ []))) (sym p-is) ∙ flat-append (take i ps) p in
+    ap (λ (n : ℕ). flat (take n ps)) (add-one i) ∙ ap flat (take-suc ps i d within)
+    ∙ ap (λ (q : B2vec2). flat (take i ps ++ (q ∷ []))) (sym p-is) ∙ flat-append (take i ps) p in
     over-next (flat (take i ps)) (p .x ∷ p .y ∷ []) old buffer part (2 * i) so-far before-written part-written
     ∙ ap (λ (l : List Float). over l old) (sym one-more)

@@ -42,7 +42,8 @@ returns-2 c =
     let start = joined .before .before .before .before in
     let points = start .args .points .now in
     let is = built-counted points _ _ (joined .if2 .read) _ refl (all-read joined) (read .points .ensures .1)
-    (core .b2-polygon-shape-set-core .ensures ∙ ap (λ o. b2-polygon-shape-set-counted o (read .points .result) (length points / 2)) (core .before .empty-outline .ensures)) in
+    (core .b2-polygon-shape-set-core .ensures
+    ∙ ap (λ o. b2-polygon-shape-set-counted o (read .points .result) (length points / 2)) (core .before .empty-outline .ensures)) in
     with-room (built points) (start .args .out .now) _ _ _ (joined .before .if1 .left) is (put .put-answer .ensures)
 
 pub direct-outline-spec : {M : Type 1} → statement M
