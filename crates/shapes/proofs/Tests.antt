@@ -5,10 +5,10 @@ use Prim.Native.Nat.{ℕ, zero, suc, _+_, _-_, _<_, _≤_}
 use mathlib.Core.List.{List, [], _∷_}
 use mathlib.Core.Logic.{_⊎_, inl, inr}
 use native.Mathlib.Omega.{arith}
+use lib.Dec.{eqb}
 use lib.ListN.{length, take, getD}
 use lib.Seq.{length-take-le, getD-take}
 use lib.Ieee.{Float, lt, eq}
-use borrow.Author.Tests.{eq-eqb, ne-eqb}
 use Rattle.algebra.specs.Loops.{places, scan}
 use Rattle.algebra.proofs.Loops.{scan-next}
 use Rattle.floats.specs.declared.b2_math.B2vec2.{B2vec2}
@@ -69,20 +69,14 @@ module _ {A : Type 0} (t r : Bool) (a b : A) where
   pub unchosen : r ≡ false → r ≡ t → b ≡ cond t a b
   unchosen fails r-is = ap (λ (u : Bool). cond u a b) (sym fails ∙ r-is)
 
-pub earlier-at : (l : List B2vec2) (d : B2vec2) (r : Bool) (best i : ℕ) → best < length l → i < length l
-    → r ≡ comes-before (getD l best d) (getD l i d) → r ≡ earlier l best i
-earlier-at l d r best i best-in i-in r-is = r-is ∙ simp (at-place l best d best-in, at-place l i d i-in)
+-- ---- the tests at places of an array, whatever is read past its end
+module _ (l : List B2vec2) (d : B2vec2) where
+  pub earlier-at : (best i : ℕ) → best < length l → i < length l → comes-before (getD l best d) (getD l i d) ≡ earlier l best i
+  earlier-at best i best-in i-in = simp (at-place l best d best-in, at-place l i d i-in)
 
-module _ (l : List B2vec2) (corner candidate j : ℕ) where
-  pub replaces-itself : candidate ≡ corner → replaces l corner candidate j ≡ true
-  replaces-itself same =
-      ap (λ (t : Bool). t || closer (point-at l corner) (point-at l candidate) (point-at l j)) (eq-eqb candidate corner same)
-
-  pub replaces-at : (d : B2vec2) (r : Bool) → corner < length l → candidate < length l → j < length l → (candidate ≡ corner → ⊥)
-      → r ≡ closer (getD l corner d) (getD l candidate d) (getD l j d) → r ≡ replaces l corner candidate j
-  replaces-at d r corner-in candidate-in j-in other r-is =
-      r-is ∙ (simp (at-place l corner d corner-in, at-place l candidate d candidate-in, at-place l j d j-in))
-      ∙ ap (λ (t : Bool). t || closer (point-at l corner) (point-at l candidate) (point-at l j)) (sym (ne-eqb candidate corner other))
+  pub replaces-at : (corner candidate j : ℕ) → corner < length l → candidate < length l → j < length l
+      → (eqb candidate corner || closer (getD l corner d) (getD l candidate d) (getD l j d)) ≡ replaces l corner candidate j
+  replaces-at corner candidate j corner-in candidate-in j-in = simp (at-place l corner d corner-in, at-place l candidate d candidate-in, at-place l j d j-in)
 
 -- ---- one step of the two scans, over the whole array and over its first n places
 pub earlier-first : (l : List B2vec2) (n best i : ℕ) → best < n → i < n → earlier (take n l) best i ≡ earlier l best i

@@ -1,11 +1,12 @@
 // The parts of the outline builder: welding, the start, the walk, normals, and area with moment. Points stand in the first places of an
 // array of eight; the definitions are over the list of them.
 ghost use mathlib.Core.Path.{_≡_};
-ghost use mathlib.Core.Bool.{cond};
+ghost use mathlib.Core.Bool.{cond, _||_};
 ghost use Prim.Native.Nat.{_<_, _≤_};
+ghost use lib.Dec.{eqb};
 ghost use lib.ListN.{length, take};
 ghost use Rattle.algebra.specs.Loops.{near-any};
-ghost use Rattle.shapes.specs.Outline.{too-near, welded, comes-before, earlier, start, closer, replaces, next, row};
+ghost use Rattle.shapes.specs.Outline.{too-near, welded, comes-before, start, closer, next, row};
 ghost use Rattle.shapes.specs.Outline.{place-after, edges, long-enough, normal-of-edge, with-triangle, fan};
 ghost use Rattle.shapes.specs.Parts.{Walked, Faced};
 use floats::b2_common::B2_EPSILON;
@@ -85,16 +86,11 @@ fn comes_before(best: B2vec2, p: B2vec2) -> bool
     larger | (level & lower)
 }
 
-// The place of the one that comes before the other, of the best place so far and place i.
-fn earlier_of(ps: [B2vec2; 8], best: usize, i: usize) -> usize
-    requires { ⌜ (best < 8) × (i < 8) ⌝ }
-    ensures { λ r. ⌜ r ≡ cond (earlier ps best i) i best ⌝ }
+// The place of the one that comes before the other: i0 of the best so far, or i of p.
+fn earlier_of(best: B2vec2, p: B2vec2, i0: usize, i: usize) -> usize
+    ensures { λ r. ⌜ r ≡ cond (comes-before best p) i i0 ⌝ }
 {
-    if comes_before(ps[best], ps[i]) {
-        i
-    } else {
-        best
-    }
+    if comes_before(best, p) { i } else { i0 }
 }
 
 // The place of the largest x, smallest y among equals.
@@ -105,7 +101,7 @@ pub fn start(ps: [B2vec2; 8], n: usize) -> usize
     let mut i0 = 0usize;
     let mut i = 1usize;
     while i < n {
-        i0 = earlier_of(ps, i0, i);
+        i0 = earlier_of(ps[i0], ps[i], i0, i);
         i += 1;
     }
     i0
@@ -124,15 +120,14 @@ fn closer(corner: B2vec2, candidate: B2vec2, p: B2vec2) -> bool
     c == 0.0 && b2_math::b2_length_squared(r) < b2_math::b2_length_squared(v)
 }
 
-// The candidate's place, or j where that replaces it as the corner after the one at ih.
-fn better_of(ps: [B2vec2; 8], ih: usize, ie: usize, j: usize) -> usize
-    requires { ⌜ (ih < 8) × (ie < 8) × (j < 8) ⌝ }
-    ensures { λ r. ⌜ r ≡ cond (replaces ps ih ie j) j ie ⌝ }
+// The candidate's place ie, or j where p replaces it as the point after the corner, which is at ih.
+fn better_of(corner: B2vec2, candidate: B2vec2, p: B2vec2, ih: usize, ie: usize, j: usize) -> usize
+    ensures { λ r. ⌜ r ≡ cond (eqb ie ih || closer corner candidate p) j ie ⌝ }
 {
     if ie == ih {
         return j;
     }
-    if closer(ps[ih], ps[ie], ps[j]) { j } else { ie }
+    if closer(corner, candidate, p) { j } else { ie }
 }
 
 // The place of the corner after the one at ih.
@@ -140,10 +135,11 @@ pub fn next(ps: [B2vec2; 8], n: usize, ih: usize) -> usize
     requires { ⌜ (0 < n) × (n ≤ 8) × (ih < n) ⌝ }
     ensures { λ r. ⌜ (r < n) × (r ≡ next (take n ps) ih) ⌝ }
 {
+    let corner = ps[ih];
     let mut ie = 0usize;
     let mut j = 1usize;
     while j < n {
-        ie = better_of(ps, ih, ie, j);
+        ie = better_of(corner, ps[ie], ps[j], ih, ie, j);
         j += 1;
     }
     ie

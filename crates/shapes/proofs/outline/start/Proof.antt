@@ -1,5 +1,6 @@
 -- What the scan keeps from here is what it keeps of all places. Assumes nothing.
-use mathlib.Core.Path.{_≡_}
+use mathlib.Core.Path.{_≡_, _∙_, ap}
+use mathlib.Core.Bool.{Bool, cond}
 use Prim.Native.Nat.{_≤_, _<_, _-_}
 use native.Mathlib.Omega.{arith}
 use lib.ListN.{length, take}
@@ -7,25 +8,37 @@ use borrow.Author.Needs.{needs}
 use Rattle.algebra.specs.Loops.{places, scan}
 use Rattle.algebra.proofs.Loops.{scan-ended}
 use Rattle.shapes.specs.Outline.{earlier, start}
-use Rattle.shapes.proofs.Tests.{earlier-first, scanned-below, scanned-next, scanned-from-one}
+use Rattle.shapes.proofs.Tests.{earlier-at, earlier-first, scanned-below, scanned-next, scanned-from-one}
 use Rattle.shapes.proofs.outline.start.Statement.{statement}
 use Rattle.shapes.proofs.outline.start.Tie as tie
 
 abbrev Inv-loop : tie.InvT-loop
-Inv-loop ps n i0₀ i₀ i0 i =
+Inv-loop n ps i0₀ i₀ i0 i =
     (i ≤ n) × (n ≤ 8) × (i0 < n) × (length ps ≡ 8)
     × (scan (earlier (take n ps)) i0 (places i (n - i)) ≡ start (take n ps))
 
 abbrev μ-loop : tie.MeasureT-loop
-μ-loop ps n i0₀ i₀ i0 i = n - i
+μ-loop n ps i0₀ i₀ i0 i = n - i
 
 loop-holds : tie.Need-loop-holds Inv-loop μ-loop
 unfolding start
 loop-holds c =
-    let ps = c .args .ps in
+    let ps = c .args .t1 in
     let n = c .args .n in
     let inside = c .good .0 .1 .0 .1 in
     (omega arith, omega arith, omega arith, inside, scanned-from-one _ ps n (omega arith))
+
+mul-earlier-of : tie.Need-mul-earlier-of Inv-loop μ-loop
+mul-earlier-of c = search needs
+
+array-copy-out-earlier-of : tie.Need-array-copy-out-earlier-of Inv-loop μ-loop
+array-copy-out-earlier-of c = search needs
+
+mul-earlier-of-2 : tie.Need-mul-earlier-of-2 Inv-loop μ-loop
+mul-earlier-of-2 c = search needs
+
+array-copy-out-earlier-of-2 : tie.Need-array-copy-out-earlier-of-2 Inv-loop μ-loop
+array-copy-out-earlier-of-2 c = search needs
 
 earlier-of-requires : tie.Need-earlier-of-requires Inv-loop μ-loop
 earlier-of-requires c κs = search needs
@@ -38,17 +51,18 @@ loop-less c = search needs
 
 loop-again : tie.Need-loop-again Inv-loop μ-loop
 loop-again c =
-    let loop = c .before .before in
-    let ps = loop .before .args .ps in
+    let loop = c .before .before .before .before in
+    let ps = loop .before .args .t1 in
     let n = loop .before .args .n in
     let i0 = loop .loop .i0 in
     let i = loop .loop .i in
-    let inv = loop .loop .inv in (
+    let inv = loop .loop .inv in
+    let picked = c .earlier-of .ensures ∙ ap (λ (t : Bool). cond t i i0) (earlier-at ps _ i0 i (omega arith) (omega arith)) in (
       omega arith,
       omega arith,
-      scanned-below (earlier ps i0 i) _ i0 i n (c .earlier-of .ensures) (omega arith) (omega arith),
+      scanned-below (earlier ps i0 i) _ i0 i n picked (omega arith) (omega arith),
       inv .3,
-      scanned-next (earlier ps i0 i) _ i0 i n (c .earlier-of .ensures) (omega arith) (earlier (take n ps)) _
+      scanned-next (earlier ps i0 i) _ i0 i n picked (omega arith) (earlier (take n ps)) _
           (earlier-first ps n i0 i (omega arith) (omega arith)) (inv .4),
     )
 
@@ -61,4 +75,16 @@ returns c =
 pub start-spec : {M : Type 1} → statement M
 start-spec =
     tie.close
-    (tie.spec Inv-loop μ-loop loop-holds earlier-of-requires add-i loop-less loop-again returns)
+    (tie.spec
+    Inv-loop
+    μ-loop
+    loop-holds
+    mul-earlier-of
+    array-copy-out-earlier-of
+    mul-earlier-of-2
+    array-copy-out-earlier-of-2
+    earlier-of-requires
+    add-i
+    loop-less
+    loop-again
+    returns)
