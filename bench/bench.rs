@@ -44,19 +44,31 @@ fn root_rust(x: f32) -> f32 {
     b2_sqrt(x)
 }
 
-/// n points about a circle, the same for every contestant; the list at place i is a little different from the others.
+/// The corners of an octagon about a unit circle, out of order. Written out: the shim over Box2D defines cosf and sinf for the whole process.
+const OCTAGON: [(f32, f32); 8] =
+    [(1.0, 0.0), (-0.7071, -0.7071), (0.0, 1.0), (0.7071, -0.7071), (-1.0, 0.0), (0.7071, 0.7071), (0.0, -1.0), (-0.7071, 0.7071)];
+
+/// n points, 4 or 8, all of them corners, the same for every contestant; the list at place i is a little different from the others.
 fn points(n: usize, i: usize) -> Vec<B2vec2> {
-    let wobble = |k: usize| ((i * 7 + k * 13) % 17) as f32 / 256.0;
-    (0..n)
-        .map(|k| {
-            let angle = (k * 5 % n) as f32 * std::f32::consts::TAU / n as f32;
-            B2vec2::new(angle.cos() + wobble(k), angle.sin() + wobble(k + 3))
-        })
-        .collect()
+    let wobble = |k: usize| ((i * 7 + k * 13) % 17) as f32 / 1024.0;
+    let all = OCTAGON.iter().step_by(if n == 4 { 2 } else { 1 });
+    all.enumerate().map(|(k, (x, y))| B2vec2::new(x + wobble(k), y + wobble(k + 3))).collect()
+}
+
+/// The same lists, built by the Rust: each has n corners, or the benchmark would not measure what it says.
+fn built(n: usize) -> Vec<B2polygonShape> {
+    let build = |i| {
+        let mut p = B2polygonShape::default();
+        p.set(&points(n, i));
+        assert_eq!(p.m_count, n);
+        p
+    };
+    (0..256).map(build).collect()
 }
 
 fn outlines(n: usize, rounds: usize) {
     let lists: Vec<Vec<B2vec2>> = (0..256).map(|i| points(n, i)).collect();
+    built(n);
     let shape = std::cell::RefCell::new(B2polygonShape::default());
     let out = std::cell::RefCell::new([0.0f32; 34]);
     compare(&format!("outline of {n} points"), rounds, &|| (), &[
@@ -96,13 +108,7 @@ fn boxes(rounds: usize) {
 
 /// The convexity test of built outlines. Each contestant is given the corners; ours reads, and tests the range of, the normals too.
 fn validates(n: usize, rounds: usize) {
-    let shapes: Vec<B2polygonShape> = (0..256)
-        .map(|i| {
-            let mut p = B2polygonShape::default();
-            p.set(&points(n, i));
-            p
-        })
-        .collect();
+    let shapes = built(n);
     let flat: Vec<[f32; 34]> = shapes
         .iter()
         .map(|p| {
@@ -133,6 +139,11 @@ fn pass(call: &dyn Fn(usize) -> f32, calls: usize) -> f64 {
 }
 
 fn compare(name: &str, rounds: usize, before: &dyn Fn(), contestants: &[(&str, &dyn Fn(usize) -> f32)]) {
+    // every contestant gives the same bits, or the times could not be compared
+    for i in 0..256 {
+        let answers: Vec<u32> = contestants.iter().map(|(_, call)| { before(); call(i).to_bits() }).collect();
+        assert!(answers.iter().all(|a| *a == answers[0]), "{name}: {answers:08x?} at {i}");
+    }
     let mut best = vec![f64::INFINITY; contestants.len()];
     for _ in 0..rounds {
         for (least, (_, call)) in best.iter_mut().zip(contestants) {
@@ -180,7 +191,7 @@ fn main() {
         last.set(r);
         r
     };
-    compare("root, each after the last", rounds, &|| (), &[
+    compare("root, each after the last", rounds, &|| last.set(2.0), &[
         ("ours", &|i| chained(&|x| unsafe { direct_root(x) }, i)),
         ("Rust", &|i| chained(&root_rust, i)),
         ("hardware", &|i| chained(&|x| x.sqrt(), i)),

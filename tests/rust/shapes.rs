@@ -119,7 +119,8 @@ fn request(entry: u32, random: &mut Random) -> (Vec<u32>, usize, u32) {
             let list = points(random, n);
             words.push(n as u32);
             words.extend(bits(&list));
-            let refusal = if !(3..=8).contains(&n) { 1 } else if !list.iter().all(|x| in_range(*x)) { 2 } else { 0 };
+            // a wrong number of points is the references' to refuse
+            let refusal = if (3..=8).contains(&n) && !list.iter().all(|x| in_range(*x)) { 2 } else { 0 };
             (words, 3, refusal)
         }
         2 => {
@@ -238,7 +239,7 @@ fn main() {
     let (cases, seed): (u64, u64) = (words[0].parse().expect("a number"), words[1].parse().expect("a number"));
     if storing {
         let hex = |words: &[u32]| words.iter().map(|w| format!("{w:08x}")).collect::<Vec<_>>().join(" ");
-        println!("# request : answer, on which the Rust and Box2D 2.4.1 agree, by 'shapes store {cases} {seed}'");
+        println!("# request : answer, by 'shapes store {cases} {seed}'; the Rust and Box2D 2.4.1 agree on it, but for refusals 2, 6 and 7, which are document 01's alone");
         let mut random = Random::new(seed);
         for i in 0..cases {
             let (words, plain, refusal) = request(1 + (i % 6) as u32, &mut random);
