@@ -4,7 +4,7 @@ use mathlib.Core.Bool.{Bool, true, false, not}
 use Prim.Native.Nat.{ℕ, _*_, _^_, _%_, _≤_, _<_}
 use native.Mathlib.Omega.{arith}
 use lib.Dec.{T, ltb, ltb→lt, nltb→le, not-T}
-use lib.Ieee.{Float, nan, inf, fin, binary32, binary64, isNan, nanBits, ofBits, ne, div}
+use lib.Ieee.{Float, nan, inf, fin, binary32, isNan, nanBits, ofBits, ne, div}
 use lib.Ieee.Bits.{nanBits-is, nanBits-above}
 use lib.Ieee.Compare.{differs-from-itself, nan-differs}
 
@@ -41,15 +41,6 @@ not-nan-pattern b h =
     (λ (t : T (ltb (255 * 2 ^ 23) (b % 2 ^ 31))). not-above b h (ltb→lt (255 * 2 ^ 23) (b % 2 ^ 31) t)))
   where
     not-above : (b : ℕ) → b ≤ 255 * 2 ^ 23 → 255 * 2 ^ 23 < b % 2 ^ 31 → ⊥
-    not-above b h k = omega arith
-
-pub not-nan-pattern64 : (b : ℕ) → b ≤ 2047 * 2 ^ 52 → T (not (nanBits binary64 b))
-not-nan-pattern64 b h =
-    subst (λ (c : Bool). T (not c)) (sym (nanBits-above binary64 b))
-    (not-T (ltb (2047 * 2 ^ 52) (b % 2 ^ 63))
-    (λ (t : T (ltb (2047 * 2 ^ 52) (b % 2 ^ 63))). not-above b h (ltb→lt (2047 * 2 ^ 52) (b % 2 ^ 63) t)))
-  where
-    not-above : (b : ℕ) → b ≤ 2047 * 2 ^ 52 → 2047 * 2 ^ 52 < b % 2 ^ 63 → ⊥
     not-above b h k = omega arith
 
 -- a pattern without the sign that is no NaN's is at most infinity's

@@ -4,5 +4,6 @@ pub mod b2_common;
 pub mod b2_math;
 pub mod b2_settings;
 pub mod bits;
+mod cubics;
 pub mod ranges;
 mod root;

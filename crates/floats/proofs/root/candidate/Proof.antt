@@ -1,31 +1,70 @@
--- `candidate` meets its contract: the pattern that it makes is no NaN, and its digits are few. Of the root it says nothing.
--- Assumes nothing.
+-- `candidate` meets its contract: whatever the cubic, its coefficients have 32 digits and t has 19, so that no product passes 2^53.
+-- Of the root it says nothing. Assumes nothing.
+use Prim.Native.Nat.{ℕ, _+_, _-_, _*_, _/_, _%_, _^_, _≤_, _<_}
+use native.Mathlib.Nat.{mul-le-mul, le-of-lt}
 use native.Mathlib.Omega.{arith}
+use Rattle.floats.specs.declared.cubics.Cubic.{Cubic}
 use borrow.Author.Needs.{needs}
-use Rattle.floats.proofs.Nan.{not-nan-pattern64}
 use Rattle.floats.proofs.root.candidate.Statement.{statement}
 use Rattle.floats.proofs.root.candidate.Tie as tie
 
-mul-u : tie.Need-mul-u
-mul-u c = search needs
+product-le : (s t : ℕ) → s < 2 ^ 34 → t < 2 ^ 19 → s * t ≤ 2 ^ 53
+product-le s t s-small t-small = mul-le-mul (le-of-lt s-small) (le-of-lt t-small)
 
-add-u : tie.Need-add-u
-add-u c = search needs
+-- the products of the three steps, on the cubic k
+record Steps (k : Cubic) (t : ℕ) : Type 0 where
+  of-d : k .d * t ≤ 2 ^ 53
+  of-c : (k .c + k .d * t / 2 ^ 24) * t ≤ 2 ^ 53
+  of-b : (k .b + (k .c + k .d * t / 2 ^ 24) * t / 2 ^ 24) * t ≤ 2 ^ 53
 
-float-from-bits-u : tie.Need-float-from-bits-u
-float-from-bits-u c = not-nan-pattern64 _ (omega arith)
+steps-fit : (k : Cubic) (t : ℕ) → k .b < 2 ^ 32 → k .c < 2 ^ 32 → k .d < 2 ^ 32 → t < 2 ^ 19 → Steps k t
+steps-fit k t b-fits c-fits d-fits t-small =
+    let of-d = product-le (k .d) t (omega arith) t-small in
+    let of-c = product-le (k .c + k .d * t / 2 ^ 24) t (omega arith) t-small in
+    let of-b = product-le (k .b + (k .c + k .d * t / 2 ^ 24) * t / 2 ^ 24) t (omega arith) t-small in
+    record { of-d = of-d; of-c = of-c; of-b = of-b }
 
-approximate-root-requires : tie.Need-approximate-root-requires
-approximate-root-requires c κs = search needs
+steps : (c : tie.After-struct-known) → Steps (c .before .segment-cubic .result) (524287 - c .before .before .args .b % 524288)
+steps c = steps-fit (c .before .segment-cubic .result) _ (omega arith) (omega arith) (omega arith) (omega arith)
 
-half-scale-requires : tie.Need-half-scale-requires
-half-scale-requires c κs = search needs
+segment-cubic-requires : tie.Need-segment-cubic-requires
+segment-cubic-requires c κs = search needs
 
-quarter-square-requires : tie.Need-quarter-square-requires
-quarter-square-requires c κs = search needs
+sub-t : tie.Need-sub-t
+sub-t c = search needs
 
-whole-digits-requires : tie.Need-whole-digits-requires
-whole-digits-requires c κs = search needs
+cast-x3 : tie.Need-cast-x3
+cast-x3 c = search needs
+
+mul-x3 : tie.Need-mul-x3
+mul-x3 c = omega (arith, steps c .of-d)
+
+cast-x2 : tie.Need-cast-x2
+cast-x2 c = search needs
+
+add-x2 : tie.Need-add-x2
+add-x2 c = omega (arith, steps (c .before) .of-d)
+
+mul-x2 : tie.Need-mul-x2
+mul-x2 c = omega (arith, steps (c .before) .of-c)
+
+cast-x1 : tie.Need-cast-x1
+cast-x1 c = search needs
+
+add-x1 : tie.Need-add-x1
+add-x1 c = omega (arith, steps (c .before .before) .of-c)
+
+mul-x1 : tie.Need-mul-x1
+mul-x1 c = omega (arith, steps (c .before .before) .of-b)
+
+cast-result : tie.Need-cast-result
+cast-result c = search needs
+
+add-result : tie.Need-add-result
+add-result c = search needs
+
+sub-result : tie.Need-sub-result
+sub-result c = omega (arith, steps (c .before .before .before) .of-b)
 
 returns : tie.Need-returns
 returns c = search needs
@@ -34,11 +73,17 @@ pub candidate-spec : {M : Type 1} → statement M
 candidate-spec =
     tie.close
     (tie.spec
-    mul-u
-    add-u
-    float-from-bits-u
-    approximate-root-requires
-    half-scale-requires
-    quarter-square-requires
-    whole-digits-requires
+    segment-cubic-requires
+    sub-t
+    cast-x3
+    mul-x3
+    cast-x2
+    add-x2
+    mul-x2
+    cast-x1
+    add-x1
+    mul-x1
+    cast-result
+    add-result
+    sub-result
     returns)

@@ -11,8 +11,8 @@ use Rattle.floats.proofs.root.scaled_root.Tie as tie
 bounds : (c : tie.Start) → (2 ^ 46 ≤ widened (c .args .f) (c .args .g)) × (widened (c .args .f) (c .args .g) < 2 ^ 48)
 bounds c = widened-bounds (c .args .f) (c .args .g) (c .pre .0) (c .pre .1)
 
-root-small : (c : tie.After-nearest-root) → c .nearest-root .result ≤ 2 ^ 24
-root-small c = nearest-root-le-2^24 _ (c .nearest-root .result) (bounds (c .before .before) .1) (c .nearest-root .ensures)
+root-small : (c : tie.After-bisected-root) → c .bisected-root .result ≤ 2 ^ 24
+root-small c = nearest-root-le-2^24 _ (c .bisected-root .result) (bounds (c .before) .1) (c .bisected-root .ensures)
 
 mul-n : tie.Need-mul-n
 mul-n c = search needs
@@ -23,13 +23,10 @@ add-n c = search needs
 mul-n-2 : tie.Need-mul-n-2
 mul-n-2 c = omega (arith, bounds c .1)
 
-candidate-requires : tie.Need-candidate-requires
-candidate-requires c κs = search needs
-
-nearest-root-requires : tie.Need-nearest-root-requires
-nearest-root-requires c κs =
-    let n-bounds = bounds (c .before) in
-    (omega arith, n-bounds .1, c .candidate .ensures)
+bisected-root-requires : tie.Need-bisected-root-requires
+bisected-root-requires c κs =
+    let n-bounds = bounds c in
+    (omega arith, n-bounds .1)
 
 sub-result : tie.Need-sub-result
 sub-result c = search needs
@@ -50,9 +47,9 @@ float-from-bits-result c =
 
 returns : tie.Need-returns
 returns c =
-    let s = c .before .before in
-    scaled-root-pattern (s .args .f) (s .args .g) (c .nearest-root .result) (s .pre .0) (s .pre .1) (s .pre .2) (s .pre .3)
-    (c .nearest-root .ensures)
+    let s = c .before in
+    scaled-root-pattern (s .args .f) (s .args .g) (c .bisected-root .result) (s .pre .0) (s .pre .1) (s .pre .2) (s .pre .3)
+    (c .bisected-root .ensures)
 
 pub scaled-root-spec : {M : Type 1} → statement M
 scaled-root-spec =
@@ -61,8 +58,7 @@ scaled-root-spec =
     mul-n
     add-n
     mul-n-2
-    candidate-requires
-    nearest-root-requires
+    bisected-root-requires
     sub-result
     mul-result
     add-result
