@@ -20,25 +20,24 @@ use Rattle.shapes.proofs.Tests.{less-or-not, at-place, at-first-place}
 abbrev pub following : List B2vec2 → ℕ → B2vec2
 following l i = point-at l (place-after (length l) i)
 
--- ---- the corners of an array, and of the list of its first m points
-module _ (vs : List B2vec2) (m i : ℕ) (d : B2vec2) (within : i < m) (few : m ≤ length vs) where
-  pub corner-at : getD vs i d ≡ point-at (take m vs) i
-  corner-at = at-place vs i d (omega arith) ∙ sym (at-first-place vs m i within)
-
-  pub from-corner-at : (p s : B2vec2) → p ≡ b2-sub (getD vs i d) s → p ≡ b2-sub (point-at (take m vs) i) s
-  from-corner-at p s p-is = p-is ∙ ap (λ (q : B2vec2). b2-sub q s) corner-at
+-- ---- the corners in eight places, and in the list of the first m: a corner, and the one after it
+module _ (vs : List B2vec2) (m i : ℕ) (within : i < m) (few : m ≤ length vs) where
+  pub from-corner : (q p s : B2vec2) → q ≡ point-at vs i → p ≡ b2-sub q s → p ≡ b2-sub (point-at (take m vs) i) s
+  from-corner q p s q-is p-is = p-is ∙ ap (λ (x : B2vec2). b2-sub x s) (q-is ∙ sym (at-first-place vs m i within))
 
   module _ (a : ℕ) (a-within : a < m) (a-is : a ≡ place-after m i) where
-    following-at : getD vs a d ≡ following (take m vs) i
+    following-at : point-at vs a ≡ following (take m vs) i
     following-at =
-        at-place vs a d (omega arith) ∙ sym (at-first-place vs m a a-within) ∙ ap (point-at (take m vs)) a-is
+        sym (at-first-place vs m a a-within) ∙ ap (point-at (take m vs)) a-is
         ∙ ap (λ (k : ℕ). point-at (take m vs) (place-after k i)) (sym (length-take-le m vs few))
 
-    pub from-following-at : (p s : B2vec2) → p ≡ b2-sub (getD vs a d) s → p ≡ b2-sub (following (take m vs) i) s
-    from-following-at p s p-is = p-is ∙ ap (λ (q : B2vec2). b2-sub q s) following-at
+    pub from-following : (q p s : B2vec2) → q ≡ point-at vs a → p ≡ b2-sub q s → p ≡ b2-sub (following (take m vs) i) s
+    from-following q p s q-is p-is = p-is ∙ ap (λ (x : B2vec2). b2-sub x s) (q-is ∙ following-at)
 
-    pub edge-at : (e : B2vec2) → e ≡ b2-sub (getD vs a d) (getD vs i d) → e ≡ b2-sub (following (take m vs) i) (point-at (take m vs) i)
-    edge-at e e-is = from-following-at e (getD vs i d) e-is ∙ ap (b2-sub (following (take m vs) i)) corner-at
+    pub edge-at : (q s e : B2vec2) → q ≡ point-at vs a → s ≡ point-at vs i → e ≡ b2-sub q s
+        → e ≡ b2-sub (following (take m vs) i) (point-at (take m vs) i)
+    edge-at q s e q-is s-is e-is =
+        from-following q e s q-is e-is ∙ ap (b2-sub (following (take m vs) i)) (s-is ∙ sym (at-first-place vs m i within))
 
 -- ---- what follows is the head of the rest, or the first corner
 following-by : (l : List B2vec2) (i : ℕ) → i < length l → (i + 1 < length l) ⊎ (length l ≤ i + 1)

@@ -1,10 +1,11 @@
 -- The outline builder, refusal by refusal: what each way out of the code answers is what the definition says. Assumes nothing.
-use mathlib.Core.Path.{_≡_, refl, sym, _∙_, ap}
+use mathlib.Core.Path.{_≡_, refl, sym, _∙_, ap, subst}
 use mathlib.Core.Bool.{Bool, true, false, not, cond, _&&_}
-use mathlib.Core.List.{List, [], _∷_, map}
+use mathlib.Core.List.{List, map}
 use mathlib.Core.Option.{Option, none, some}
-use Prim.Native.Nat.{ℕ, suc, _<_, _≤_}
+use Prim.Native.Nat.{ℕ, _<_, _≤_}
 use native.Mathlib.Omega.{arith}
+use lib.Dec.{T}
 use lib.ListN.{length, take, length-map}
 use lib.Seq.{length-take-le, take-at}
 use lib.Ieee.{binary32, div, lt}
@@ -14,11 +15,10 @@ use Rattle.floats.specs.B2Common.{one32, b2-epsilon}
 use Rattle.floats.specs.B2Math.{b2-add, b2-scale}
 use Rattle.floats.specs.Ranges.{point-in-range}
 use Rattle.shapes.specs.declared.b2_polygon_shape.B2polygonShape.{B2polygonShape}
-use Rattle.shapes.specs.declared.outline.Points.{Points}
 use Rattle.shapes.specs.declared.outline.FanSum.{FanSum}
 use Rattle.shapes.specs.Refusal.{accepted, wrong-number-of-points, shape-out-of-range, too-few-after-welding}
 use Rattle.shapes.specs.Refusal.{walk-not-closed, edge-or-area-too-small}
-use Rattle.shapes.specs.Outline.{point-at, welded, row, edges-from, edges, long-enough, normal-of-edge, fan}
+use Rattle.shapes.specs.Outline.{point-at, welded, row, edges, long-enough, normal-of-edge, fan}
 use Rattle.shapes.specs.Polygon.{
   refused,
   all-points,
@@ -64,18 +64,19 @@ module _ (old : B2polygonShape) (points : List B2vec2) (count : ℕ) where
         ∙ sym (counted-is ∙ ap (λ (t : Bool). cond (not t) (refused shape-out-of-range old)
         (outline-of-welded old (welded (take count points)))) inside)
 
--- ---- a row of three corners or more: they stand in the first places, over the old vertices
-module _ (ps vs : List B2vec2) where
-  corners-are : (places : List ℕ) (r : Points) → Walked ps vs (some places) r → take (r .count) (r .at) ≡ map (point-at ps) places
-  corners-are places r walked = ap (take (r .count)) (walked .1) ∙ take-at (map (point-at ps) places) _ (r .count) (sym (walked .0))
+-- ---- a row of three corners or more: m of them stand in the first places, over the old vertices
+module _ (ps old : List B2vec2) (m : ℕ) (vs : List B2vec2) where
+  corners-are : (places : List ℕ) → Walked ps old (some places) m vs → take m vs ≡ map (point-at ps) places
+  corners-are places walked =
+      ap (take m) (walked .1) ∙ take-at (map (point-at ps) places) _ m (length-map places (point-at ps) ∙ sym (walked .0))
 
-  corners-count : (o : Option (List ℕ)) (r : Points) → Walked ps vs o r → 3 ≤ r .count → length (take (r .count) (r .at)) ≡ r .count
-  corners-count none r walked enough = absurd (omega arith)
-  corners-count (some places) r walked enough = ap length (corners-are places r walked) ∙ sym (walked .0)
+  corners-count : (o : Option (List ℕ)) → Walked ps old o m vs → 3 ≤ m → length (take m vs) ≡ m
+  corners-count none walked enough = absurd (omega arith)
+  corners-count (some places) walked enough = ap length (corners-are places walked) ∙ length-map places (point-at ps) ∙ sym (walked .0)
 
-  over-vertices : (o : Option (List ℕ)) (r : Points) → Walked ps vs o r → 3 ≤ r .count → r .at ≡ put-first (take (r .count) (r .at)) vs
-  over-vertices none r walked enough = absurd (omega arith)
-  over-vertices (some places) r walked enough = walked .1 ∙ ap (λ (new : List B2vec2). put-first new vs) (sym (corners-are places r walked))
+  over-vertices : (o : Option (List ℕ)) → Walked ps old o m vs → 3 ≤ m → vs ≡ put-first (take m vs) old
+  over-vertices none walked enough = absurd (omega arith)
+  over-vertices (some places) walked enough = walked .1 ∙ ap (λ (new : List B2vec2). put-first new old) (sym (corners-are places walked))
 
 -- ---- 3: what is left after welding
 module _ (old : B2polygonShape) (ps : List B2vec2) where
@@ -89,89 +90,68 @@ module _ (old : B2polygonShape) (ps : List B2vec2) where
       ap (λ (t : Bool). cond t (refused too-few-after-welding old) (outline-of-row old ps (row ps))) (sym (le-ltb (length ps) 3 enough))
 
   -- ---- 4: the walk
-  not-closed : (vs : List B2vec2) (o : Option (List ℕ)) (r : Points) → Walked ps vs o r → r .count < 3
-      → refused walk-not-closed old ≡ outline-of-row old ps o
-  not-closed vs none r walked few = refl
-  not-closed vs (some places) r walked few =
-      let places-length = length-map places (point-at ps) in
-      let count-is = walked .0 in
-      simp (lt-ltb (length places) 3 (omega arith))
+  module _ (before : List B2vec2) (m : ℕ) (vs : List B2vec2) where
+    not-closed : (o : Option (List ℕ)) → Walked ps before o m vs → m < 3 → refused walk-not-closed old ≡ outline-of-row old ps o
+    not-closed none walked few = refl
+    not-closed (some places) walked few = let same = walked .0 in simp (lt-ltb (length places) 3 (omega arith))
 
-  of-corners : (vs : List B2vec2) (o : Option (List ℕ)) (r : Points) → Walked ps vs o r → 3 ≤ r .count
-      → outline-of-corners old (take (r .count) (r .at)) ≡ outline-of-row old ps o
-  of-corners vs none r walked enough = absurd (omega arith)
-  of-corners vs (some places) r walked enough =
-      let places-length = length-map places (point-at ps) in
-      let count-is = walked .0 in
-      ap (outline-of-corners old) (corners-are ps vs places r walked)
-      ∙ ap (λ (t : Bool). cond t (refused walk-not-closed old) (outline-of-corners old (map (point-at ps) places)))
-      (sym (le-ltb (length places) 3 (omega arith)))
+    of-corners : (o : Option (List ℕ)) → Walked ps before o m vs → 3 ≤ m → outline-of-corners old (take m vs) ≡ outline-of-row old ps o
+    of-corners none walked enough = absurd (omega arith)
+    of-corners (some places) walked enough =
+        let same = walked .0 in
+        ap (outline-of-corners old) (corners-are ps before m vs places walked)
+        ∙ ap (λ (t : Bool). cond t (refused walk-not-closed old) (outline-of-corners old (map (point-at ps) places)))
+        (sym (le-ltb (length places) 3 (omega arith)))
 
--- ---- what is known after welding, and after the walk
-abbrev pub first-of : Points → List B2vec2
-first-of r = take (r .count) (r .at)
+-- ---- what is known after welding, of the n points kept, and after the walk, of the m corners
+module _ (old : B2polygonShape) (points : List B2vec2) (count : ℕ) where
+  pub record AfterWeld (n : ℕ) (ps : List B2vec2) : Type 0 where
+    pub kept-length : length (take n ps) ≡ n
+    pub kept-so : outline-of-welded old (take n ps) ≡ b2-polygon-shape-set-counted old points count
 
-pub record AfterWeld (old : B2polygonShape) (points : List B2vec2) (count : ℕ) (kept : Points) : Type 0 where
-  pub kept-length : length (first-of kept) ≡ kept .count
-  pub kept-so : outline-of-welded old (first-of kept) ≡ b2-polygon-shape-set-counted old points count
+  pub record AfterWalk (m : ℕ) (vs : List B2vec2) : Type 0 where
+    pub corners-length : length (take m vs) ≡ m
+    pub corners-over : vs ≡ put-first (take m vs) (old .«m_vertices»)
+    pub corners-so : outline-of-corners old (take m vs) ≡ b2-polygon-shape-set-counted old points count
 
-pub record AfterWalk (old : B2polygonShape) (points : List B2vec2) (count : ℕ) (w : Points) : Type 0 where
-  pub corners-length : length (first-of w) ≡ w .count
-  pub corners-over : w .at ≡ put-first (first-of w) (old .«m_vertices»)
-  pub corners-so : outline-of-corners old (first-of w) ≡ b2-polygon-shape-set-counted old points count
-
-module _ (old : B2polygonShape) (points : List B2vec2) (count : ℕ) (kept : Points) where
-  pub after-weld : 3 ≤ count → count ≤ 8 → length points ≡ 8 → all-points point-in-range (take count points) ≡ true
-      → (kept .count ≤ count) × (length (kept .at) ≡ 8) × (first-of kept ≡ welded (take count points)) → AfterWeld old points count kept
-  after-weld enough not-more eight inside welds = record {
-    kept-length = length-take-le (kept .count) (kept .at) (omega arith);
-    kept-so = of-welded old points count enough not-more eight (first-of kept) inside (welds .2);
-  }
-
-  module _ (known : AfterWeld old points count kept) (enough : 3 ≤ kept .count) (w : Points)
-      (walked : Walked (first-of kept) (old .«m_vertices») (row (first-of kept)) w) where
-    row-so : outline-of-row old (first-of kept) (row (first-of kept)) ≡ b2-polygon-shape-set-counted old points count
-    row-so = let same = known .kept-length in of-row old (first-of kept) (omega arith) ∙ known .kept-so
-
-    pub walk-not-back : w .count < 3 → refused walk-not-closed old ≡ b2-polygon-shape-set-counted old points count
-    walk-not-back few = not-closed old (first-of kept) (old .«m_vertices») (row (first-of kept)) w walked few ∙ row-so
-
-    pub after-walk : 3 ≤ w .count → AfterWalk old points count w
-    after-walk closed = record {
-      corners-length = corners-count (first-of kept) (old .«m_vertices») (row (first-of kept)) w walked closed;
-      corners-over = over-vertices (first-of kept) (old .«m_vertices») (row (first-of kept)) w walked closed;
-      corners-so = of-corners old (first-of kept) (old .«m_vertices») (row (first-of kept)) w walked closed ∙ row-so;
+  module _ (n : ℕ) (ps : List B2vec2) where
+    pub after-weld : 3 ≤ count → count ≤ 8 → length points ≡ 8 → all-points point-in-range (take count points) ≡ true
+        → n ≤ count → length ps ≡ 8 → take n ps ≡ welded (take count points) → AfterWeld n ps
+    after-weld enough not-more eight inside fewer room welds = record {
+      kept-length = length-take-le n ps (omega arith);
+      kept-so = of-welded old points count enough not-more eight (take n ps) inside welds;
     }
 
+    module _ (known : AfterWeld n ps) (enough : 3 ≤ n) (m : ℕ) (vs : List B2vec2)
+        (walked : Walked (take n ps) (old .«m_vertices») (row (take n ps)) m vs) where
+      row-so : outline-of-row old (take n ps) (row (take n ps)) ≡ b2-polygon-shape-set-counted old points count
+      row-so = let same = known .kept-length in of-row old (take n ps) (omega arith) ∙ known .kept-so
+
+      pub walk-not-back : m < 3 → refused walk-not-closed old ≡ b2-polygon-shape-set-counted old points count
+      walk-not-back few = not-closed old (take n ps) (old .«m_vertices») m vs (row (take n ps)) walked few ∙ row-so
+
+      pub after-walk : 3 ≤ m → AfterWalk m vs
+      after-walk closed = record {
+        corners-length = corners-count (take n ps) (old .«m_vertices») m vs (row (take n ps)) walked closed;
+        corners-over = over-vertices (take n ps) (old .«m_vertices») m vs (row (take n ps)) walked closed;
+        corners-so = of-corners old (take n ps) (old .«m_vertices») m vs (row (take n ps)) walked closed ∙ row-so;
+      }
+
 -- ---- 5: edges and area
-length-edges-from : (first p : B2vec2) (qs : List B2vec2) → length (edges-from first p qs) ≡ suc (length qs)
-length-edges-from first p [] = refl
-length-edges-from first p (q ∷ qs) = ap suc (length-edges-from first q qs)
+short-edge : (es old new : List B2vec2) (t : Bool) → Faced es old t false new → t ≡ false
+short-edge es old new true faced = sym (faced .0)
+short-edge es old new false faced = refl
 
-length-edges : (l : List B2vec2) → length (edges l) ≡ length l
-unfolding edges
-length-edges [] = refl
-length-edges (p ∷ l) = length-edges-from p p l
-
-short-edge : (es vs : List B2vec2) (t : Bool) (r : Points) → Faced es vs t r → r .count ≡ 0 → 0 < length es → t ≡ false
-short-edge es vs true r faced zero-count some-edge =
-    let same = faced .0 in
-    let length-is = length-map es normal-of-edge in
-    absurd (omega arith)
-short-edge es vs false r faced zero-count some-edge = refl
-
-pub long-edges : (es vs : List B2vec2) (t : Bool) (r : Points) → Faced es vs t r → (r .count ≡ 0 → ⊥)
-    → (t ≡ true) × (r .at ≡ put-first (map normal-of-edge es) vs)
-long-edges es vs true r faced some-count = (refl, faced .1)
-long-edges es vs false r faced some-count = absurd (some-count faced)
+pub long-edges : (es old new : List B2vec2) (t : Bool) → Faced es old t true new
+    → (t ≡ true) × (new ≡ put-first (map normal-of-edge es) old)
+long-edges es old new true faced = (refl, faced .1)
+long-edges es old new false faced = absurd (subst T faced tt)
 
 module _ (old : B2polygonShape) (corners : List B2vec2) where
-  pub edge-too-short : (vs : List B2vec2) (r : Points) → 0 < length corners → Faced (edges corners) vs (long-enough (edges corners)) r
-      → r .count ≡ 0 → refused edge-or-area-too-small old ≡ outline-of-corners old corners
+  pub edge-too-short : (before new : List B2vec2) → Faced (edges corners) before (long-enough (edges corners)) false new
+      → refused edge-or-area-too-small old ≡ outline-of-corners old corners
   unfolding outline-of-corners
-  edge-too-short vs r some-corner faced zero-count =
-      let same = length-edges corners in
-      simp (short-edge (edges corners) vs (long-enough (edges corners)) r faced zero-count (omega arith))
+  edge-too-short before new faced = simp (short-edge (edges corners) before new (long-enough (edges corners)) faced)
 
   module _ (sum : FanSum) (all-long : long-enough (edges corners) ≡ true) (sum-is : sum ≡ fan corners) where
     pub area-too-small : lt b2-epsilon (sum .area) ≡ false → refused edge-or-area-too-small old ≡ outline-of-corners old corners

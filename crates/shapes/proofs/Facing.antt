@@ -9,7 +9,6 @@ use lib.ListN.{length, drop, set, length-map, drop-of-length-le}
 use lib.Ieee.{lt}
 use Rattle.floats.specs.declared.b2_math.B2vec2.{B2vec2}
 use Rattle.floats.specs.B2Math.{b2-sub, b2-length-squared}
-use Rattle.shapes.specs.declared.outline.Points.{Points}
 use Rattle.shapes.specs.Outline.{point-at, edges, epsilon-squared, long-enough, normal-of-edge}
 use Rattle.shapes.specs.Polygon.{put-first}
 use Rattle.shapes.specs.Parts.{Faced}
@@ -57,17 +56,16 @@ module _ (l old ns : List B2vec2) (i : ℕ) (e : B2vec2) (f : Facing l old i ns)
   }
 
   -- it is too short
-  pub facing-short : (r : Points) → lt epsilon-squared (b2-length-squared e) ≡ false → r .count ≡ 0
-      → Faced (edges l) old (long-enough (edges l)) r
-  facing-short r is-short count-is = subst (λ (t : Bool). Faced (edges l) old t r) (long-here false is-short) count-is
+  pub facing-short : (new : List B2vec2) → lt epsilon-squared (b2-length-squared e) ≡ false
+      → Faced (edges l) old (long-enough (edges l)) false new
+  facing-short new is-short = subst (λ (t : Bool). Faced (edges l) old t false new) (long-here false is-short) refl
 
-pub facing-ended : (l old ns : List B2vec2) (i : ℕ) (r : Points) → Facing l old i ns → i ≡ length l → r .count ≡ i → r .at ≡ ns
-    → Faced (edges l) old (long-enough (edges l)) r
+pub facing-ended : (l old ns : List B2vec2) (i : ℕ) → Facing l old i ns → i ≡ length l
+    → Faced (edges l) old (long-enough (edges l)) true ns
 unfolding long-enough
-facing-ended l old ns i r f end count-is at-is =
-    subst (λ (t : Bool). Faced (edges l) old t r) all-long
-    (subst (λ (es : List B2vec2). Faced es old true r) done-is
-    (count-is ∙ sym (length-map (f .done) normal-of-edge ∙ f .done-length), at-is ∙ f .filled))
+facing-ended l old ns i f end =
+    subst (λ (t : Bool). Faced (edges l) old t true ns) all-long
+    (subst (λ (es : List B2vec2). Faced es old true true ns) done-is (refl, f .filled))
   where
     none-left : edges-rest (point-at l 0) (drop i l) ≡ []
     none-left = ap (edges-rest (point-at l 0)) (drop-of-length-le l {i = i} (omega arith))

@@ -1,8 +1,10 @@
+pub mod FlatPoints
 pub mod Tests
 pub mod Over
 pub mod Walking
 pub mod Around
 pub mod Facing
+pub mod Turned
 pub mod AllPoints
 pub mod Built
 pub mod Counted

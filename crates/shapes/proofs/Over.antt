@@ -1,11 +1,11 @@
--- One more at the end of a list, and points put over the first places of an array, one more at a time. Assumes nothing.
-use mathlib.Core.Path.{_≡_, refl, sym, _∙_, ap}
+-- One more at the end of a list; points put over the first places of an array, one more at a time; and a copy. Assumes nothing.
+use mathlib.Core.Path.{_≡_, refl, sym, _∙_, ap, ap₂}
 use mathlib.Core.List.{List, [], _∷_, _++_, map, append-assoc}
 use Prim.Native.Nat.{ℕ, suc, _+_, _<_, _≤_}
 use native.Mathlib.Numerals.{add-one}
 use native.Mathlib.Omega.{arith}
-use lib.ListN.{length, getD, drop, set, length-append}
-use lib.Seq.{drop-cons, set-append-seam, length-front, length-take-le}
+use lib.ListN.{length, getD, take, drop, set, length-append}
+use lib.Seq.{drop-cons, set-append-seam, length-front, length-take-le, take-all, take-suc, take-suc-set}
 use Rattle.floats.specs.declared.b2_math.B2vec2.{B2vec2}
 use Rattle.shapes.specs.Polygon.{put-first}
 
@@ -42,3 +42,14 @@ put-four (w ∷ []) a b c d four = absurd (omega arith)
 put-four (w ∷ x ∷ []) a b c d four = absurd (omega arith)
 put-four (w ∷ x ∷ y ∷ []) a b c d four = absurd (omega arith)
 put-four (w ∷ x ∷ y ∷ z ∷ old) a b c d four = refl
+
+-- ---- a copy, a place at a time: the first i places are those of l
+module _ (l new : List B2vec2) (i : ℕ) (so-far : take i new ≡ take i l) where
+  pub copied-next : (v d : B2vec2) → i < length l → i < length new → v ≡ getD l i d → take (i + 1) (set new i v) ≡ take (i + 1) l
+  copied-next v d within room v-is =
+      ap (λ (k : ℕ). take k (set new i v)) (add-one i) ∙ take-suc-set new i v room
+      ∙ ap₂ (λ (a : List B2vec2) (q : B2vec2). a ++ (q ∷ [])) so-far v-is ∙ sym (take-suc l i d within)
+      ∙ ap (λ (k : ℕ). take k l) (sym (add-one i))
+
+  pub copied : length new ≡ i → length l ≡ i → new ≡ l
+  copied new-length l-length = sym (take-all i new (omega arith)) ∙ so-far ∙ take-all i l (omega arith)

@@ -1,5 +1,5 @@
 -- The tests of the outline builder, from the values that the code computes on the way. Assumes nothing.
-use mathlib.Core.Path.{_≡_, refl, sym, _∙_, ap}
+use mathlib.Core.Path.{_≡_, refl, sym, _∙_, ap, ap₂}
 use mathlib.Core.Bool.{Bool, true, false, cond, _||_}
 use Prim.Native.Nat.{ℕ, zero, suc, _+_, _-_, _<_, _≤_}
 use mathlib.Core.List.{List, [], _∷_}
@@ -14,30 +14,24 @@ use Rattle.algebra.proofs.Loops.{scan-next}
 use Rattle.floats.specs.declared.b2_math.B2vec2.{B2vec2}
 use Rattle.floats.specs.B2Common.{zero32}
 use Rattle.floats.specs.B2Math.{b2-sub, b2-cross, b2-length-squared}
-use Rattle.shapes.specs.Outline.{origin, point-at, later-places, comes-before, earlier, closer, replaces}
+use Rattle.shapes.specs.Outline.{origin, point-at, later-places, earlier, turns-closer, closer, replaces}
 
-module _ (corner candidate p r v : B2vec2) (k : Float) (r-is : r ≡ b2-sub candidate corner) (v-is : v ≡ b2-sub p corner)
-    (k-is : k ≡ b2-cross r v) where
-  cross-is : k ≡ b2-cross (b2-sub candidate corner) (b2-sub p corner)
-  cross-is = k-is ∙ ap (λ u. b2-cross u v) r-is ∙ ap (λ u. b2-cross (b2-sub candidate corner) u) v-is
-
-  -- the cross product is below 0
-  pub closer-below : lt k zero32 ≡ true → true ≡ closer corner candidate p
-  unfolding closer
-  closer-below below = simp (ap (λ x. lt x zero32) (sym cross-is) ∙ below)
+-- ---- k is the cross product of r and v
+module _ (r v : B2vec2) (k : Float) (k-is : k ≡ b2-cross r v) where
+  -- it is below 0
+  pub turns-below : lt k zero32 ≡ true → true ≡ turns-closer r v
+  turns-below below = simp (ap (λ x. lt x zero32) (sym k-is) ∙ below)
 
   -- it is 0: the squared lengths a and b decide
-  pub closer-level : (a b : Float) → lt k zero32 ≡ false → eq k zero32 ≡ true → a ≡ b2-length-squared r → b ≡ b2-length-squared v
-      → lt a b ≡ closer corner candidate p
-  unfolding closer
-  closer-level a b not-below level a-is b-is =
-      simp (ap (λ x. lt x zero32) (sym cross-is) ∙ not-below, ap (λ x. eq x zero32) (sym cross-is) ∙ level, a-is, b-is, r-is, v-is)
+  pub turns-level : (a b : Float) → lt k zero32 ≡ false → eq k zero32 ≡ true → a ≡ b2-length-squared r → b ≡ b2-length-squared v
+      → lt a b ≡ turns-closer r v
+  turns-level a b not-below level a-is b-is =
+      simp (ap (λ x. lt x zero32) (sym k-is) ∙ not-below, ap (λ x. eq x zero32) (sym k-is) ∙ level, a-is, b-is)
 
   -- it is neither
-  pub closer-above : lt k zero32 ≡ false → eq k zero32 ≡ false → eq k zero32 ≡ closer corner candidate p
-  unfolding closer
-  closer-above not-below not-level =
-      simp (not-level, ap (λ x. lt x zero32) (sym cross-is) ∙ not-below, ap (λ x. eq x zero32) (sym cross-is) ∙ not-level)
+  pub turns-above : lt k zero32 ≡ false → eq k zero32 ≡ false → eq k zero32 ≡ turns-closer r v
+  turns-above not-below not-level =
+      simp (not-level, ap (λ x. lt x zero32) (sym k-is) ∙ not-below, ap (λ x. eq x zero32) (sym k-is) ∙ not-level)
 
 pub less-or-not : (a b : ℕ) → (a < b) ⊎ (b ≤ a)
 less-or-not a zero = inr (omega arith)
@@ -69,14 +63,13 @@ module _ {A : Type 0} (t r : Bool) (a b : A) where
   pub unchosen : r ≡ false → r ≡ t → b ≡ cond t a b
   unchosen fails r-is = ap (λ (u : Bool). cond u a b) (sym fails ∙ r-is)
 
--- ---- the tests at places of an array, whatever is read past its end
-module _ (l : List B2vec2) (d : B2vec2) where
-  pub earlier-at : (best i : ℕ) → best < length l → i < length l → comes-before (getD l best d) (getD l i d) ≡ earlier l best i
-  earlier-at best i best-in i-in = simp (at-place l best d best-in, at-place l i d i-in)
-
-  pub replaces-at : (corner candidate j : ℕ) → corner < length l → candidate < length l → j < length l
-      → (eqb candidate corner || closer (getD l corner d) (getD l candidate d) (getD l j d)) ≡ replaces l corner candidate j
-  replaces-at corner candidate j corner-in candidate-in j-in = simp (at-place l corner d corner-in, at-place l candidate d candidate-in, at-place l j d j-in)
+-- the test that replaces the candidate, from the vectors that the code has: r to the candidate, v to the other point
+pub replaces-by : (l : List B2vec2) (ih ie j : ℕ) (corner r v : B2vec2) (z : Bool) → corner ≡ point-at l ih
+    → r ≡ b2-sub (point-at l ie) corner → v ≡ b2-sub (point-at l j) corner → z ≡ (eqb ie ih || turns-closer r v) → z ≡ replaces l ih ie j
+unfolding closer
+replaces-by l ih ie j corner r v z corner-is r-is v-is z-is =
+    z-is ∙ ap₂ (λ (a b : B2vec2). eqb ie ih || turns-closer a b)
+    (r-is ∙ ap (b2-sub (point-at l ie)) corner-is) (v-is ∙ ap (b2-sub (point-at l j)) corner-is)
 
 -- ---- one step of the two scans, over the whole array and over its first n places
 pub earlier-first : (l : List B2vec2) (n best i : ℕ) → best < n → i < n → earlier (take n l) best i ≡ earlier l best i

@@ -11,7 +11,6 @@ use borrow.Author.Tests.{eq-eqb, ne-eqb}
 use Rattle.algebra.specs.Loops.{walk}
 use Rattle.algebra.proofs.Loops.{walk-starts, walk-back, walk-next}
 use Rattle.floats.specs.declared.b2_math.B2vec2.{B2vec2}
-use Rattle.shapes.specs.declared.outline.Points.{Points}
 use Rattle.shapes.specs.Outline.{point-at, start, next, row}
 use Rattle.shapes.specs.Polygon.{put-first}
 use Rattle.shapes.specs.Parts.{Walked}
@@ -66,23 +65,21 @@ module _ (ps old corners : List B2vec2) (m ih : ℕ) (p : B2vec2) (w : Walking p
   }
 
   -- it is the start
-  pub walking-back : (r : Points) → next ps ih ≡ start ps → r .count ≡ m + 1 → r .at ≡ set corners m p → Walked ps old (row ps) r
+  pub walking-back : (count : ℕ) (new : List B2vec2) → next ps ih ≡ start ps → count ≡ m + 1 → new ≡ set corners m p
+      → Walked ps old (row ps) count new
   unfolding done-here
-  walking-back r back count-is at-is =
-      subst (λ (o : Option (List ℕ)). Walked ps old o r) row-is (count-is ∙ sym places-length, at-is ∙ filled-here)
+  walking-back count new back count-is new-is =
+      subst (λ (o : Option (List ℕ)). Walked ps old o count new) row-is
+      (count-is ∙ sym (length-one-more (w .done) ih m (w .done-length)), new-is ∙ filled-here)
     where
       row-is : some (w .done ++ (ih ∷ [])) ≡ row ps
       row-is = walk-back eqb (next ps) (start ps) ih (8 - (m + 1)) (w .done) (row ps) rest-here (eq-eqb (next ps ih) (start ps) back)
 
-      places-length : length (map (point-at ps) (w .done ++ (ih ∷ []))) ≡ m + 1
-      places-length = length-map (w .done ++ (ih ∷ [])) (point-at ps) ∙ length-one-more (w .done) ih m (w .done-length)
-
 -- not back after eight
-pub walking-lost : (ps old corners : List B2vec2) (m ih : ℕ) (r : Points) → Walking ps old m ih corners → 8 ≤ m → r .count ≡ 0
-    → Walked ps old (row ps) r
-walking-lost ps old corners m ih r w ended count-is =
-    subst (λ (o : Option (List ℕ)). Walked ps old o r)
-    (ap (λ (k : ℕ). Option·map (_++_ (w .done)) (walk eqb (next ps) (start ps) k ih)) none-left ∙ w .rest) count-is
+pub walking-lost : (ps old corners new : List B2vec2) (m ih : ℕ) → Walking ps old m ih corners → 8 ≤ m → Walked ps old (row ps) 0 new
+walking-lost ps old corners new m ih w ended =
+    subst (λ (o : Option (List ℕ)). Walked ps old o 0 new)
+    (ap (λ (k : ℕ). Option·map (_++_ (w .done)) (walk eqb (next ps) (start ps) k ih)) none-left ∙ w .rest) refl
   where
     none-left : 0 ≡ 8 - m
     none-left = omega arith

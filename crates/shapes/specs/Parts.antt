@@ -1,5 +1,5 @@
--- What the parts of the outline builder hand to each other: points in the first places of an array of eight, and a count that is 0
--- where the part gives up; what stands in the array is then left free. Definitions only.
+-- What the parts of the outline builder hand to each other: points over those that stood in their places, with their number, or the word
+-- that the part gives up; what then stands in the places is left free. Definitions only.
 use mathlib.Core.Path.{_≡_}
 use mathlib.Core.Bool.{Bool, true, false}
 use mathlib.Core.List.{List, map}
@@ -7,20 +7,15 @@ use mathlib.Core.Option.{Option, none, some}
 use Prim.Native.Nat.{ℕ}
 use lib.ListN.{length}
 use Rattle.floats.specs.declared.b2_math.B2vec2.{B2vec2}
-use Rattle.shapes.specs.declared.outline.Points.{Points}
-use Rattle.shapes.specs.Outline.{point-at, edges, normal-of-edge}
+use Rattle.shapes.specs.Outline.{point-at, normal-of-edge}
 use Rattle.shapes.specs.Polygon.{put-first}
 
--- new points over the old ones
-abbrev pub Put : List B2vec2 → List B2vec2 → Points → Type 0
-Put new old r = (r .count ≡ length new) × (r .at ≡ put-first new old)
+-- the corners of a row of places of ps, over the old points: their count, 0 where there is no row, and the points that result
+abbrev pub Walked : List B2vec2 → List B2vec2 → Option (List ℕ) → ℕ → List B2vec2 → Type 0
+Walked ps old none count new = count ≡ 0
+Walked ps old (some places) count new = (count ≡ length places) × (new ≡ put-first (map (point-at ps) places) old)
 
--- the corners of a row of places of ps
-abbrev pub Walked : List B2vec2 → List B2vec2 → Option (List ℕ) → Points → Type 0
-Walked ps old none r = r .count ≡ 0
-Walked ps old (some places) r = Put (map (point-at ps) places) old r
-
--- the normals of edges that are long enough, or are not
-abbrev pub Faced : List B2vec2 → List B2vec2 → Bool → Points → Type 0
-Faced es old true r = Put (map normal-of-edge es) old r
-Faced es old false r = r .count ≡ 0
+-- the normals of edges, over the old points, where all are long enough, which is answered
+abbrev pub Faced : List B2vec2 → List B2vec2 → Bool → Bool → List B2vec2 → Type 0
+Faced es old true answer new = (answer ≡ true) × (new ≡ put-first (map normal-of-edge es) old)
+Faced es old false answer new = answer ≡ false

@@ -4,6 +4,7 @@ ghost use Rattle.shapes.specs.Polygon.{b2-polygon-shape-set-counted, b2-
 ghost use Rattle.shapes.specs.Boxes.{b2-polygon-shape-set-as-box, b2-polygon-shape-set-as-box-angle};
 ghost use Rattle.shapes.specs.Validate.{b2-polygon-shape-validate};
 use crate::convex;
+use crate::flat;
 use crate::outline;
 use crate::places;
 use crate::shape_ranges;
@@ -61,46 +62,46 @@ pub fn b2_polygon_shape_set_core(
             shape: old,
         };
     }
-    let kept = outline::weld(points, count);
-    let ps = kept.at;
-    let n = kept.count;
+    let given = flat::flat(points);
+    let mut ps = [0.0f32; 16];
+    let n = outline::weld(&given, count, &mut ps);
     if n < 3 {
         return PolygonAnswer {
             refusal: 3,
             shape: old,
         };
     }
-    let i0 = outline::start(ps, n);
+    let i0 = outline::start(&ps, n);
     let old_vertices = old.m_vertices;
-    let old_normals = old.m_normals;
-    let corners = outline::walk(ps, n, i0, old_vertices);
-    let vs = corners.at;
-    let m = corners.count;
+    let mut vs = flat::flat(old_vertices);
+    let m = outline::walk(&ps, n, i0, &mut vs);
     if m < 3 {
         return PolygonAnswer {
             refusal: 4,
             shape: old,
         };
     }
-    let faces = outline::normals(vs, m, old_normals);
-    let ns = faces.at;
-    if faces.count == 0 {
+    let old_normals = old.m_normals;
+    let mut ns = flat::flat(old_normals);
+    if !outline::normals(&vs, m, &mut ns) {
         return PolygonAnswer {
             refusal: 5,
             shape: old,
         };
     }
-    let sum = outline::fan(vs, m);
+    let sum = outline::fan(&vs, m);
     if sum.area > B2_EPSILON {
-        let s = vs[0];
+        let s = flat::at(&vs, 0);
         let centroid = b2_math::b2_add(b2_math::b2_scale(1.0 / sum.area, sum.moment), s);
+        let vertices = flat::points(&vs);
+        let normals = flat::points(&ns);
         return PolygonAnswer {
             refusal: 0,
             shape: B2polygonShape {
                 m_radius: old.m_radius,
                 m_centroid: centroid,
-                m_vertices: vs,
-                m_normals: ns,
+                m_vertices: vertices,
+                m_normals: normals,
                 m_count: m,
             },
         };

@@ -3,6 +3,7 @@ pub mod b2_circle_shape;
 pub mod b2_edge_shape;
 pub mod b2_polygon_shape;
 mod convex;
+mod flat;
 mod outline;
 mod places;
 pub mod shape_ranges;

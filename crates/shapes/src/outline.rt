@@ -1,14 +1,18 @@
-// The parts of the outline builder: welding, the start, the walk, normals, and area with moment. Points stand in the first places of an
-// array of eight; the definitions are over the list of them.
+// The parts of the outline builder: welding, the start, the walk, normals, and area with moment. Points stand in the first places of a row
+// of sixteen coordinates, which is lent from part to part; the definitions are over the list of points.
 ghost use mathlib.Core.Path.{_≡_};
-ghost use mathlib.Core.Bool.{cond, _||_};
+ghost use mathlib.Core.Bool.{true, cond, _||_};
 ghost use Prim.Native.Nat.{_<_, _≤_};
 ghost use lib.Dec.{eqb};
-ghost use lib.ListN.{length, take};
+ghost use lib.ListN.{take};
+ghost use lib.Ieee.{lt};
 ghost use Rattle.algebra.specs.Loops.{near-any};
-ghost use Rattle.shapes.specs.Outline.{too-near, welded, comes-before, start, closer, next, row};
-ghost use Rattle.shapes.specs.Outline.{place-after, edges, long-enough, normal-of-edge, with-triangle, fan};
+ghost use Rattle.floats.specs.B2Math.{b2-length-squared};
+ghost use Rattle.shapes.specs.Outline.{too-near, welded, comes-before, start, turns-closer, next, row};
+ghost use Rattle.shapes.specs.Outline.{place-after, edges, epsilon-squared, long-enough, normal-of-edge, with-triangle, fan};
+ghost use Rattle.shapes.specs.Flat.{points-in, Eight};
 ghost use Rattle.shapes.specs.Parts.{Walked, Faced};
+use crate::flat;
 use floats::b2_common::B2_EPSILON;
 use floats::b2_common::B2_LINEAR_SLOP;
 use floats::b2_math;
@@ -22,12 +26,6 @@ const EPSILON_SQUARED: f32 = B2_EPSILON * B2_EPSILON;
 
 // 1/3, rounded: 11184811/2^25.
 const INV3: f32 = 1.0 / 3.0;
-
-// The points in the first count places.
-pub struct Points {
-    pub at: [B2vec2; 8],
-    pub count: usize,
-}
 
 // The sum of some triangles: their area, and their centroids, each times its area.
 pub struct FanSum {
@@ -43,13 +41,13 @@ fn too_near(v: B2vec2, kept: B2vec2) -> bool
 }
 
 // Whether v is too near to one of the first n points.
-fn near_any(ps: [B2vec2; 8], n: usize, v: B2vec2) -> bool
-    requires { ⌜ n ≤ 8 ⌝ }
-    ensures { λ r. ⌜ r ≡ near-any too-near v (take n ps) ⌝ }
+fn near_any(ps: &[f32; 16], n: usize, v: B2vec2) -> bool
+    requires { ⌜ (n ≤ 8) × Eight (now ps) ⌝ }
+    ensures { λ r. ⌜ r ≡ near-any too-near v (take n (points-in (now (ps .entry)))) ⌝ }
 {
     let mut j = 0usize;
     while j < n {
-        if too_near(v, ps[j]) {
+        if too_near(v, flat::at(ps, j)) {
             return true;
         }
         j += 1;
@@ -57,23 +55,23 @@ fn near_any(ps: [B2vec2; 8], n: usize, v: B2vec2) -> bool
     false
 }
 
-// The first count points without those too near to an earlier one that is kept.
-pub fn weld(points: [B2vec2; 8], count: usize) -> Points
-    requires { ⌜ count ≤ 8 ⌝ }
-    ensures { λ r. ⌜ (r .count ≤ count) × (length (r .at) ≡ 8) × (take (r .count) (r .at) ≡ welded (take count points)) ⌝ }
+// The first count points without those too near to an earlier one that is kept, in the first places of ps, and their number.
+pub fn weld(points: &[f32; 16], count: usize, ps: &mut [f32; 16]) -> usize
+    requires { ⌜ (count ≤ 8) × Eight (now points) × Eight (now ps) ⌝ }
+    ensures { λ r. ⌜ (r ≤ count) × Eight (now (ps .exit))
+        × (take r (points-in (now (ps .exit))) ≡ welded (take count (points-in (now (points .entry))))) ⌝ }
 {
-    let mut ps = [B2vec2 { x: 0.0, y: 0.0 }; 8];
     let mut n = 0usize;
     let mut i = 0usize;
     while i < count {
-        let v = points[i];
+        let v = flat::at(points, i);
         if !near_any(ps, n, v) {
-            ps[n] = v;
+            flat::put(ps, n, v);
             n += 1;
         }
         i += 1;
     }
-    Points { at: ps, count: n }
+    n
 }
 
 // Whether p has a larger x than the best so far, or the same x and a smaller y.
@@ -94,25 +92,23 @@ fn earlier_of(best: B2vec2, p: B2vec2, i0: usize, i: usize) -> usize
 }
 
 // The place of the largest x, smallest y among equals.
-pub fn start(ps: [B2vec2; 8], n: usize) -> usize
-    requires { ⌜ (0 < n) × (n ≤ 8) ⌝ }
-    ensures { λ r. ⌜ (r < n) × (r ≡ start (take n ps)) ⌝ }
+pub fn start(ps: &[f32; 16], n: usize) -> usize
+    requires { ⌜ (0 < n) × (n ≤ 8) × Eight (now ps) ⌝ }
+    ensures { λ r. ⌜ (r < n) × (r ≡ start (take n (points-in (now (ps .entry))))) ⌝ }
 {
     let mut i0 = 0usize;
     let mut i = 1usize;
     while i < n {
-        i0 = earlier_of(ps[i0], ps[i], i0, i);
+        i0 = earlier_of(flat::at(ps, i0), flat::at(ps, i), i0, i);
         i += 1;
     }
     i0
 }
 
-// Whether the candidate is replaced by p, as seen from the corner.
-fn closer(corner: B2vec2, candidate: B2vec2, p: B2vec2) -> bool
-    ensures { λ r. ⌜ r ≡ closer corner candidate p ⌝ }
+// Whether v turns right of r, or is on the same line and longer.
+fn turns_closer(r: B2vec2, v: B2vec2) -> bool
+    ensures { λ z. ⌜ z ≡ turns-closer r v ⌝ }
 {
-    let r = b2_math::b2_sub(candidate, corner);
-    let v = b2_math::b2_sub(p, corner);
     let c = b2_math::b2_cross(r, v);
     if c < 0.0 {
         return true;
@@ -120,54 +116,54 @@ fn closer(corner: B2vec2, candidate: B2vec2, p: B2vec2) -> bool
     c == 0.0 && b2_math::b2_length_squared(r) < b2_math::b2_length_squared(v)
 }
 
-// The candidate's place ie, or j where p replaces it as the point after the corner, which is at ih.
-fn better_of(corner: B2vec2, candidate: B2vec2, p: B2vec2, ih: usize, ie: usize, j: usize) -> usize
-    ensures { λ r. ⌜ r ≡ cond (eqb ie ih || closer corner candidate p) j ie ⌝ }
+// Whether the candidate at ie is replaced, seen from the corner at ih: r leads to the candidate and v to the other point.
+fn replaced(ih: usize, ie: usize, r: B2vec2, v: B2vec2) -> bool
+    ensures { λ z. ⌜ z ≡ (eqb ie ih || turns-closer r v) ⌝ }
 {
     if ie == ih {
-        return j;
+        return true;
     }
-    if closer(corner, candidate, p) { j } else { ie }
+    turns_closer(r, v)
 }
 
 // The place of the corner after the one at ih.
-pub fn next(ps: [B2vec2; 8], n: usize, ih: usize) -> usize
-    requires { ⌜ (0 < n) × (n ≤ 8) × (ih < n) ⌝ }
-    ensures { λ r. ⌜ (r < n) × (r ≡ next (take n ps) ih) ⌝ }
+pub fn next(ps: &[f32; 16], n: usize, ih: usize) -> usize
+    requires { ⌜ (n ≤ 8) × (ih < n) × Eight (now ps) ⌝ }
+    ensures { λ z. ⌜ (z < n) × (z ≡ next (take n (points-in (now (ps .entry)))) ih) ⌝ }
 {
-    let corner = ps[ih];
+    let corner = flat::at(ps, ih);
     let mut ie = 0usize;
+    let mut r = b2_math::b2_sub(flat::at(ps, 0), corner);
     let mut j = 1usize;
     while j < n {
-        ie = better_of(corner, ps[ie], ps[j], ih, ie, j);
+        let v = b2_math::b2_sub(flat::at(ps, j), corner);
+        if replaced(ih, ie, r, v) {
+            ie = j;
+            r = v;
+        }
         j += 1;
     }
     ie
 }
 
-// The corners from the one at i0 on, over the old points; none where the walk is not back after eight.
-pub fn walk(ps: [B2vec2; 8], n: usize, i0: usize, old: [B2vec2; 8]) -> Points
-    requires { ⌜ (n ≤ 8) × (i0 < n) × (i0 ≡ start (take n ps)) ⌝ }
-    ensures { λ r. ⌜ (r .count ≤ 8) × (length (r .at) ≡ 8) × Walked (take n ps) old (row (take n ps)) r ⌝ }
+// The corners from the one at i0 on, over the points of corners, and their number; 0 where the walk is not back after eight.
+pub fn walk(ps: &[f32; 16], n: usize, i0: usize, corners: &mut [f32; 16]) -> usize
+    requires { ⌜ (n ≤ 8) × (i0 < n) × (i0 ≡ start (take n (points-in (now ps)))) × Eight (now ps) × Eight (now corners) ⌝ }
+    ensures { λ r. ⌜ (r ≤ 8) × Eight (now (corners .exit))
+        × Walked (take n (points-in (now (ps .entry)))) (points-in (now (corners .entry))) (row (take n (points-in (now (ps .entry)))))
+        r (points-in (now (corners .exit))) ⌝ }
 {
-    let mut corners = old;
     let mut ih = i0;
     let mut m = 0usize;
     while m < 8 {
-        corners[m] = ps[ih];
+        flat::put(corners, m, flat::at(ps, ih));
         m += 1;
         ih = next(ps, n, ih);
         if ih == i0 {
-            return Points {
-                at: corners,
-                count: m,
-            };
+            return m;
         }
     }
-    Points {
-        at: corners,
-        count: 0,
-    }
+    0
 }
 
 // The place after i, the first after the last.
@@ -179,31 +175,38 @@ pub fn after(i: usize, count: usize) -> usize
     if next < count { next } else { 0 }
 }
 
-// The unit normal of an edge, on its right.
-fn normal_of_edge(edge: B2vec2) -> B2vec2
+// The unit normal of an edge that is long enough, on its right; squared is the edge's squared length.
+fn normal_of_edge(edge: B2vec2, squared: f32) -> B2vec2
+    requires { ⌜ (squared ≡ b2-length-squared edge) × (lt epsilon-squared squared ≡ true) ⌝ }
     ensures { λ r. ⌜ r ≡ normal-of-edge edge ⌝ }
 {
-    let unit = b2_math::b2_normalize(b2_math::b2_cross_vec_by_scalar(edge, 1.0));
-    unit.v
+    let turned = b2_math::b2_cross_vec_by_scalar(edge, 1.0);
+    let inv_length = 1.0 / b2_math::b2_sqrt(squared);
+    B2vec2 {
+        x: turned.x * inv_length,
+        y: turned.y * inv_length,
+    }
 }
 
-// The normals of m corners, over the old ones; none where an edge is too short.
-pub fn normals(vs: [B2vec2; 8], m: usize, old: [B2vec2; 8]) -> Points
-    requires { ⌜ m ≤ 8 ⌝ }
-    ensures { λ r. ⌜ Faced (edges (take m vs)) old (long-enough (edges (take m vs))) r ⌝ }
+// The normals of m corners, over those of ns, and whether every edge is long enough; where one is not, ns is left anyhow.
+pub fn normals(vs: &[f32; 16], m: usize, ns: &mut [f32; 16]) -> bool
+    requires { ⌜ (m ≤ 8) × Eight (now vs) × Eight (now ns) ⌝ }
+    ensures { λ r. ⌜ Eight (now (ns .exit))
+        × Faced (edges (take m (points-in (now (vs .entry))))) (points-in (now (ns .entry)))
+        (long-enough (edges (take m (points-in (now (vs .entry)))))) r (points-in (now (ns .exit))) ⌝ }
 {
-    let mut ns = old;
     let mut i = 0usize;
     while i < m {
-        let edge = b2_math::b2_sub(vs[after(i, m)], vs[i]);
-        if b2_math::b2_length_squared(edge) > EPSILON_SQUARED {
-            ns[i] = normal_of_edge(edge);
+        let edge = b2_math::b2_sub(flat::at(vs, after(i, m)), flat::at(vs, i));
+        let squared = b2_math::b2_length_squared(edge);
+        if squared > EPSILON_SQUARED {
+            flat::put(ns, i, normal_of_edge(edge, squared));
         } else {
-            return Points { at: ns, count: 0 };
+            return false;
         }
         i += 1;
     }
-    Points { at: ns, count: m }
+    true
 }
 
 // The triangle of p1, p2 and p3, added to a sum.
@@ -221,11 +224,11 @@ fn with_triangle(p1: B2vec2, p2: B2vec2, p3: B2vec2, sum: FanSum) -> FanSum
 }
 
 // The triangles from the first corner to each edge, all measured from that corner, summed in corner order.
-pub fn fan(vs: [B2vec2; 8], m: usize) -> FanSum
-    requires { ⌜ (0 < m) × (m ≤ 8) ⌝ }
-    ensures { λ r. ⌜ r ≡ fan (take m vs) ⌝ }
+pub fn fan(vs: &[f32; 16], m: usize) -> FanSum
+    requires { ⌜ (0 < m) × (m ≤ 8) × Eight (now vs) ⌝ }
+    ensures { λ r. ⌜ r ≡ fan (take m (points-in (now (vs .entry)))) ⌝ }
 {
-    let s = vs[0];
+    let s = flat::at(vs, 0);
     let p1 = b2_math::b2_sub(s, s);
     let mut sum = FanSum {
         area: 0.0,
@@ -233,8 +236,8 @@ pub fn fan(vs: [B2vec2; 8], m: usize) -> FanSum
     };
     let mut i = 0usize;
     while i < m {
-        let p2 = b2_math::b2_sub(vs[i], s);
-        let p3 = b2_math::b2_sub(vs[after(i, m)], s);
+        let p2 = b2_math::b2_sub(flat::at(vs, i), s);
+        let p3 = b2_math::b2_sub(flat::at(vs, after(i, m)), s);
         sum = with_triangle(p1, p2, p3, sum);
         i += 1;
     }

@@ -1,14 +1,86 @@
 -- Each way out of the builder answers what the definition says there. Assumes nothing.
-use mathlib.Core.Path.{sym, _∙_}
+use mathlib.Core.Path.{_≡_, refl, sym, _∙_, ap, subst}
+use mathlib.Core.Bool.{Bool, true, false}
+use mathlib.Core.List.{List}
+use Prim.Native.Nat.{_≤_}
 use native.Mathlib.Omega.{arith}
+use lib.ListN.{length, take}
 use borrow.Author.Tests.{not-true, not-false}
-use Rattle.shapes.specs.Outline.{edges}
-use Rattle.shapes.proofs.Around.{corner-at}
+use Rattle.floats.specs.declared.b2_math.B2vec2.{B2vec2}
+use Rattle.shapes.specs.declared.b2_polygon_shape.B2polygonShape.{B2polygonShape}
+use Rattle.shapes.specs.Outline.{welded, row, edges, long-enough}
+use Rattle.shapes.specs.Flat.{points-in}
+use Rattle.shapes.specs.Parts.{Walked, Faced}
+use Rattle.shapes.proofs.Tests.{at-first-place}
 use Rattle.shapes.proofs.Built.{too-few-points, too-many-points, out-of-range, too-few-kept, walk-not-back}
-use Rattle.shapes.proofs.Built.{first-of, after-weld, after-walk, edge-too-short, long-edges, area-too-small, outline-built}
+use Rattle.shapes.proofs.Built.{AfterWeld, AfterWalk, after-weld, after-walk, edge-too-short, long-edges, area-too-small, outline-built}
 use borrow.Author.Needs.{needs}
 use Rattle.shapes.proofs.b2_polygon_shape.b2_polygon_shape_set_core.Statement.{statement}
 use Rattle.shapes.proofs.b2_polygon_shape.b2_polygon_shape_set_core.Tie as tie
+
+-- ---- after welding
+abbrev start-of : tie.After-weld → tie.Start
+start-of d = d .before .before .before .before .before .before .before .before
+
+abbrev kept : tie.After-weld → List B2vec2
+kept d = points-in (d .weld .last .1 .1 .0)
+
+at-weld : (d : tie.After-weld) → AfterWeld (start-of d .args .old) (start-of d .args .points) (start-of d .args .count) (d .weld .result) (kept d)
+at-weld d =
+    let given = d .before .before .before in
+    let inside = given .before .before in
+    let start = inside .before .before .before in
+    let count = start .args .count in
+    after-weld _ _ count _ _ (omega arith) (omega arith) (start .good .1 .0 .1 .0 .1)
+    (sym (inside .points-in-range .ensures) ∙ not-false _ (given .before .if3 .left)) (d .weld .ensures .0) (d .weld .ensures .1)
+    (d .weld .ensures .2 ∙ ap (λ (l : List B2vec2). welded (take count l)) (given .flat .ensures .1))
+
+-- ---- after the walk
+abbrev weld-of : tie.After-walk → tie.After-weld
+weld-of w = w .before .before .before .before .before .before .before .before
+
+abbrev corners : tie.After-walk → List B2vec2
+corners w = points-in (w .walk .last .1 .1 .1 .0)
+
+walked : (w : tie.After-walk)
+    → Walked (take (weld-of w .weld .result) (kept (weld-of w))) (start-of (weld-of w) .args .old .«m_vertices»)
+    (row (take (weld-of w .weld .result) (kept (weld-of w)))) (w .walk .result) (corners w)
+walked w =
+    let d = weld-of w in
+    let ps = take (d .weld .result) (kept d) in
+    subst (λ (old : List B2vec2). Walked ps old (row ps) (w .walk .result) (corners w)) (w .before .before .before .flat2 .ensures .1)
+    (w .walk .ensures .2)
+
+at-walk : (w : tie.After-walk) → 3 ≤ w .walk .result
+    → AfterWalk (start-of (weld-of w) .args .old) (start-of (weld-of w) .args .points) (start-of (weld-of w) .args .count) (w .walk .result) (corners w)
+at-walk w closed =
+    let enough = w .before .before .before .before .before .before .before in
+    after-walk _ _ _ _ _ (at-weld (weld-of w)) (enough .if4 .left) _ _ (walked w) closed
+
+-- ---- after the normals
+abbrev walk-of : tie.After-normals → tie.After-walk
+walk-of f = f .before .before .before .before .before .before
+
+abbrev row-of : tie.After-normals → List B2vec2
+row-of f = take (walk-of f .walk .result) (corners (walk-of f))
+
+abbrev old-of : tie.After-normals → B2polygonShape
+old-of f = start-of (weld-of (walk-of f)) .args .old
+
+abbrev faces : tie.After-normals → List B2vec2
+faces f = points-in (f .normals .last .1 .1 .0)
+
+faced : (f : tie.After-normals) (t : Bool) → f .normals .result ≡ t
+    → Faced (edges (row-of f)) (old-of f .«m_normals») (long-enough (edges (row-of f))) t (faces f)
+faced f t answer =
+    subst (λ (u : Bool). Faced (edges (row-of f)) (old-of f .«m_normals») (long-enough (edges (row-of f))) u (faces f)) answer
+    (subst (λ (old : List B2vec2). Faced (edges (row-of f)) old (long-enough (edges (row-of f))) (f .normals .result) (faces f))
+    (f .before .before .before .flat3 .ensures .1) (f .normals .ensures .1))
+
+known : (f : tie.After-normals)
+    → AfterWalk (old-of f) (start-of (weld-of (walk-of f)) .args .points) (start-of (weld-of (walk-of f)) .args .count)
+    (walk-of f .walk .result) (corners (walk-of f))
+known f = at-walk (walk-of f) (f .before .before .before .before .before .if5 .left)
 
 returns : tie.Need-returns
 returns c = too-few-points _ _ _ (c .if1 .taken)
@@ -26,63 +98,57 @@ returns-3 c =
     out-of-range _ _ (start .args .count) (omega arith) (omega arith) (start .good .1 .0 .1 .0 .1)
     (sym (inside .points-in-range .ensures) ∙ not-true _ (c .if3 .taken))
 
+flat-requires : tie.Need-flat-requires
+flat-requires c κs = search needs
+
 weld-requires : tie.Need-weld-requires
-weld-requires c κs = search needs
+unfolding points-in
+weld-requires c κs = (omega arith, c .before .before .flat .ensures .0, refl)
 
 returns-4 : tie.Need-returns-4
 returns-4 c =
-    let kept = c .before .before in
-    let inside = kept .before .before in
-    let start = inside .before .before .before in
-    let welded =
-    after-weld _ _ (start .args .count) (kept .weld .result) (omega arith) (omega arith) (start .good .1 .0 .1 .0 .1)
-    (sym (inside .points-in-range .ensures) ∙ not-false _ (kept .before .if3 .left)) (kept .weld .ensures) in
-    let length-is = welded .kept-length in
-    too-few-kept _ (first-of (kept .weld .result)) (omega arith) ∙ welded .kept-so
+    let known = at-weld (c .before) in
+    let same = known .kept-length in
+    too-few-kept _ _ (omega arith) ∙ known .kept-so
 
 start-requires : tie.Need-start-requires
 start-requires c κs = search needs
 
+flat-requires-2 : tie.Need-flat-requires-2
+flat-requires-2 c κs = search needs
+
 walk-requires : tie.Need-walk-requires
-walk-requires c κs = search needs
+walk-requires c κs =
+    let vertices = c .before .before in
+    let start = vertices .before .before in
+    let d = start .before .before .before in
+    let fewer = d .weld .ensures .0 in
+    (omega arith, start .start .ensures .0, start .start .ensures .1, d .weld .ensures .1, vertices .flat2 .ensures .0)
 
 returns-5 : tie.Need-returns-5
 returns-5 c =
-    let walk = c .before .before in
-    let enough = walk .before .before .before .before in
-    let kept = enough .before .before in
-    let inside = kept .before .before in
-    let start = inside .before .before .before in
-    let welded =
-    after-weld _ _ (start .args .count) (kept .weld .result) (omega arith) (omega arith) (start .good .1 .0 .1 .0 .1)
-    (sym (inside .points-in-range .ensures) ∙ not-false _ (kept .before .if3 .left)) (kept .weld .ensures) in
-    walk-not-back _ _ _ (kept .weld .result) welded (enough .if4 .left) (walk .walk .result) (walk .walk .ensures .2) (c .if5 .taken)
+    let w = c .before in
+    let enough = w .before .before .before .before .before .before .before in
+    walk-not-back _ _ _ _ _ (at-weld (weld-of w)) (enough .if4 .left) _ _ (walked w) (c .if5 .taken)
+
+flat-requires-3 : tie.Need-flat-requires-3
+flat-requires-3 c κs = search needs
 
 normals-requires : tie.Need-normals-requires
-normals-requires c κs = search needs
+normals-requires c κs =
+    let w = c .before .before .before .before .before in
+    (w .walk .ensures .0, w .walk .ensures .1, c .before .before .flat3 .ensures .0)
 
 returns-6 : tie.Need-returns-6
 returns-6 c =
-    let faces = c .before .before .before in
-    let walk = faces .before .before .before in
-    let enough = walk .before .before .before .before in
-    let kept = enough .before .before in
-    let inside = kept .before .before in
-    let start = inside .before .before .before in
-    let welded =
-    after-weld _ _ (start .args .count) (kept .weld .result) (omega arith) (omega arith) (start .good .1 .0 .1 .0 .1)
-    (sym (inside .points-in-range .ensures) ∙ not-false _ (kept .before .if3 .left)) (kept .weld .ensures) in
-    let walked =
-    after-walk _ _ _ (kept .weld .result) welded (enough .if4 .left) (walk .walk .result) (walk .walk .ensures .2) (faces .before .if5 .left) in
-    let corners = first-of (walk .walk .result) in
-    let length-is = walked .corners-length in
-    edge-too-short _ corners _ _ (omega arith) (faces .normals .ensures) (c .if6 .taken) ∙ walked .corners-so
+    let f = c .before in
+    edge-too-short (old-of f) (row-of f) _ (faces f) (faced f false (not-true _ (c .if6 .taken))) ∙ known f .corners-so
 
 fan-requires : tie.Need-fan-requires
 fan-requires c κs = search needs
 
-array-copy-out-s : tie.Need-array-copy-out-s
-array-copy-out-s c = search needs
+at-requires : tie.Need-at-requires
+at-requires c κs = search needs
 
 b2-scale-requires : tie.Need-b2-scale-requires
 b2-scale-requires c κs = search needs
@@ -90,48 +156,37 @@ b2-scale-requires c κs = search needs
 b2-add-requires : tie.Need-b2-add-requires
 b2-add-requires c κs = search needs
 
+points-requires : tie.Need-points-requires
+points-requires c κs =
+    c .before .before .before .before .before .before .before .before .before .before .before .before .before .before .before .before .before
+    .walk .ensures .1
+
+points-requires-2 : tie.Need-points-requires-2
+points-requires-2 c κs = search needs
+
 returns-7 : tie.Need-returns-7
 returns-7 c =
-    let fan = c .before .before .before .before .before .before in
-    let faces = fan .before .before .before .before in
-    let walk = faces .before .before .before in
-    let enough = walk .before .before .before .before in
-    let kept = enough .before .before in
-    let inside = kept .before .before in
-    let start = inside .before .before .before in
-    let welded =
-    after-weld _ _ (start .args .count) (kept .weld .result) (omega arith) (omega arith) (start .good .1 .0 .1 .0 .1)
-    (sym (inside .points-in-range .ensures) ∙ not-false _ (kept .before .if3 .left)) (kept .weld .ensures) in
-    let walked =
-    after-walk _ _ _ (kept .weld .result) welded (enough .if4 .left) (walk .walk .result) (walk .walk .ensures .2) (faces .before .if5 .left) in
-    let corners = first-of (walk .walk .result) in
-    let length-is = walked .corners-length in
-    let long = long-edges (edges corners) _ _ _ (faces .normals .ensures) (fan .before .if6 .left) in
-    let eight-corners = walk .walk .ensures .1 in
-    let few-corners = walk .walk .ensures .0 in
-    outline-built _ corners _ (long .0) (fan .fan .ensures) _ _ _ _ _ _ (c .before .before .before .before .if7 .taken) (walked .corners-over)
-    (long .1) (sym length-is) (c .before .b2-scale .ensures) (c .b2-add .ensures)
-    (corner-at (walk .walk .result .at) (walk .walk .result .count) 0 _ (omega arith) (omega arith))
+    let vertices = c .before .before in
+    let centroid = vertices .before .before in
+    let s = centroid .before .before .before in
+    let fan = s .before .before .before .before in
+    let f = fan .before .before .before in
+    let w = walk-of f in
+    let walked = known f in
+    let closed = f .before .before .before .before .before .if5 .left in
+    let long = long-edges (edges (row-of f)) _ (faces f) _ (faced f true (not-false _ (fan .before .before .if6 .left))) in
+    outline-built (old-of f) (row-of f) _ (long .0) (fan .fan .ensures) _ _ _ _ _ _ (s .before .before .if7 .taken)
+    (vertices .points .ensures ∙ walked .corners-over) (c .points2 .ensures ∙ long .1) (sym (walked .corners-length))
+    (centroid .before .b2-scale .ensures) (centroid .b2-add .ensures)
+    (s .at .ensures ∙ sym (at-first-place (corners w) (w .walk .result) 0 (omega arith)))
     ∙ walked .corners-so
 
 returns-8 : tie.Need-returns-8
 returns-8 c =
     let fan = c .before .before in
-    let faces = fan .before .before .before .before in
-    let walk = faces .before .before .before in
-    let enough = walk .before .before .before .before in
-    let kept = enough .before .before in
-    let inside = kept .before .before in
-    let start = inside .before .before .before in
-    let welded =
-    after-weld _ _ (start .args .count) (kept .weld .result) (omega arith) (omega arith) (start .good .1 .0 .1 .0 .1)
-    (sym (inside .points-in-range .ensures) ∙ not-false _ (kept .before .if3 .left)) (kept .weld .ensures) in
-    let walked =
-    after-walk _ _ _ (kept .weld .result) welded (enough .if4 .left) (walk .walk .result) (walk .walk .ensures .2) (faces .before .if5 .left) in
-    let corners = first-of (walk .walk .result) in
-    let length-is = walked .corners-length in
-    let long = long-edges (edges corners) _ _ _ (faces .normals .ensures) (fan .before .if6 .left) in
-    area-too-small _ corners _ (long .0) (fan .fan .ensures) (c .if7 .left) ∙ walked .corners-so
+    let f = fan .before .before .before in
+    let long = long-edges (edges (row-of f)) _ (faces f) _ (faced f true (not-false _ (fan .before .before .if6 .left))) in
+    area-too-small (old-of f) (row-of f) _ (long .0) (fan .fan .ensures) (c .if7 .left) ∙ known f .corners-so
 
 pub b2-polygon-shape-set-core-spec : {M : Type 1} → statement M
 b2-polygon-shape-set-core-spec =
@@ -141,16 +196,21 @@ b2-polygon-shape-set-core-spec =
     returns-2
     points-in-range-requires
     returns-3
+    flat-requires
     weld-requires
     returns-4
     start-requires
+    flat-requires-2
     walk-requires
     returns-5
+    flat-requires-3
     normals-requires
     returns-6
     fan-requires
-    array-copy-out-s
+    at-requires
     b2-scale-requires
     b2-add-requires
+    points-requires
+    points-requires-2
     returns-7
     returns-8)

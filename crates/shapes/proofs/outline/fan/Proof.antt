@@ -1,26 +1,28 @@
 -- The sum so far, and the triangles that are left. Assumes nothing.
-use borrow.Author.Needs.{needs}
-use mathlib.Core.Path.{_≡_}
+use mathlib.Core.Path.{_≡_, sym, _∙_}
 use Prim.Native.Nat.{_≤_, _-_}
 use native.Mathlib.Omega.{arith}
 use lib.ListN.{length, take, drop}
 use lib.Seq.{length-take-le}
 use Rattle.floats.specs.B2Math.{b2-sub}
 use Rattle.shapes.specs.Outline.{point-at, fan}
-use Rattle.shapes.proofs.Around.{corner-at, from-corner-at, from-following-at, fan-rest, fan-start, fan-next, fan-ended}
+use Rattle.shapes.specs.Flat.{points-in, Eight}
+use Rattle.shapes.proofs.Tests.{at-first-place}
+use Rattle.shapes.proofs.Around.{from-corner, from-following, fan-rest, fan-start, fan-next, fan-ended}
+use borrow.Author.Needs.{needs}
 use Rattle.shapes.proofs.outline.fan.Statement.{statement}
 use Rattle.shapes.proofs.outline.fan.Tie as tie
 
 abbrev Inv-loop : tie.InvT-loop
-Inv-loop m vs s p1 sum₀ i₀ sum i =
-    (i ≤ m) × (m ≤ 8) × (length vs ≡ 8) × (s ≡ point-at (take m vs) 0) × (p1 ≡ b2-sub s s)
-    × (fan-rest (point-at (take m vs) 0) (drop i (take m vs)) sum ≡ fan (take m vs))
+Inv-loop vs m s p1 sum₀ i₀ sum i =
+    (i ≤ m) × (m ≤ 8) × Eight vs × (s ≡ point-at (take m (points-in vs)) 0) × (p1 ≡ b2-sub s s)
+    × (fan-rest (point-at (take m (points-in vs)) 0) (drop i (take m (points-in vs))) sum ≡ fan (take m (points-in vs)))
 
 abbrev μ-loop : tie.MeasureT-loop
-μ-loop m vs s p1 sum₀ i₀ sum i = m - i
+μ-loop vs m s p1 sum₀ i₀ sum i = m - i
 
-array-copy-out-s : tie.Need-array-copy-out-s Inv-loop μ-loop
-array-copy-out-s c = search needs
+at-requires : tie.Need-at-requires Inv-loop μ-loop
+at-requires c κs = (omega arith, c .pre .2)
 
 b2-sub-requires : tie.Need-b2-sub-requires Inv-loop μ-loop
 b2-sub-requires c κs = search needs
@@ -28,24 +30,20 @@ b2-sub-requires c κs = search needs
 loop-holds : tie.Need-loop-holds Inv-loop μ-loop
 loop-holds c =
     let start = c .before .before in
-    let vs = start .args .t1 in
+    let vs = points-in (start .args .vs .now) in
     let m = start .args .m in
-    let eight = start .good .0 .1 .0 .1 in
+    let eight = start .pre .2 in
     let count : length (take m vs) ≡ m = length-take-le m vs (omega arith) in (
       omega arith,
       omega arith,
       eight,
-      corner-at vs m 0 _ (omega arith) (omega arith),
+      c .before .at .ensures ∙ sym (at-first-place vs m 0 (omega arith)),
       c .b2-sub .ensures,
-      fan-start (take m vs)
-          (omega arith),
+      fan-start (take m vs) (omega arith),
     )
 
-mul-b2-sub : tie.Need-mul-b2-sub Inv-loop μ-loop
-mul-b2-sub c = search needs
-
-array-copy-out-b2-sub : tie.Need-array-copy-out-b2-sub Inv-loop μ-loop
-array-copy-out-b2-sub c = search needs
+at-requires-2 : tie.Need-at-requires-2 Inv-loop μ-loop
+at-requires-2 c κs = (omega arith, c .before .loop .inv .2)
 
 b2-sub-requires-2 : tie.Need-b2-sub-requires-2 Inv-loop μ-loop
 b2-sub-requires-2 c κs = search needs
@@ -53,11 +51,8 @@ b2-sub-requires-2 c κs = search needs
 after-requires : tie.Need-after-requires Inv-loop μ-loop
 after-requires c κs = search needs
 
-mul-b2-sub-2 : tie.Need-mul-b2-sub-2 Inv-loop μ-loop
-mul-b2-sub-2 c = search needs
-
-array-copy-out-b2-sub-2 : tie.Need-array-copy-out-b2-sub-2 Inv-loop μ-loop
-array-copy-out-b2-sub-2 c = search needs
+at-requires-3 : tie.Need-at-requires-3 Inv-loop μ-loop
+at-requires-3 c κs = (omega (arith, c .after .ensures .0), c .before .before .before .before .loop .inv .2)
 
 b2-sub-requires-3 : tie.Need-b2-sub-requires-3 Inv-loop μ-loop
 b2-sub-requires-3 c κs = search needs
@@ -78,15 +73,16 @@ loop-again c =
     let second = after .before in
     let loop = second .before .before .before in
     let start = loop .before .before .before in
-    let vs = start .args .t1 in
+    let vs = points-in (start .args .vs .now) in
     let m = start .args .m in
     let i = loop .loop .i in
     let inv = loop .loop .inv in
+    let eight = inv .2 in
     let count : length (take m vs) ≡ m = length-take-le m vs (omega arith) in
-    let p2-is = from-corner-at vs m i _ (omega arith) (omega arith) _ _ (second .b2-sub2 .ensures) in
+    let p2-is = from-corner vs m i (omega arith) (omega arith) _ _ _ (second .before .at2 .ensures) (second .b2-sub2 .ensures) in
     let p3-is =
-    from-following-at vs m i _ (omega arith) (omega arith) _ (after .after .ensures .0) (after .after .ensures .1) _ _
-    (third .b2-sub3 .ensures) in (
+    from-following vs m i (omega arith) (omega arith) _ (after .after .ensures .0) (after .after .ensures .1) _ _ _
+    (third .before .at3 .ensures) (third .b2-sub3 .ensures) in (
       omega arith,
       omega arith,
       inv .2,
@@ -99,8 +95,9 @@ returns : tie.Need-returns Inv-loop μ-loop
 returns c =
     let loop = c .before in
     let start = loop .before .before .before in
-    let vs = start .args .t1 in
+    let vs = points-in (start .args .vs .now) in
     let m = start .args .m in
+    let eight = loop .loop .inv .2 in
     let count : length (take m vs) ≡ m = length-take-le m vs (omega arith) in
     fan-ended (take m vs) (loop .loop .i) _ (omega arith) (loop .loop .inv .5)
 
@@ -110,15 +107,13 @@ fan-spec =
     (tie.spec
     Inv-loop
     μ-loop
-    array-copy-out-s
+    at-requires
     b2-sub-requires
     loop-holds
-    mul-b2-sub
-    array-copy-out-b2-sub
+    at-requires-2
     b2-sub-requires-2
     after-requires
-    mul-b2-sub-2
-    array-copy-out-b2-sub-2
+    at-requires-3
     b2-sub-requires-3
     with-triangle-requires
     add-i

@@ -1,54 +1,62 @@
--- What the scan keeps from here, seen from the corner, is what it keeps of all places. Assumes nothing.
-use mathlib.Core.Path.{_≡_, _∙_, ap}
-use mathlib.Core.Bool.{Bool, cond}
+-- What the scan keeps from here, seen from the corner, is what it keeps of all places; r leads to the candidate. Assumes nothing.
+use mathlib.Core.Path.{_≡_, refl, _∙_, ap}
+use mathlib.Core.Logic.{⊎-elim}
 use Prim.Native.Nat.{_≤_, _<_, _-_}
 use native.Mathlib.Omega.{arith}
 use lib.ListN.{length, take}
-use borrow.Author.Needs.{needs}
 use Rattle.algebra.specs.Loops.{places, scan}
 use Rattle.algebra.proofs.Loops.{scan-ended}
-use Rattle.shapes.specs.Outline.{replaces, next}
-use Rattle.shapes.proofs.Tests.{replaces-at, replaces-first, scanned-below, scanned-next, scanned-from-one}
+use Rattle.floats.specs.B2Math.{b2-sub}
+use Rattle.shapes.specs.Outline.{point-at, replaces, next}
+use Rattle.shapes.specs.Flat.{points-in, Eight}
+use Rattle.shapes.proofs.Tests.{chosen, unchosen, replaces-by, replaces-first, scanned-next, scanned-from-one}
+use borrow.Author.Needs.{needs}
 use Rattle.shapes.proofs.outline.next.Statement.{statement}
 use Rattle.shapes.proofs.outline.next.Tie as tie
 
 abbrev Inv-loop : tie.InvT-loop
-Inv-loop n ih ps corner ie₀ j₀ ie j =
-    (j ≤ n) × (n ≤ 8) × (ie < n) × (ih < n) × (length ps ≡ 8)
-    × (scan (replaces (take n ps) ih) ie (places j (n - j)) ≡ next (take n ps) ih)
+Inv-loop ps n ih corner ie₀ r₀ j₀ ie r j =
+    (j ≤ n) × (n ≤ 8) × (ie < n) × (ih < n) × Eight ps × (corner ≡ point-at (points-in ps) ih) × (r ≡ b2-sub (point-at (points-in ps) ie) corner)
+    × (scan (replaces (take n (points-in ps)) ih) ie (places j (n - j)) ≡ next (take n (points-in ps)) ih)
 
 abbrev μ-loop : tie.MeasureT-loop
-μ-loop n ih ps corner ie₀ j₀ ie j = n - j
+μ-loop ps n ih corner ie₀ r₀ j₀ ie r j = n - j
 
-mul-corner : tie.Need-mul-corner Inv-loop μ-loop
-mul-corner c = search needs
+at-requires : tie.Need-at-requires Inv-loop μ-loop
+at-requires c κs = (omega arith, c .pre .2)
 
-array-copy-out-corner : tie.Need-array-copy-out-corner Inv-loop μ-loop
-array-copy-out-corner c = search needs
+at-requires-2 : tie.Need-at-requires-2 Inv-loop μ-loop
+at-requires-2 c κs = (omega arith, c .before .pre .2)
+
+b2-sub-requires : tie.Need-b2-sub-requires Inv-loop μ-loop
+b2-sub-requires c κs = search needs
 
 loop-holds : tie.Need-loop-holds Inv-loop μ-loop
 unfolding next
 loop-holds c =
-    let start = c .before in
-    let ps = start .args .t1 in
+    let first = c .before in
+    let start = first .before .before in
+    let ps = points-in (start .args .ps .now) in
     let n = start .args .n in
-    let inside = start .good .0 .1 .0 .1 in
-    (omega arith, omega arith, omega arith, omega arith, inside, scanned-from-one _ ps n (omega arith))
+    let eight = start .pre .2 in (
+      omega arith,
+      omega arith,
+      omega arith,
+      omega arith,
+      eight,
+      first .before .at .ensures,
+      c .b2-sub .ensures ∙ ap (λ p. b2-sub p (first .before .at .result)) (first .at2 .ensures),
+      scanned-from-one _ ps n (omega arith),
+    )
 
-mul-better-of : tie.Need-mul-better-of Inv-loop μ-loop
-mul-better-of c = search needs
+at-requires-3 : tie.Need-at-requires-3 Inv-loop μ-loop
+at-requires-3 c κs = (omega arith, c .before .loop .inv .4)
 
-array-copy-out-better-of : tie.Need-array-copy-out-better-of Inv-loop μ-loop
-array-copy-out-better-of c = search needs
+b2-sub-requires-2 : tie.Need-b2-sub-requires-2 Inv-loop μ-loop
+b2-sub-requires-2 c κs = search needs
 
-mul-better-of-2 : tie.Need-mul-better-of-2 Inv-loop μ-loop
-mul-better-of-2 c = search needs
-
-array-copy-out-better-of-2 : tie.Need-array-copy-out-better-of-2 Inv-loop μ-loop
-array-copy-out-better-of-2 c = search needs
-
-better-of-requires : tie.Need-better-of-requires Inv-loop μ-loop
-better-of-requires c κs = search needs
+replaced-requires : tie.Need-replaced-requires Inv-loop μ-loop
+replaced-requires c κs = search needs
 
 add-j : tie.Need-add-j Inv-loop μ-loop
 add-j c = search needs
@@ -58,29 +66,48 @@ loop-less c = search needs
 
 loop-again : tie.Need-loop-again Inv-loop μ-loop
 loop-again c =
-    let loop = c .before .before .before .before in
-    let start = loop .before .before in
-    let ps = start .args .t1 in
+    let test = c .before in
+    let v = test .before in
+    let loop = v .before .before .before in
+    let first = loop .before .before in
+    let start = first .before .before in
+    let corner = first .before .at .result in
+    let ps = points-in (start .args .ps .now) in
     let n = start .args .n in
     let ih = start .args .ih in
     let ie = loop .loop .ie in
     let j = loop .loop .j in
     let inv = loop .loop .inv in
-    let picked = c .better-of .ensures ∙ ap (λ (t : Bool). cond t j ie) (replaces-at ps _ ih ie j (omega arith) (omega arith) (omega arith)) in (
+    let v-is = v .b2-sub2 .ensures ∙ ap (λ p. b2-sub p corner) (v .before .at3 .ensures) in
+    let test-is = replaces-by ps ih ie j corner _ _ _ (inv .5) (inv .6) v-is (test .replaced .ensures) in
+    let same = replaces-first ps n ih ie j (omega arith) (omega arith) (omega arith) in
+    ⊎-elim
+    (λ w. rw (w .1, w .2) (
       omega arith,
       omega arith,
-      scanned-below (replaces ps ih ie j) _ ie j n picked (omega arith) (omega arith),
+      omega arith,
       omega arith,
       inv .4,
-      scanned-next (replaces ps ih ie j) _ ie j n picked (omega arith) (replaces (take n ps) ih) _
-          (replaces-first ps n ih ie j (omega arith) (omega arith) (omega arith)) (inv .5),
-    )
+      inv .5,
+      v-is,
+      scanned-next (replaces ps ih ie j) j ie j n (chosen _ _ j ie (w .0 .taken) test-is) (omega arith) (replaces (take n ps) ih) _ same (inv .7),
+    ))
+    (λ w. rw (w .1, w .2) (
+      omega arith,
+      omega arith,
+      omega arith,
+      omega arith,
+      inv .4,
+      inv .5,
+      inv .6,
+      scanned-next (replaces ps ih ie j) ie ie j n (unchosen _ _ j ie (w .0 .left) test-is) (omega arith) (replaces (take n ps) ih) _ same (inv .7),
+    ))
+    (c .if1 .came)
 
 returns : tie.Need-returns Inv-loop μ-loop
 returns c =
     let loop = c .before in
-    let n = loop .before .before .args .n in
-    (omega arith, scan-ended _ _ (loop .loop .j) n _ (omega arith) (loop .loop .inv .5))
+    (omega arith, scan-ended _ _ (loop .loop .j) _ _ (omega arith) (loop .loop .inv .7))
 
 pub next-spec : {M : Type 1} → statement M
 next-spec =
@@ -88,14 +115,13 @@ next-spec =
     (tie.spec
     Inv-loop
     μ-loop
-    mul-corner
-    array-copy-out-corner
+    at-requires
+    at-requires-2
+    b2-sub-requires
     loop-holds
-    mul-better-of
-    array-copy-out-better-of
-    mul-better-of-2
-    array-copy-out-better-of-2
-    better-of-requires
+    at-requires-3
+    b2-sub-requires-2
+    replaced-requires
     add-j
     loop-less
     loop-again

@@ -1,44 +1,40 @@
 -- The normals done, and the edges that are left. Assumes nothing.
-use borrow.Author.Needs.{needs}
-use mathlib.Core.Path.{_≡_, refl, sym, _∙_, ap}
-use Prim.Native.Nat.{_≤_, _-_}
+use mathlib.Core.Path.{_≡_, sym, _∙_, ap, subst}
+use Prim.Native.Nat.{_+_, _-_, _≤_}
 use native.Mathlib.Omega.{arith}
-use lib.ListN.{length, take, length-set}
+use lib.ListN.{length, take}
 use lib.Seq.{length-take-le}
 use lib.Ieee.{lt}
 use Rattle.shapes.specs.Outline.{epsilon-squared}
+use Rattle.shapes.specs.Flat.{points-in, Eight}
+use Rattle.shapes.proofs.FlatPoints.{eight-stored}
 use Rattle.shapes.proofs.Around.{edge-at}
 use Rattle.shapes.proofs.Facing.{Facing, facing-starts, facing-next, facing-short, facing-ended}
+use borrow.Author.Needs.{needs}
 use Rattle.shapes.proofs.outline.normals.Statement.{statement}
 use Rattle.shapes.proofs.outline.normals.Tie as tie
 
 abbrev Inv-loop : tie.InvT-loop
-Inv-loop m vs ns₀ i₀ ns i =
-    (i ≤ m) × (m ≤ 8) × (length vs ≡ 8) × (length ns₀ ≡ 8) × (length ns ≡ 8) × Facing (take m vs) ns₀ i ns
+Inv-loop vs m ns₀ i₀ ns i =
+    (i ≤ m) × (m ≤ 8) × Eight vs × Eight ns₀ × Eight ns × Facing (take m (points-in vs)) (points-in ns₀) i (points-in ns)
 
 abbrev μ-loop : tie.MeasureT-loop
-μ-loop m vs ns₀ i₀ ns i = m - i
+μ-loop vs m ns₀ i₀ ns i = m - i
 
 loop-holds : tie.Need-loop-holds Inv-loop μ-loop
 loop-holds c =
     let m = c .args .m in
-    let eight = c .good .1 .1 .0 .1 .0 .1 in
-    (omega arith, omega arith, c .good .0 .1 .0 .1, eight, eight, facing-starts (take m (c .args .t1)) _)
+    let vs = points-in (c .args .vs .now) in
+    (omega arith, omega arith, c .pre .1, c .pre .2, c .pre .2, facing-starts (take m vs) _)
 
 after-requires : tie.Need-after-requires Inv-loop μ-loop
 after-requires c κs = search needs
 
-mul-b2-sub : tie.Need-mul-b2-sub Inv-loop μ-loop
-mul-b2-sub c = search needs
+at-requires : tie.Need-at-requires Inv-loop μ-loop
+at-requires c κs = (omega (arith, c .after .ensures .0), c .before .before .loop .inv .2)
 
-array-copy-out-b2-sub : tie.Need-array-copy-out-b2-sub Inv-loop μ-loop
-array-copy-out-b2-sub c = search needs
-
-mul-b2-sub-2 : tie.Need-mul-b2-sub-2 Inv-loop μ-loop
-mul-b2-sub-2 c = search needs
-
-array-copy-out-b2-sub-2 : tie.Need-array-copy-out-b2-sub-2 Inv-loop μ-loop
-array-copy-out-b2-sub-2 c = search needs
+at-requires-2 : tie.Need-at-requires-2 Inv-loop μ-loop
+at-requires-2 c κs = (omega arith, c .before .before .before .loop .inv .2)
 
 b2-sub-requires : tie.Need-b2-sub-requires Inv-loop μ-loop
 b2-sub-requires c κs = search needs
@@ -47,26 +43,30 @@ b2-length-squared-requires : tie.Need-b2-length-squared-requires Inv-loop μ-loo
 b2-length-squared-requires c κs = search needs
 
 normal-of-edge-requires : tie.Need-normal-of-edge-requires Inv-loop μ-loop
-normal-of-edge-requires c κs = search needs
+normal-of-edge-requires c κs = (c .before .before .b2-length-squared .ensures, c .before .if1 .taken)
 
-mul-ns : tie.Need-mul-ns Inv-loop μ-loop
-mul-ns c = search needs
-
-array-set-from-ns : tie.Need-array-set-from-ns Inv-loop μ-loop
-array-set-from-ns c = search needs
+put-requires : tie.Need-put-requires Inv-loop μ-loop
+put-requires c κs = (omega arith, c .before .before .before .before .before .before .before .before .before .loop .inv .4)
 
 returns : tie.Need-returns Inv-loop μ-loop
 returns c =
     let edge = c .before .before in
-    let loop = edge .before .before .before .before .before in
-    let vs = loop .before .args .t1 in
+    let at = edge .before in
+    let after = at .before .before in
+    let loop = after .before .before in
+    let vs = points-in (loop .before .args .vs .now) in
     let m = loop .before .args .m in
     let i = loop .loop .i in
-    let next = edge .before .before .before .after in
+    let inv = loop .loop .inv in
+    let eight = inv .2 in
     let count : length (take m vs) ≡ m = length-take-le m vs (omega arith) in
-    let edge-is = edge-at vs m i _ (omega arith) (omega arith) _ (next .ensures .0) (next .ensures .1) _ (edge .b2-sub .ensures) in
-    facing-short (take m vs) _ _ i _ (loop .loop .inv .5) (omega arith) edge-is _
-    (ap (lt epsilon-squared) (sym (c .before .b2-length-squared .ensures)) ∙ c .if1 .left) refl
+    let edge-is =
+    edge-at vs m i (omega arith) (omega arith) _ (after .after .ensures .0) (after .after .ensures .1) _ _ _ (at .before .at .ensures)
+    (at .at2 .ensures) (edge .b2-sub .ensures) in (
+      inv .4,
+      facing-short (take m vs) _ _ i _ (inv .5) (omega arith) edge-is _
+          (ap (lt epsilon-squared) (sym (c .before .b2-length-squared .ensures)) ∙ c .if1 .left),
+    )
 
 add-i : tie.Need-add-i Inv-loop μ-loop
 add-i c = search needs
@@ -76,31 +76,38 @@ loop-less c = search needs
 
 loop-again : tie.Need-loop-again Inv-loop μ-loop
 loop-again c =
-    let edge = c .before .before .before in
-    let loop = edge .before .before .before .before .before in
-    let vs = loop .before .args .t1 in
+    let long = c .before .before .before in
+    let edge = long .before .before in
+    let at = edge .before in
+    let after = at .before .before in
+    let loop = after .before .before in
+    let vs = points-in (loop .before .args .vs .now) in
     let m = loop .before .args .m in
     let i = loop .loop .i in
     let inv = loop .loop .inv in
-    let next = edge .before .before .before .after in
+    let eight = inv .2 in
     let count : length (take m vs) ≡ m = length-take-le m vs (omega arith) in
-    let edge-is = edge-at vs m i _ (omega arith) (omega arith) _ (next .ensures .0) (next .ensures .1) _ (edge .b2-sub .ensures) in (
+    let edge-is =
+    edge-at vs m i (omega arith) (omega arith) _ (after .after .ensures .0) (after .after .ensures .1) _ _ _ (at .before .at .ensures)
+    (at .at2 .ensures) (edge .b2-sub .ensures) in (
       omega arith,
       omega arith,
       inv .2,
       inv .3,
-      simp length-set (inv .4),
-      facing-next (take m vs) _ _ i _ (inv .5) (omega arith) edge-is _ (omega arith) (c .normal-of-edge .ensures)
-          (ap (lt epsilon-squared) (sym (c .before .before .b2-length-squared .ensures)) ∙ c .before .if1 .taken),
+      eight-stored (loop .loop .ns) _ i _ (inv .4) (c .put .ensures),
+      subst (Facing (take m vs) _ (i + 1)) (sym (c .put .ensures))
+          (facing-next (take m vs) _ _ i _ (inv .5) (omega arith) edge-is _ (omega (arith, inv .3)) (c .before .normal-of-edge .ensures)
+          (ap (lt epsilon-squared) (sym (long .before .b2-length-squared .ensures)) ∙ long .if1 .taken)),
     )
 
 returns-2 : tie.Need-returns-2 Inv-loop μ-loop
 returns-2 c =
     let loop = c .before in
-    let vs = loop .before .args .t1 in
+    let vs = points-in (loop .before .args .vs .now) in
     let m = loop .before .args .m in
+    let eight = loop .loop .inv .2 in
     let count : length (take m vs) ≡ m = length-take-le m vs (omega arith) in
-    facing-ended (take m vs) _ _ (loop .loop .i) _ (loop .loop .inv .5) (omega arith) (omega arith) refl
+    (loop .loop .inv .4, facing-ended (take m vs) _ _ (loop .loop .i) (loop .loop .inv .5) (omega arith))
 
 pub normals-spec : {M : Type 1} → statement M
 normals-spec =
@@ -110,15 +117,12 @@ normals-spec =
     μ-loop
     loop-holds
     after-requires
-    mul-b2-sub
-    array-copy-out-b2-sub
-    mul-b2-sub-2
-    array-copy-out-b2-sub-2
+    at-requires
+    at-requires-2
     b2-sub-requires
     b2-length-squared-requires
     normal-of-edge-requires
-    mul-ns
-    array-set-from-ns
+    put-requires
     returns
     add-i
     loop-less

@@ -1,44 +1,39 @@
 -- What the scan keeps from here is what it keeps of all places. Assumes nothing.
-use mathlib.Core.Path.{_≡_, _∙_, ap}
+use mathlib.Core.Path.{_≡_, _∙_, ap, ap₂}
 use mathlib.Core.Bool.{Bool, cond}
 use Prim.Native.Nat.{_≤_, _<_, _-_}
 use native.Mathlib.Omega.{arith}
 use lib.ListN.{length, take}
-use borrow.Author.Needs.{needs}
 use Rattle.algebra.specs.Loops.{places, scan}
 use Rattle.algebra.proofs.Loops.{scan-ended}
-use Rattle.shapes.specs.Outline.{earlier, start}
-use Rattle.shapes.proofs.Tests.{earlier-at, earlier-first, scanned-below, scanned-next, scanned-from-one}
+use Rattle.shapes.specs.Outline.{comes-before, earlier, start}
+use Rattle.shapes.specs.Flat.{points-in, Eight}
+use Rattle.shapes.proofs.Tests.{earlier-first, scanned-below, scanned-next, scanned-from-one}
+use borrow.Author.Needs.{needs}
 use Rattle.shapes.proofs.outline.start.Statement.{statement}
 use Rattle.shapes.proofs.outline.start.Tie as tie
 
 abbrev Inv-loop : tie.InvT-loop
-Inv-loop n ps i0₀ i₀ i0 i =
-    (i ≤ n) × (n ≤ 8) × (i0 < n) × (length ps ≡ 8)
-    × (scan (earlier (take n ps)) i0 (places i (n - i)) ≡ start (take n ps))
+Inv-loop ps n i0₀ i₀ i0 i =
+    (i ≤ n) × (n ≤ 8) × (i0 < n) × Eight ps
+    × (scan (earlier (take n (points-in ps))) i0 (places i (n - i)) ≡ start (take n (points-in ps)))
 
 abbrev μ-loop : tie.MeasureT-loop
-μ-loop n ps i0₀ i₀ i0 i = n - i
+μ-loop ps n i0₀ i₀ i0 i = n - i
 
 loop-holds : tie.Need-loop-holds Inv-loop μ-loop
 unfolding start
 loop-holds c =
-    let ps = c .args .t1 in
+    let ps = points-in (c .args .ps .now) in
     let n = c .args .n in
-    let inside = c .good .0 .1 .0 .1 in
-    (omega arith, omega arith, omega arith, inside, scanned-from-one _ ps n (omega arith))
+    let eight = c .pre .2 in
+    (omega arith, omega arith, omega arith, eight, scanned-from-one _ ps n (omega arith))
 
-mul-earlier-of : tie.Need-mul-earlier-of Inv-loop μ-loop
-mul-earlier-of c = search needs
+at-requires : tie.Need-at-requires Inv-loop μ-loop
+at-requires c κs = (omega arith, c .before .loop .inv .3)
 
-array-copy-out-earlier-of : tie.Need-array-copy-out-earlier-of Inv-loop μ-loop
-array-copy-out-earlier-of c = search needs
-
-mul-earlier-of-2 : tie.Need-mul-earlier-of-2 Inv-loop μ-loop
-mul-earlier-of-2 c = search needs
-
-array-copy-out-earlier-of-2 : tie.Need-array-copy-out-earlier-of-2 Inv-loop μ-loop
-array-copy-out-earlier-of-2 c = search needs
+at-requires-2 : tie.Need-at-requires-2 Inv-loop μ-loop
+at-requires-2 c κs = (omega arith, c .before .before .loop .inv .3)
 
 earlier-of-requires : tie.Need-earlier-of-requires Inv-loop μ-loop
 earlier-of-requires c κs = search needs
@@ -51,13 +46,16 @@ loop-less c = search needs
 
 loop-again : tie.Need-loop-again Inv-loop μ-loop
 loop-again c =
-    let loop = c .before .before .before .before in
-    let ps = loop .before .args .t1 in
+    let second = c .before in
+    let loop = second .before .before .before in
+    let ps = points-in (loop .before .args .ps .now) in
     let n = loop .before .args .n in
     let i0 = loop .loop .i0 in
     let i = loop .loop .i in
     let inv = loop .loop .inv in
-    let picked = c .earlier-of .ensures ∙ ap (λ (t : Bool). cond t i i0) (earlier-at ps _ i0 i (omega arith) (omega arith)) in (
+    let picked =
+    c .earlier-of .ensures
+    ∙ ap (λ (t : Bool). cond t i i0) (ap₂ comes-before (second .before .at .ensures) (second .at2 .ensures)) in (
       omega arith,
       omega arith,
       scanned-below (earlier ps i0 i) _ i0 i n picked (omega arith) (omega arith),
@@ -79,10 +77,8 @@ start-spec =
     Inv-loop
     μ-loop
     loop-holds
-    mul-earlier-of
-    array-copy-out-earlier-of
-    mul-earlier-of-2
-    array-copy-out-earlier-of-2
+    at-requires
+    at-requires-2
     earlier-of-requires
     add-i
     loop-less

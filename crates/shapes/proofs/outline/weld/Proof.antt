@@ -1,45 +1,43 @@
 -- The points kept so far, and those to come, give the whole answer. Assumes nothing.
-use mathlib.Core.Path.{_≡_, refl, sym, _∙_}
-use Prim.Native.Nat.{_≤_, _<_, _-_}
-use native.Mathlib.Omega.{arith}
+use mathlib.Core.Path.{_≡_, refl, sym, _∙_, ap}
+use mathlib.Core.List.{List}
 use mathlib.Core.Logic.{⊎-elim}
-use lib.ListN.{length, take, drop, length-set}
-use lib.Seq.{getD-take, length-take-le}
-use borrow.Author.Needs.{needs}
+use Prim.Native.Nat.{_+_, _-_, _≤_, _<_}
+use native.Mathlib.Omega.{arith}
+use lib.ListN.{length, take, drop}
+use lib.Seq.{length-take-le}
 use borrow.Author.Tests.{not-true, not-false}
 use Rattle.algebra.specs.Loops.{weld}
 use Rattle.algebra.proofs.Loops.{weld-dropped, weld-kept, weld-ended}
+use Rattle.floats.specs.declared.b2_math.B2vec2.{B2vec2}
 use Rattle.shapes.specs.Outline.{too-near, welded}
-use Rattle.shapes.proofs.Tests.{first-places}
+use Rattle.shapes.specs.Flat.{points-in, Eight}
+use Rattle.shapes.proofs.Tests.{first-places, at-first-place}
+use Rattle.shapes.proofs.FlatPoints.{eight-stored}
+use borrow.Author.Needs.{needs}
 use Rattle.shapes.proofs.outline.weld.Statement.{statement}
 use Rattle.shapes.proofs.outline.weld.Tie as tie
 
 abbrev Inv-loop : tie.InvT-loop
-Inv-loop count points ps₀ n₀ i₀ ps n i =
-    (n ≤ i) × (i ≤ count) × (count ≤ 8) × (length points ≡ 8) × (length ps ≡ 8)
-    × (weld too-near (take n ps) (drop i (take count points)) ≡ welded (take count points))
+Inv-loop points count ps₀ n₀ i₀ ps n i =
+    (n ≤ i) × (i ≤ count) × (count ≤ 8) × Eight points × Eight ps
+    × (weld too-near (take n (points-in ps)) (drop i (take count (points-in points))) ≡ welded (take count (points-in points)))
 
 abbrev μ-loop : tie.MeasureT-loop
-μ-loop count points ps₀ n₀ i₀ ps n i = count - i
+μ-loop points count ps₀ n₀ i₀ ps n i = count - i
 
 loop-holds : tie.Need-loop-holds Inv-loop μ-loop
 unfolding welded
-loop-holds c = (omega arith, omega arith, omega arith, c .good .0 .1 .0 .1, refl, refl)
+loop-holds c = (omega arith, omega arith, omega arith, c .pre .1, c .pre .2, refl)
 
-mul-v : tie.Need-mul-v Inv-loop μ-loop
-mul-v c = search needs
-
-array-copy-out-v : tie.Need-array-copy-out-v Inv-loop μ-loop
-array-copy-out-v c = search needs
+at-requires : tie.Need-at-requires Inv-loop μ-loop
+at-requires c κs = (omega arith, c .before .loop .inv .3)
 
 near-any-requires : tie.Need-near-any-requires Inv-loop μ-loop
-near-any-requires c κs = search needs
+near-any-requires c κs = (omega arith, c .before .before .before .loop .inv .4)
 
-mul-ps : tie.Need-mul-ps Inv-loop μ-loop
-mul-ps c = search needs
-
-array-set-from-ps : tie.Need-array-set-from-ps Inv-loop μ-loop
-array-set-from-ps c = search needs
+put-requires : tie.Need-put-requires Inv-loop μ-loop
+put-requires c κs = (omega arith, c .before .before .before .before .before .before .loop .inv .4)
 
 add-n : tie.Need-add-n Inv-loop μ-loop
 add-n c = search needs
@@ -52,22 +50,25 @@ loop-less c = search needs
 
 loop-again : tie.Need-loop-again Inv-loop μ-loop
 loop-again c =
-    let loop = c .before .before .before .before in
-    let points = loop .before .args .t1 in
+    let v = c .before .before .before in
+    let loop = v .before .before in
+    let points = points-in (loop .before .args .points .now) in
     let count = loop .before .args .count in
     let i = loop .loop .i in
     let inv = loop .loop .inv in
+    let eight = inv .3 in
     let within : i < length (take count points) = first-places count i points (omega arith) (omega arith) in
+    let v-is = v .at .ensures ∙ sym (at-first-place points count i (omega arith)) in
     ⊎-elim
-    (λ w. rw (w .1, w .2) (
+    (λ w. rw (w .3, w .4) (
       omega arith,
       omega arith,
       omega arith,
       inv .3,
-      simp length-set (inv .4),
-      weld-kept too-near (loop .loop .ps) (take count points) _ (loop .loop .n) i _ _ within
-          (sym (getD-take count points i _ (omega arith))) (inv .5) (omega arith)
-          (sym (c .before .near-any .ensures) ∙ not-true _ (w .0 .taken)),
+      eight-stored (loop .loop .ps) _ (loop .loop .n) _ (inv .4) (w .2 .ensures),
+      ap (λ (ps : List B2vec2). weld too-near (take (loop .loop .n + 1) ps) (drop (i + 1) (take count points))) (w .2 .ensures)
+          ∙ weld-kept too-near (points-in (loop .loop .ps)) (take count points) _ (loop .loop .n) i _ _ within v-is (inv .5)
+          (omega (arith, inv .4)) (sym (c .before .near-any .ensures) ∙ not-true _ (w .0 .taken)),
     ))
     (λ w. rw (w .1, w .2) (
       omega arith,
@@ -75,8 +76,7 @@ loop-again c =
       omega arith,
       inv .3,
       inv .4,
-      weld-dropped too-near (loop .loop .ps) (take count points) _ (loop .loop .n) i _ _ within
-          (sym (getD-take count points i _ (omega arith))) (inv .5)
+      weld-dropped too-near (points-in (loop .loop .ps)) (take count points) _ (loop .loop .n) i _ _ within v-is (inv .5)
           (sym (c .before .near-any .ensures) ∙ not-false _ (w .0 .left)),
     ))
     (c .if1 .came)
@@ -84,8 +84,9 @@ loop-again c =
 returns : tie.Need-returns Inv-loop μ-loop
 returns c =
     let loop = c .before in
-    let points = loop .before .args .t1 in
+    let points = points-in (loop .before .args .points .now) in
     let count = loop .before .args .count in
+    let eight = loop .loop .inv .3 in
     let end : loop .loop .i ≡ length (take count points) = omega (arith, length-take-le count points (omega arith)) in
     (omega arith, loop .loop .inv .4, weld-ended too-near _ (take count points) _ (loop .loop .i) end (loop .loop .inv .5))
 
@@ -96,11 +97,9 @@ weld-spec =
     Inv-loop
     μ-loop
     loop-holds
-    mul-v
-    array-copy-out-v
+    at-requires
     near-any-requires
-    mul-ps
-    array-set-from-ps
+    put-requires
     add-n
     add-i
     loop-less
