@@ -1,5 +1,5 @@
 //! Outlines, boxes, validate and walls, ours through `calls`, against the unmodified Rust and Box2D 2.4.1: every field, refusals included.
-//! usage: shapes CASES SEED         compares, CASES for each entry
+//! usage: shapes CASES SEED         compares, for each entry until CASES were asked of both references
 //!        shapes store CASES SEED   prints answers on which both references agree, for tests/stored
 mod rust_oracle;
 mod support;
@@ -18,8 +18,13 @@ fn box2d(request: &[u32]) -> Vec<u32> {
 
 const POLYGON: usize = 36;
 
-fn in_range(x: f32) -> bool {
-    x.abs() <= 1048576.0
+/// The limits of document 01: of shape numbers, of sine and cosine, of stored normals.
+const SIZE: f32 = 1048576.0;
+const TURN: f32 = 1.0;
+const NORMAL: f32 = 2.0;
+
+fn within(words: &[u32], limit: f32) -> bool {
+    words.iter().all(|w| f32::from_bits(*w).abs() <= limit)
 }
 
 /// Words as floats with one NaN; a polygon's count (word 3) and a wall's flag (word 1) are no floats.
@@ -28,7 +33,11 @@ fn one_nan(words: &[u32], plain: usize) -> Vec<u32> {
     words.iter().enumerate().map(|(i, w)| if i == plain { *w } else { nan(*w) }).collect()
 }
 
-// ---- generators
+fn bits(list: &[f32]) -> Vec<u32> {
+    list.iter().map(|x| x.to_bits()).collect()
+}
+
+// ---- generators, of numbers in range; `spoil` puts some out of it
 fn word_of(random: &mut Random) -> u32 {
     if random.below(3) == 0 { random.next() as u32 } else { random.float().to_bits() }
 }
@@ -46,7 +55,7 @@ fn grid(random: &mut Random, steps: u64) -> f32 {
 }
 
 /// Points of one of the kinds that matter: grid lists wide and narrow, slivers, nearly collinear and huge ones, subnormals, pairs at the
-/// weld limit, ordinary ones, and now and then a number out of range.
+/// weld limit, ordinary ones.
 fn points(random: &mut Random, n: usize) -> Vec<f32> {
     let kind = random.below(11);
     let scale = [1.0f32, 4.0, 1000.0, 1048576.0][random.below(4) as usize];
@@ -67,9 +76,10 @@ fn points(random: &mut Random, n: usize) -> Vec<f32> {
             8 => (f32::from_bits(random.next() as u32 & 0x807f_ffff), t),
             9 => {
                 let angle = i as f32 * 0.785 + t * 1e-3;
-                (scale * (1.0 - angle * angle / 2.0), scale * (angle - angle * angle * angle / 6.0))
+                let (x, y) = (scale * (1.0 - angle * angle / 2.0), scale * (angle - angle * angle * angle / 6.0));
+                (x.clamp(-SIZE, SIZE), y.clamp(-SIZE, SIZE))
             }
-            _ => (random.float().clamp(-1e6, 1e6), random.float().clamp(-1e6, 1e6)),
+            _ => (number(random), number(random)),
         };
         list.extend([x, y]);
     }
@@ -80,108 +90,133 @@ fn points(random: &mut Random, n: usize) -> Vec<f32> {
         list[2 * to] = list[2 * from] + step;
         list[2 * to + 1] = list[2 * from + 1];
     }
-    if n > 0 && random.below(60) == 0 {
-        let at = random.below(2 * n as u64) as usize;
-        list[at] = [f32::NAN, f32::INFINITY, 1048576.1, -1e30, 1048577.0][random.below(5) as usize];
-    }
     list
 }
 
 fn number(random: &mut Random) -> f32 {
     match random.below(5) {
         0 => grid(random, 1024),
-        1 => [1048576.0, -1048576.0, 1048576.1, f32::NAN, f32::NEG_INFINITY, 0.0, -0.0][random.below(7) as usize],
+        1 => [SIZE, -SIZE, 1048575.9375, 0.0, -0.0][random.below(5) as usize],
         2 => f32::from_bits(random.next() as u32 & 0x807f_ffff),
-        _ => random.float(),
+        _ => loop {
+            let x = random.float();
+            if x.abs() <= SIZE {
+                break x;
+            }
+        },
     }
 }
 
-fn turn(random: &mut Random) -> f32 {
-    match random.below(4) {
+/// A sine or cosine, or a coordinate of a normal.
+fn turn(random: &mut Random, limit: f32) -> u32 {
+    let x = match random.below(4) {
         0 => [0.0, 1.0, -1.0, -0.0][random.below(4) as usize],
-        1 => [1.0000001, -2.0, f32::NAN, 1e-40][random.below(4) as usize],
+        1 => [limit, -limit, 0.99999994, 1e-40][random.below(4) as usize],
         _ => random.below(1 << 24) as f32 / (1 << 23) as f32 - 1.0,
+    };
+    x.to_bits()
+}
+
+/// In one case of ten, a number (now and then more) put just beyond the limit, far beyond it, or to no number.
+fn spoil(random: &mut Random, words: &mut [u32], limit: f32) {
+    while random.below(10) == 0 && !words.is_empty() {
+        let beyond = f32::from_bits(limit.to_bits() + 1);
+        let any = random.float();
+        let any = if any.abs() <= limit { -1e30 } else { any };
+        let bad = [beyond, -beyond, limit + 1.0, f32::NAN, f32::INFINITY, f32::NEG_INFINITY, any][random.below(7) as usize];
+        words[random.below(words.len() as u64) as usize] = bad.to_bits();
     }
 }
 
-fn vec_at(words: &[u32], i: usize) -> bool {
-    in_range(f32::from_bits(words[i])) && in_range(f32::from_bits(words[i + 1]))
+/// Shape numbers for a call, with the refusal by their range.
+fn sizes(random: &mut Random, n: usize) -> (Vec<u32>, u32) {
+    let mut list: Vec<u32> = (0..n).map(|_| number(random).to_bits()).collect();
+    spoil(random, &mut list, SIZE);
+    let refusal = if within(&list, SIZE) { 0 } else { 2 };
+    (list, refusal)
+}
+
+/// An outline for validate: mostly a built one, which mostly is convex; past the count, any bits.
+fn outline(random: &mut Random) -> Vec<u32> {
+    let built = if random.below(3) > 0 { build(random) } else { None };
+    let mut record = built.unwrap_or_else(|| {
+        let radius = number(random).abs();
+        let mut record = bits(&[radius, number(random), number(random)]);
+        record.push(random.below(9) as u32);
+        record.extend(bits(&points(random, 8)));
+        record.extend((0..16).map(|_| turn(random, NORMAL)));
+        record
+    });
+    let kept = 2 * record[3] as usize;
+    (4 + kept..20).chain(20 + kept..36).for_each(|i| record[i] = word_of(random));
+    spoil(random, &mut record[..3], SIZE);
+    spoil(random, &mut record[4..4 + kept], SIZE);
+    spoil(random, &mut record[20..20 + kept], NORMAL);
+    if random.below(60) == 0 {
+        record[0] |= 1 << 31;
+    }
+    if random.below(30) == 0 {
+        record[3] = [9, 255, 1 << 31, random.next() as u32][random.below(4) as usize];
+    }
+    record
 }
 
 // ---- one case of each entry: the request, the place of the record's word that is no float, and the refusal by range or count
 fn request(entry: u32, random: &mut Random) -> (Vec<u32>, usize, u32) {
-    let bits = |list: &[f32]| list.iter().map(|x| x.to_bits()).collect::<Vec<u32>>();
     let mut words = vec![entry];
     match entry {
         1 => {
             words.extend(old(random, POLYGON, 3, 0));
             let n = if random.below(20) == 0 { random.below(12) } else { 3 + random.below(6) } as usize;
-            let list = points(random, n);
+            let mut list = bits(&points(random, n));
+            spoil(random, &mut list, SIZE);
             words.push(n as u32);
-            words.extend(bits(&list));
+            words.extend(&list);
             // a wrong number of points is the references' to refuse
-            let refusal = if (3..=8).contains(&n) && !list.iter().all(|x| in_range(*x)) { 2 } else { 0 };
-            (words, 3, refusal)
+            (words, 3, if (3..=8).contains(&n) && !within(&list, SIZE) { 2 } else { 0 })
         }
         2 => {
             words.extend(old(random, POLYGON, 3, 0));
-            let list = [number(random), number(random)];
-            words.extend(bits(&list));
-            (words, 3, if list.iter().all(|x| in_range(*x)) { 0 } else { 2 })
+            let (list, refusal) = sizes(random, 2);
+            words.extend(list);
+            (words, 3, refusal)
         }
         3 => {
             words.extend(old(random, POLYGON, 3, 0));
-            let list = [number(random), number(random), number(random), number(random)];
-            let turns = [turn(random), turn(random)];
-            words.extend(bits(&list));
-            words.extend(bits(&turns));
-            unsafe { set_turn(turns[0], turns[1]) };
-            let turned = turns.iter().all(|x| x.abs() <= 1.0);
-            (words, 3, if !list.iter().all(|x| in_range(*x)) { 2 } else if !turned { 6 } else { 0 })
+            let (list, refusal) = sizes(random, 4);
+            let mut turns = [turn(random, TURN), turn(random, TURN)];
+            spoil(random, &mut turns, TURN);
+            unsafe { set_turn(f32::from_bits(turns[0]), f32::from_bits(turns[1])) };
+            words.extend(list);
+            words.extend(turns);
+            (words, 3, if refusal == 0 && !within(&turns, TURN) { 6 } else { refusal })
         }
         4 => {
-            let count = if random.below(30) == 0 { random.next() as u32 } else { random.below(9) as u32 };
-            let mut record = vec![number(random).abs().to_bits(), 0, 0, count];
-            let list = points(random, 8);
-            record[1..3].copy_from_slice(&bits(&list[0..2]));
-            record.extend(bits(&list));
-            record.extend((0..16).map(|_| turn(random).to_bits()));
-            if random.below(3) > 0 {
-                // a built outline, which mostly is convex
-                let n = 3 + random.below(6) as usize;
-                if let Some(built) = build(random, n) {
-                    record = built;
-                }
-            }
-            let (radius, count) = (f32::from_bits(record[0]), record[3]);
-            let kept = count.min(8) as usize;
-            let normal = |i: usize| f32::from_bits(record[20 + i]).abs() <= 2.0;
-            let fine = (0.0..=1048576.0).contains(&radius)
-                && vec_at(&record, 1)
-                && (0..kept).all(|i| vec_at(&record, 4 + 2 * i))
-                && (0..2 * kept).all(normal);
+            let record = outline(random);
+            let kept = 2 * record[3].min(8) as usize;
+            let fine = f32::from_bits(record[0]) >= 0.0
+                && within(&record[..3], SIZE)
+                && within(&record[4..4 + kept], SIZE)
+                && within(&record[20..20 + kept], NORMAL);
             words.extend(&record);
-            (words, usize::MAX, if count > 8 { 7 } else if !fine { 2 } else { 0 })
+            (words, usize::MAX, if record[3] > 8 { 7 } else if !fine { 2 } else { 0 })
         }
         _ => {
             words.extend(old(random, 10, 1, 2));
-            let list: Vec<f32> = (0..if entry == 5 { 8 } else { 4 }).map(|_| number(random)).collect();
-            words.extend(bits(&list));
-            (words, 1, if list.iter().all(|x| in_range(*x)) { 0 } else { 2 })
+            let (list, refusal) = sizes(random, if entry == 5 { 8 } else { 4 });
+            words.extend(list);
+            (words, 1, refusal)
         }
     }
 }
 
 /// An outline that Box2D builds, as a record.
-fn build(random: &mut Random, n: usize) -> Option<Vec<u32>> {
-    let mut words = vec![1];
-    words.extend([0x3c23_d70a].iter().chain([0u32; 35].iter()));
-    let list = points(random, n);
-    if !list.iter().all(|x| in_range(*x)) {
-        return None;
-    }
+fn build(random: &mut Random) -> Option<Vec<u32>> {
+    let mut words = vec![1, 0x3c23_d70a];
+    words.extend([0u32; 35]);
+    let n = 3 + random.below(6) as usize;
     words.push(n as u32);
-    words.extend(list.iter().map(|x| x.to_bits()));
+    words.extend(bits(&points(random, n)));
     let answer = box2d(&words);
     (answer[0] == 0).then(|| answer[1..].to_vec())
 }
@@ -214,8 +249,14 @@ const REFUSALS: [&str; 10] = ["accepted", "refusal 1", "refusal 2", "refusal 3",
 fn entry(name: &'static str, number: u32, cases: u64, seed: u64, wanted: &[usize]) -> bool {
     let mut random = Random::new(seed);
     let mut tally = Tally::new(name);
-    for _ in 0..cases {
+    let mut asked = 0;
+    // a generator that seldom is in range fails instead of running on
+    while asked < cases && tally.cases < 4 * cases {
         let (words, plain, refusal) = request(number, &mut random);
+        if refusal == 0 {
+            asked += 1;
+            tally.met("asked of both references");
+        }
         let (answer, agree) = expected(&words, plain, refusal);
         tally.met(REFUSALS[answer[0] as usize]);
         tally.case(&words, &[agree as u32], &[1]);
@@ -225,7 +266,10 @@ fn entry(name: &'static str, number: u32, cases: u64, seed: u64, wanted: &[usize
             tally.met("not convex");
         }
     }
-    let wanted: Vec<&str> = wanted.iter().map(|i| REFUSALS[*i]).collect();
+    let mut wanted: Vec<&str> = wanted.iter().map(|i| REFUSALS[*i]).collect();
+    if asked < cases {
+        wanted.push("enough cases asked of both references");
+    }
     tally.report(&wanted)
 }
 

@@ -109,7 +109,8 @@ impl Tally {
     /// Prints the line and answers whether the comparison passed: no difference, and everything wanted was met.
     pub fn report(&self, wanted: &[&str]) -> bool {
         let missing: Vec<&&str> = wanted.iter().filter(|w| !self.notes.iter().any(|(x, _)| *x == **w)).collect();
-        let notes: Vec<String> = self.notes.iter().map(|(w, n)| format!("{w} {n}")).collect();
+        let mut notes: Vec<String> = self.notes.iter().map(|(w, n)| format!("{w} {n}")).collect();
+        notes.sort();
         let passed = self.differences == 0 && missing.is_empty() && self.cases > 0;
         println!(
             "{} {}: {} cases, {} differences; {}{}",
