@@ -8,6 +8,7 @@ pub mod Turned
 pub mod AllPoints
 pub mod Built
 pub mod Counted
+pub mod Ends
 pub mod Sides
 pub mod Lent
 pub mod Calls

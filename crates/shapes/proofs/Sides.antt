@@ -1,51 +1,132 @@
--- On which side of a face a corner lies, and the two counts over corners and faces, a step at a time. Assumes nothing.
-use mathlib.Core.Path.{_≡_, sym, _∙_}
-use mathlib.Core.Bool.{Bool, true, not, _&&_}
-use mathlib.Core.List.{List}
-use Prim.Native.Nat.{ℕ, _+_, _<_}
+-- The convexity test over the corners' coordinates, a place, a corner and a face at a time. The definition leaves the ends of a face out;
+-- they are not right of it, so a test of every corner answers the same. Assumes nothing.
+use mathlib.Core.Path.{_≡_, refl, sym, _∙_, ap}
+use mathlib.Core.Bool.{Bool, true, false, not, _&&_, _||_}
+use mathlib.Core.List.{List, [], _∷_, _++_, map, map-append, zipWith}
+use mathlib.Core.Logic.{inl, inr}
+use Prim.Native.Nat.{ℕ, zero, suc, _+_, _<_, min}
+use native.Mathlib.Nat.{min-eq-left, min-eq-right}
 use native.Mathlib.Numerals.{add-one}
-use lib.ListN.{length, getD}
+use native.Mathlib.Omega.{arith}
+use lib.Dec.{ltb, eqb}
+use lib.ListN.{length, take, getD, set}
+use lib.Seq.{take-suc, take-suc-set}
 use lib.Ieee.{Float, lt}
-use borrow.Author.Tests.{eq-eqb, ne-eqb}
+use borrow.Author.Tests.{eqb-true, lt-ltb, le-ltb, not-false}
 use Rattle.floats.specs.declared.b2_math.B2vec2.{B2vec2}
 use Rattle.floats.specs.B2Common.{zero32}
-use Rattle.floats.specs.B2Math.{b2-sub, b2-cross}
-use Rattle.shapes.specs.Outline.{place-after}
+use Rattle.floats.specs.B2Math.{vec2, b2-sub, b2-cross}
+use Rattle.shapes.specs.Outline.{point-at, place-after}
 use Rattle.shapes.specs.Validate.{not-right-of, corners-not-right, faces-convex}
-use Rattle.shapes.proofs.Tests.{at-place}
+use Rattle.shapes.proofs.Tests.{less-or-not}
+use Rattle.shapes.proofs.Ends.{first-end-not-right, second-end-not-right}
 
-module _ (vs : List B2vec2) (count i j : ℕ) where
-  pub first-end : j ≡ i → true ≡ not-right-of vs count i j
-  first-end same = simp (eq-eqb j i same)
+-- ---- coordinates
+pub coordinate-next : (f : B2vec2 → Float) (vs : List B2vec2) (xs : List Float) (j : ℕ) (d : B2vec2) → j < length vs → j < length xs
+    → take j xs ≡ map f (take j vs) → take (j + 1) (set xs j (f (getD vs j d))) ≡ map f (take (j + 1) vs)
+coordinate-next f vs xs j d in-vs in-xs so-far =
+    rw add-one
+    (take-suc-set xs j (f (getD vs j d)) in-xs ∙ ap (λ (l : List Float). l ++ (f (getD vs j d) ∷ [])) so-far
+    ∙ sym (ap (map f) (take-suc vs j d in-vs) ∙ map-append f (take j vs) (getD vs j d ∷ [])))
 
-  module _ (next : ℕ) (next-is : next ≡ place-after count i) (not-first : j ≡ i → ⊥) where
-    pub second-end : j ≡ next → true ≡ not-right-of vs count i j
-    second-end same = simp (ne-eqb j i not-first, eq-eqb j (place-after count i) (same ∙ next-is))
+joined-coordinates : (vs : List B2vec2) → zipWith vec2 (map (λ v. v .x) vs) (map (λ v. v .y) vs) ≡ vs
+unfolding zipWith
+joined-coordinates [] = refl
+joined-coordinates (v ∷ vs) = ap (_∷_ v) (joined-coordinates vs)
 
-    pub neither-end : (e v d : B2vec2) (k : Float) → (j ≡ next → ⊥) → i < length vs → j < length vs → next < length vs
-        → e ≡ b2-sub (getD vs next d) (getD vs i d) → v ≡ b2-sub (getD vs j d) (getD vs i d) → k ≡ b2-cross e v
-        → not (lt k zero32) ≡ not-right-of vs count i j
-    neither-end e v d k not-second i-in j-in next-in e-is v-is k-is =
-        simp (
-          ne-eqb j i not-first,
-          ne-eqb j next not-second,
-          sym next-is,
-          k-is,
-          e-is,
-          v-is,
-          at-place vs next d next-in,
-          at-place vs i d i-in,
-          at-place vs j d j-in,
-        )
+joined-at : (xs ys : List Float) (j : ℕ) (d : Float) → j < length xs → j < length ys
+    → vec2 (getD xs j d) (getD ys j d) ≡ point-at (zipWith vec2 xs ys) j
+unfolding zipWith
+joined-at [] ys j d in-xs in-ys = absurd (omega arith)
+joined-at (x ∷ xs) [] j d in-xs in-ys = absurd (omega arith)
+joined-at (x ∷ xs) (y ∷ ys) zero d in-xs in-ys = refl
+joined-at (x ∷ xs) (y ∷ ys) (suc j) d in-xs in-ys = joined-at xs ys j d (omega arith) (omega arith)
 
-pub corners-next : (vs : List B2vec2) (count i j : ℕ) (so-far here : Bool) → so-far ≡ corners-not-right vs count i j
-    → here ≡ not-right-of vs count i j
-    → so-far && here ≡ corners-not-right vs count i (j + 1)
-unfolding corners-not-right
-corners-next vs count i j so-far here so-far-is here-is = rw (add-one, so-far-is, here-is)
+-- ---- corners
+ends-left : (first second right : Bool) → (first ≡ true → right ≡ false) → (second ≡ true → right ≡ false)
+    → (first || second || not right) ≡ not right
+ends-left true second right h k = ap not (sym (h refl))
+ends-left false true right h k = ap not (sym (k refl))
+ends-left false false right h k = refl
 
-pub faces-next : (vs : List B2vec2) (count i : ℕ) (so-far here : Bool) → so-far ≡ faces-convex vs count i
-    → here ≡ corners-not-right vs count i count
-    → so-far && here ≡ faces-convex vs count (i + 1)
+grown : (ok here : Bool) → (not ok || (here && true)) ≡ not (ok && not here)
+grown true true = refl
+grown true false = refl
+grown false true = refl
+grown false false = refl
+
+kept : (right here : Bool) → (right || (here && false)) ≡ right
+kept true here = refl
+kept false true = refl
+kept false false = refl
+
+module _ (vs : List B2vec2) (count i : ℕ) where
+  abbrev pub right-at : ℕ → Bool
+  right-at j = lt (b2-cross (b2-sub (point-at vs (place-after count i)) (point-at vs i)) (b2-sub (point-at vs j) (point-at vs i))) zero32
+
+  not-right-at : (j : ℕ) → not-right-of vs count i j ≡ not (right-at j)
+  not-right-at j =
+      ends-left (eqb j i) (eqb j (place-after count i)) (right-at j)
+      (λ e. ap right-at (eqb-true j i e) ∙ first-end-not-right _ (point-at vs i))
+      (λ e. ap right-at (eqb-true j (place-after count i) e) ∙ second-end-not-right _)
+
+  pub corners-next : (j : ℕ) (right here : Bool) → right ≡ not (corners-not-right vs count i (min j count)) → here ≡ right-at j
+      → (right || (here && ltb j count)) ≡ not (corners-not-right vs count i (min (j + 1) count))
+  unfolding corners-not-right
+  corners-next j right here so-far here-is = elim (less-or-not j count) [
+    | inl below ↦ rw (
+      lt-ltb j count below,
+      min-eq-left {n = j + 1} {m = count} (omega arith),
+      add-one j,
+      so-far,
+      min-eq-left {n = j} {m = count} (omega arith),
+      not-right-at j,
+      here-is,
+    ) (grown (corners-not-right vs count i j) (right-at j))
+    | inr past ↦ rw (
+      le-ltb j count past,
+      min-eq-right {n = count} {m = j + 1} (omega arith),
+      so-far,
+      min-eq-right {n = count} {m = j} (omega arith),
+    ) (kept (not (corners-not-right vs count i count)) here)
+  ]
+
+-- from the coordinates that the code reads
+pub right-is : (xs ys : List Float) (count i next j : ℕ) (d : Float) (e : B2vec2) (here : Bool) → i < length xs → i < length ys
+    → next < length xs → next < length ys → j < length xs → j < length ys → next ≡ place-after count i
+    → e ≡ b2-sub (vec2 (getD xs next d) (getD ys next d)) (vec2 (getD xs i d) (getD ys i d))
+    → here ≡ lt (b2-cross e (b2-sub (vec2 (getD xs j d) (getD ys j d)) (vec2 (getD xs i d) (getD ys i d)))) zero32
+    → here ≡ right-at (zipWith vec2 xs ys) count i j
+right-is xs ys count i next j d e here i-xs i-ys next-xs next-ys j-xs j-ys next-is e-is here-is =
+    rw (
+      here-is,
+      e-is,
+      joined-at xs ys next d next-xs next-ys,
+      joined-at xs ys i d i-xs i-ys,
+      joined-at xs ys j d j-xs j-ys,
+      ← next-is,
+    ) refl
+
+-- ---- faces
+pub joined-faces : (vs : List B2vec2) (xs ys : List Float) (count : ℕ) → xs ≡ map (λ v. v .x) vs → ys ≡ map (λ v. v .y) vs
+    → faces-convex (zipWith vec2 xs ys) count count ≡ faces-convex vs count count
+joined-faces vs xs ys count xs-is ys-is = rw (xs-is, ys-is, joined-coordinates vs) refl
+
+pub faces-next : (vs : List B2vec2) (count i : ℕ) (right : Bool) → right ≡ not (corners-not-right vs count i count) → right ≡ false
+    → faces-convex vs count i ≡ true → faces-convex vs count (i + 1) ≡ true
 unfolding faces-convex
-faces-next vs count i so-far here so-far-is here-is = rw (add-one, so-far-is, here-is)
+faces-next vs count i right right-is fails so-far = rw (add-one, so-far) (not-false _ (sym right-is ∙ fails))
+
+and-false : (a : Bool) → a && false ≡ false
+and-false true = refl
+and-false false = refl
+
+pub faces-failed : (vs : List B2vec2) (count i n : ℕ) → i < n → corners-not-right vs count i count ≡ false → faces-convex vs count n ≡ false
+unfolding faces-convex
+faces-failed vs count i zero below fails = absurd (omega arith)
+faces-failed vs count i (suc n) below fails = elim (less-or-not i n) [
+  | inl earlier ↦ rw (faces-failed vs count i n earlier fails) refl
+  | inr last ↦ let same : n ≡ i = omega arith in
+      ap (λ k. faces-convex vs count n && corners-not-right vs count k count) same
+      ∙ ap (λ t. faces-convex vs count n && t) fails ∙ and-false (faces-convex vs count n)
+]

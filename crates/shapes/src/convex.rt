@@ -1,42 +1,69 @@
-// The parts of the convexity test: on which side of a face the corners lie, by the rounded cross product.
+// The parts of the convexity test: whether a corner lies right of a face, by the rounded cross product. The corners are given by their
+// coordinates, and all eight places are read at every face, so that the compiler can take them at once.
 ghost use mathlib.Core.Path.{_≡_};
+ghost use mathlib.Core.Bool.{not};
+ghost use mathlib.Core.List.{map, zipWith};
 ghost use Prim.Native.Nat.{_<_, _≤_};
-ghost use Rattle.shapes.specs.Validate.{not-right-of, corners-not-right, faces-convex};
+ghost use lib.ListN.{length};
+ghost use lib.Ieee.{lt};
+ghost use Rattle.floats.specs.B2Common.{zero32};
+ghost use Rattle.floats.specs.B2Math.{vec2, b2-sub, b2-cross};
+ghost use Rattle.shapes.specs.Validate.{corners-not-right, faces-convex};
 use crate::outline;
 use floats::b2_math;
 use floats::b2_math::B2vec2;
 
-// Whether corner j is not right of the face from i, or is one of its ends.
-fn not_right_of(vs: [B2vec2; 8], count: usize, i: usize, j: usize) -> bool
-    requires { ⌜ (count ≤ 8) × (i < count) × (j < count) ⌝ }
-    ensures { λ r. ⌜ r ≡ not-right-of vs count i j ⌝ }
+// Whether v lies right of the line from p along e.
+fn right_of(p: B2vec2, e: B2vec2, v: B2vec2) -> bool
+    ensures { λ r. ⌜ r ≡ lt (b2-cross e (b2-sub v p)) zero32 ⌝ }
 {
-    let next = outline::after(i, count);
-    if j == i {
-        return true;
-    }
-    if j == next {
-        return true;
-    }
-    let e = b2_math::b2_sub(vs[next], vs[i]);
-    let v = b2_math::b2_sub(vs[j], vs[i]);
-    let right = b2_math::b2_cross(e, v) < 0.0;
-    !right
+    b2_math::b2_cross(e, b2_math::b2_sub(v, p)) < 0.0
 }
 
-// Whether no corner lies right of the face from i.
-fn corners_not_right(vs: [B2vec2; 8], count: usize, i: usize) -> bool
-    requires { ⌜ (count ≤ 8) × (i < count) ⌝ }
-    ensures { λ r. ⌜ r ≡ corners-not-right vs count i count ⌝ }
+fn xs_of(vs: [B2vec2; 8]) -> [f32; 8]
+    ensures { λ r. ⌜ r ≡ map (λ v. v .x) vs ⌝ }
 {
-    let mut ok = true;
+    let mut xs = [0.0f32; 8];
     let mut j = 0usize;
-    while j < count {
-        let left = not_right_of(vs, count, i, j);
-        ok = ok & left;
+    while j < 8 {
+        xs[j] = vs[j].x;
         j += 1;
     }
-    ok
+    xs
+}
+
+fn ys_of(vs: [B2vec2; 8]) -> [f32; 8]
+    ensures { λ r. ⌜ r ≡ map (λ v. v .y) vs ⌝ }
+{
+    let mut ys = [0.0f32; 8];
+    let mut j = 0usize;
+    while j < 8 {
+        ys[j] = vs[j].y;
+        j += 1;
+    }
+    ys
+}
+
+// Whether some of the first count corners lies right of the face from i; its ends, which are corners too, do not.
+fn some_right(xs: &[f32; 8], ys: &[f32; 8], count: usize, i: usize) -> bool
+    requires { ⌜ (count ≤ 8) × (i < count) × (length (now xs) ≡ 8) × (length (now ys) ≡ 8) ⌝ }
+    ensures { λ r. ⌜ r ≡ not (corners-not-right (zipWith vec2 (now (xs .entry)) (now (ys .entry))) count i count) ⌝ }
+{
+    let next = outline::after(i, count);
+    let p = B2vec2 { x: xs[i], y: ys[i] };
+    let q = B2vec2 {
+        x: xs[next],
+        y: ys[next],
+    };
+    let e = b2_math::b2_sub(q, p);
+    let mut right = false;
+    let mut j = 0usize;
+    while j < 8 {
+        let here = right_of(p, e, B2vec2 { x: xs[j], y: ys[j] });
+        right = right | (here & (j < count));
+        j += 1;
+    }
+    right
 }
 
 // Whether no corner lies right of a face.
@@ -44,12 +71,14 @@ pub fn faces_convex(vs: [B2vec2; 8], count: usize) -> bool
     requires { ⌜ count ≤ 8 ⌝ }
     ensures { λ r. ⌜ r ≡ faces-convex vs count count ⌝ }
 {
-    let mut ok = true;
+    let xs = xs_of(vs);
+    let ys = ys_of(vs);
     let mut i = 0usize;
     while i < count {
-        let left = corners_not_right(vs, count, i);
-        ok = ok & left;
+        if some_right(&xs, &ys, count, i) {
+            return false;
+        }
         i += 1;
     }
-    ok
+    true
 }

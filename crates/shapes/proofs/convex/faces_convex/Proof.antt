@@ -1,25 +1,55 @@
--- The faces below i are tested so far. Assumes nothing.
-use borrow.Author.Needs.{needs}
-use mathlib.Core.Path.{_≡_, refl, _∙_, ap}
+-- No face so far has a corner right of it. Assumes nothing.
+use mathlib.Core.Path.{_≡_, refl, sym, _∙_, ap}
+use mathlib.Core.Bool.{true}
+use mathlib.Core.List.{zipWith}
+use lib.ListN.{length, length-map}
 use Prim.Native.Nat.{_≤_, _-_}
 use native.Mathlib.Omega.{arith}
+use borrow.Author.Tests.{not-true}
+use borrow.Author.Needs.{needs}
+use Rattle.floats.specs.B2Math.{vec2}
 use Rattle.shapes.specs.Validate.{faces-convex}
-use Rattle.shapes.proofs.Sides.{faces-next}
+use Rattle.shapes.proofs.Sides.{faces-next, faces-failed, joined-faces}
 use Rattle.shapes.proofs.convex.faces_convex.Statement.{statement}
 use Rattle.shapes.proofs.convex.faces_convex.Tie as tie
 
 abbrev Inv-loop : tie.InvT-loop
-Inv-loop vs count ok₀ i₀ ok i = (i ≤ count) × (count ≤ 8) × (ok ≡ faces-convex vs count i)
+Inv-loop count xs ys i₀ i = (i ≤ count) × (count ≤ 8) × (faces-convex (zipWith vec2 xs ys) count i ≡ true)
 
 abbrev μ-loop : tie.MeasureT-loop
-μ-loop vs count ok₀ i₀ ok i = count - i
+μ-loop count xs ys i₀ i = count - i
+
+xs-of-requires : tie.Need-xs-of-requires Inv-loop μ-loop
+xs-of-requires c κs = search needs
+
+ys-of-requires : tie.Need-ys-of-requires Inv-loop μ-loop
+ys-of-requires c κs = search needs
 
 loop-holds : tie.Need-loop-holds Inv-loop μ-loop
 unfolding faces-convex
 loop-holds c = (omega arith, omega arith, refl)
 
-corners-not-right-requires : tie.Need-corners-not-right-requires Inv-loop μ-loop
-corners-not-right-requires c κs = search needs
+some-right-requires : tie.Need-some-right-requires Inv-loop μ-loop
+some-right-requires c κs =
+    let ys = c .before .before .before .before in
+    let xs = ys .before in
+    let vs = xs .before .args .vs in
+    let eight = xs .before .good .0 .1 .0 .1 in (
+      omega arith,
+      omega arith,
+      ap length (xs .xs-of .ensures) ∙ length-map vs (λ v. v .x) ∙ eight,
+      ap length (ys .ys-of .ensures) ∙ length-map vs (λ v. v .y) ∙ eight,
+    )
+
+returns : tie.Need-returns Inv-loop μ-loop
+returns c =
+    let loop = c .before .before .before .before .before in
+    let ys = loop .before in
+    let xs = ys .before in
+    let args = xs .before .args in
+    let fails = not-true _ (sym (c .before .some-right .ensures) ∙ c .if1 .taken) in
+    sym (faces-failed _ (args .count) (loop .loop .i) (args .count) (omega arith) fails)
+    ∙ joined-faces (args .vs) _ _ (args .count) (xs .xs-of .ensures) (ys .ys-of .ensures)
 
 add-i : tie.Need-add-i Inv-loop μ-loop
 add-i c = search needs
@@ -29,16 +59,19 @@ loop-less c = search needs
 
 loop-again : tie.Need-loop-again Inv-loop μ-loop
 loop-again c =
-    let loop = c .before .before in
-    let args = loop .before .args in
-    (omega arith, omega arith, faces-next (args .vs) (args .count) (loop .loop .i) _ _ (loop .loop .inv .2) (c .corners-not-right .ensures))
+    let loop = c .before .before .before .before .before .loop in
+    let count = c .before .before .before .before .before .before .before .before .args .count in
+    (omega arith, omega arith, faces-next _ count (loop .i) _ (c .before .some-right .ensures) (c .if1 .left) (loop .inv .2))
 
-returns : tie.Need-returns Inv-loop μ-loop
-returns c =
+returns-2 : tie.Need-returns-2 Inv-loop μ-loop
+returns-2 c =
     let loop = c .before in
-    let args = loop .before .args in
-    let end : loop .loop .i ≡ args .count = omega arith in
-    loop .loop .inv .2 ∙ ap (faces-convex (args .vs) (args .count)) end
+    let ys = loop .before in
+    let xs = ys .before in
+    let args = xs .before .args in
+    let all : loop .loop .i ≡ args .count = omega arith in
+    sym (loop .loop .inv .2) ∙ ap (faces-convex _ (args .count)) all
+    ∙ joined-faces (args .vs) _ _ (args .count) (xs .xs-of .ensures) (ys .ys-of .ensures)
 
 pub faces-convex-spec : {M : Type 1} → statement M
 faces-convex-spec =
@@ -46,9 +79,12 @@ faces-convex-spec =
     (tie.spec
     Inv-loop
     μ-loop
+    xs-of-requires
+    ys-of-requires
     loop-holds
-    corners-not-right-requires
+    some-right-requires
+    returns
     add-i
     loop-less
     loop-again
-    returns)
+    returns-2)
