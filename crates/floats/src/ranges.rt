@@ -6,11 +6,11 @@ use crate::b2_math::B2Transform;
 use crate::b2_math::B2vec2;
 
 // 2, 8, 2^20, 2^30.
-const NORMAL_LIMIT: f32 = 2.0;
+pub const NORMAL_LIMIT: f32 = 2.0;
 
 const LOCAL_NORMAL_LIMIT: f32 = 8.0;
 
-const SHAPE_LIMIT: f32 = 1048576.0;
+pub const SHAPE_LIMIT: f32 = 1048576.0;
 
 const CONTACT_LIMIT: f32 = 1073741824.0;
 
@@ -23,7 +23,7 @@ fn within(limit: f32, x: f32) -> bool
     low & high
 }
 
-fn vec2_within(limit: f32, v: B2vec2) -> bool
+pub fn vec2_within(limit: f32, v: B2vec2) -> bool
     ensures { λ r. ⌜ r ≡ ranges.vec2-within limit v ⌝ }
 {
     let x = within(limit, v.x);

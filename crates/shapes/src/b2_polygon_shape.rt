@@ -56,13 +56,13 @@ pub fn b2_polygon_shape_set_core(
             shape: old,
         };
     }
-    if !shape_ranges::points_in_range(points, count) {
+    let given = flat::flat(points);
+    if !flat::in_range(&given, count) {
         return PolygonAnswer {
             refusal: 2,
             shape: old,
         };
     }
-    let given = flat::flat(points);
     let mut ps = [0.0f32; 16];
     let n = outline::weld(&given, count, &mut ps);
     if n < 3 {

@@ -1,10 +1,13 @@
 // Eight points as a row of sixteen coordinates, x before y: what the parts of the outline builder lend to each other.
 ghost use mathlib.Core.Path.{_≡_};
-ghost use Prim.Native.Nat.{_<_};
-ghost use lib.ListN.{set};
+ghost use Prim.Native.Nat.{_<_, _≤_};
+ghost use lib.ListN.{set, take};
+ghost use Rattle.floats.specs.Ranges.{point-in-range};
 ghost use Rattle.shapes.specs.Outline.{point-at};
+ghost use Rattle.shapes.specs.Polygon.{all-points};
 ghost use Rattle.shapes.specs.Flat.{points-in, Eight};
 use floats::b2_math::B2vec2;
+use floats::ranges;
 
 // The point at place i.
 pub fn at(xs: &[f32; 16], i: usize) -> B2vec2
@@ -26,6 +29,21 @@ pub fn put(xs: &mut [f32; 16], i: usize, v: B2vec2)
     let k = 2 * i;
     xs[k] = v.x;
     xs[k + 1] = v.y;
+}
+
+// Whether each of the first n points is in the range of shape coordinates.
+pub fn in_range(xs: &[f32; 16], n: usize) -> bool
+    requires { ⌜ (n ≤ 8) × Eight (now xs) ⌝ }
+    ensures { λ r. ⌜ r ≡ all-points point-in-range (take n (points-in (now (xs .entry)))) ⌝ }
+{
+    let mut i = 0usize;
+    while i < n {
+        if !ranges::point_in_range(at(xs, i)) {
+            return false;
+        }
+        i += 1;
+    }
+    true
 }
 
 // The coordinates of eight points.

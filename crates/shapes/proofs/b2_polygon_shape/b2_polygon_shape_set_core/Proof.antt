@@ -7,8 +7,10 @@ use native.Mathlib.Omega.{arith}
 use lib.ListN.{length, take}
 use borrow.Author.Tests.{not-true, not-false}
 use Rattle.floats.specs.declared.b2_math.B2vec2.{B2vec2}
+use Rattle.floats.specs.Ranges.{point-in-range}
 use Rattle.shapes.specs.declared.b2_polygon_shape.B2polygonShape.{B2polygonShape}
 use Rattle.shapes.specs.Outline.{welded, row, edges, long-enough}
+use Rattle.shapes.specs.Polygon.{all-points}
 use Rattle.shapes.specs.Flat.{points-in}
 use Rattle.shapes.specs.Parts.{Walked, Faced}
 use Rattle.shapes.proofs.Tests.{at-first-place}
@@ -18,21 +20,30 @@ use borrow.Author.Needs.{needs}
 use Rattle.shapes.proofs.b2_polygon_shape.b2_polygon_shape_set_core.Statement.{statement}
 use Rattle.shapes.proofs.b2_polygon_shape.b2_polygon_shape_set_core.Tie as tie
 
+-- ---- the ranges
+abbrev first-of : tie.After-in-range → tie.Start
+first-of i = i .before .before .before .before .before
+
+inside-is : (i : tie.After-in-range) → all-points point-in-range (take (first-of i .args .count) (first-of i .args .points)) ≡ i .in-range .result
+inside-is i =
+    ap (λ (l : List B2vec2). all-points point-in-range (take (first-of i .args .count) l)) (sym (i .before .before .flat .ensures .1))
+    ∙ sym (i .in-range .ensures)
+
 -- ---- after welding
 abbrev start-of : tie.After-weld → tie.Start
-start-of d = d .before .before .before .before .before .before .before .before
+start-of d = d .before .before .before .before .before .before .before .before .before
 
 abbrev kept : tie.After-weld → List B2vec2
 kept d = points-in (d .weld .last .1 .1 .0)
 
 at-weld : (d : tie.After-weld) → AfterWeld (start-of d .args .old) (start-of d .args .points) (start-of d .args .count) (d .weld .result) (kept d)
 at-weld d =
-    let given = d .before .before .before in
-    let inside = given .before .before in
-    let start = inside .before .before .before in
+    let inside = d .before .before .before .before in
+    let given = inside .before .before in
+    let start = given .before .before .before in
     let count = start .args .count in
     after-weld _ _ count _ _ (omega arith) (omega arith) (start .good .1 .0 .1 .0 .1)
-    (sym (inside .points-in-range .ensures) ∙ not-false _ (given .before .if3 .left)) (d .weld .ensures .0) (d .weld .ensures .1)
+    (inside-is inside ∙ not-false _ (d .before .before .before .if3 .left)) (d .weld .ensures .0) (d .weld .ensures .1)
     (d .weld .ensures .2 ∙ ap (λ (l : List B2vec2). welded (take count l)) (given .flat .ensures .1))
 
 -- ---- after the walk
@@ -88,22 +99,21 @@ returns c = too-few-points _ _ _ (c .if1 .taken)
 returns-2 : tie.Need-returns-2
 returns-2 c = too-many-points _ _ _ (c .if2 .taken)
 
-points-in-range-requires : tie.Need-points-in-range-requires
-points-in-range-requires c κs = search needs
-
-returns-3 : tie.Need-returns-3
-returns-3 c =
-    let inside = c .before in
-    let start = inside .before .before .before in
-    out-of-range _ _ (start .args .count) (omega arith) (omega arith) (start .good .1 .0 .1 .0 .1)
-    (sym (inside .points-in-range .ensures) ∙ not-true _ (c .if3 .taken))
-
 flat-requires : tie.Need-flat-requires
 flat-requires c κs = search needs
 
+in-range-requires : tie.Need-in-range-requires
+in-range-requires c κs = (omega arith, c .before .flat .ensures .0)
+
+returns-3 : tie.Need-returns-3
+returns-3 c =
+    let start = first-of (c .before) in
+    out-of-range _ _ (start .args .count) (omega arith) (omega arith) (start .good .1 .0 .1 .0 .1)
+    (inside-is (c .before) ∙ not-true _ (c .if3 .taken))
+
 weld-requires : tie.Need-weld-requires
 unfolding points-in
-weld-requires c κs = (omega arith, c .before .before .flat .ensures .0, refl)
+weld-requires c κs = (omega arith, c .before .before .before .before .before .flat .ensures .0, refl)
 
 returns-4 : tie.Need-returns-4
 returns-4 c =
@@ -123,6 +133,7 @@ walk-requires c κs =
     let start = vertices .before .before in
     let d = start .before .before .before in
     let fewer = d .weld .ensures .0 in
+    let not-more = d .before .before .before .before .before .before .before .if2 .left in
     (omega arith, start .start .ensures .0, start .start .ensures .1, d .weld .ensures .1, vertices .flat2 .ensures .0)
 
 returns-5 : tie.Need-returns-5
@@ -194,9 +205,9 @@ b2-polygon-shape-set-core-spec =
     (tie.spec
     returns
     returns-2
-    points-in-range-requires
-    returns-3
     flat-requires
+    in-range-requires
+    returns-3
     weld-requires
     returns-4
     start-requires

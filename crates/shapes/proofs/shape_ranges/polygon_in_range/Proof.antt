@@ -1,4 +1,5 @@
 -- Each part of the test has its own function. Assumes nothing.
+use Rattle.floats.specs.Ranges.{point-in-range, normal-in-range}
 use Rattle.shapes.specs.Validate.{polygon-in-range}
 use borrow.Author.Needs.{needs}
 use Rattle.shapes.proofs.shape_ranges.polygon_in_range.Statement.{statement}
@@ -10,20 +11,20 @@ radius-in-range-requires c κs = search needs
 point-in-range-requires : tie.Need-point-in-range-requires
 point-in-range-requires c κs = search needs
 
-points-in-range-requires : tie.Need-points-in-range-requires
-points-in-range-requires c κs = search needs
+points-within-requires : tie.Need-points-within-requires
+points-within-requires c κs = search needs
 
-normals-in-range-requires : tie.Need-normals-in-range-requires
-normals-in-range-requires c κs = search needs
+points-within-requires-2 : tie.Need-points-within-requires-2
+points-within-requires-2 c κs = search needs
 
 returns : tie.Need-returns
-unfolding polygon-in-range
+unfolding polygon-in-range point-in-range normal-in-range
 returns c =
     let vertices = c .before in
     let centroid = vertices .before in
     simp (
-      c .normals-in-range .ensures,
-      vertices .points-in-range .ensures,
+      c .points-within2 .ensures,
+      vertices .points-within .ensures,
       centroid .point-in-range .ensures,
       centroid .before .radius-in-range .ensures,
     )
@@ -34,6 +35,6 @@ polygon-in-range-spec =
     (tie.spec
     radius-in-range-requires
     point-in-range-requires
-    points-in-range-requires
-    normals-in-range-requires
+    points-within-requires
+    points-within-requires-2
     returns)
