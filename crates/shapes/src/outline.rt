@@ -1,7 +1,7 @@
 // The parts of the outline builder: welding, the start, the walk, normals, and area with moment. Points stand in the first places of a row
 // of sixteen coordinates, which is lent from part to part; the definitions are over the list of points.
 ghost use mathlib.Core.Path.{_≡_};
-ghost use mathlib.Core.Bool.{true, cond, _||_};
+ghost use mathlib.Core.Bool.{true, _||_};
 ghost use Prim.Native.Nat.{_<_, _≤_};
 ghost use lib.Dec.{eqb};
 ghost use lib.ListN.{take};
@@ -84,22 +84,20 @@ fn comes_before(best: B2vec2, p: B2vec2) -> bool
     larger | (level & lower)
 }
 
-// The place of the one that comes before the other: i0 of the best so far, or i of p.
-fn earlier_of(best: B2vec2, p: B2vec2, i0: usize, i: usize) -> usize
-    ensures { λ r. ⌜ r ≡ cond (comes-before best p) i i0 ⌝ }
-{
-    if comes_before(best, p) { i } else { i0 }
-}
-
 // The place of the largest x, smallest y among equals.
 pub fn start(ps: &[f32; 16], n: usize) -> usize
     requires { ⌜ (0 < n) × (n ≤ 8) × Eight (now ps) ⌝ }
     ensures { λ r. ⌜ (r < n) × (r ≡ start (take n (points-in (now (ps .entry))))) ⌝ }
 {
     let mut i0 = 0usize;
+    let mut best = flat::at(ps, 0);
     let mut i = 1usize;
     while i < n {
-        i0 = earlier_of(flat::at(ps, i0), flat::at(ps, i), i0, i);
+        let p = flat::at(ps, i);
+        if comes_before(best, p) {
+            i0 = i;
+            best = p;
+        }
         i += 1;
     }
     i0
