@@ -1,6 +1,6 @@
 -- What `direct_validate` answers, by cases: too few floats, a refusal, convex or not. Assumes nothing.
-use mathlib.Core.Path.{_≡_, refl, sym, _∙_, ap}
-use mathlib.Core.Bool.{Bool, true, false}
+use mathlib.Core.Path.{_≡_, sym, _∙_}
+use mathlib.Core.Bool.{true, false}
 use mathlib.Core.List.{List}
 use Prim.Native.Nat.{ℕ, _+_, _-_, _≤_, _<_}
 use native.Mathlib.Nat.{le-refl}
@@ -11,7 +11,6 @@ use lib.Seq.{take-all}
 use lib.Ieee.{Float}
 use Rattle.floats.specs.declared.b2_math.B2vec2.{B2vec2}
 use Rattle.floats.specs.B2Common.{b2-polygon-radius}
-use Rattle.shapes.specs.declared.b2_polygon_shape.B2polygonShape.{B2polygonShape}
 use Rattle.shapes.specs.declared.b2_polygon_shape.Validity.{Validity}
 use Rattle.shapes.specs.Validate.{b2-polygon-shape-validate}
 use Rattle.direct.specs.Outlines.{point-of, points-of, outline-in, convex-code}

@@ -9,6 +9,7 @@ pub mod Rounds
 pub mod Near
 pub mod Order
 pub mod Bounds
+pub mod Commutes
 pub mod Exact
 pub mod Dyadic
 pub mod Caps

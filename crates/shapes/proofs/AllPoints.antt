@@ -11,9 +11,10 @@ use lib.ListN.{length, getD, take, drop}
 use lib.Dec.{leb}
 use lib.Seq.{drop-cons, drop-length, getD-take, length-take-le, take-all, take-suc}
 use borrow.Author.Tests.{le-leb, lt-leb}
+use Rattle.algebra.proofs.Loops.{less-or-not}
 use Rattle.floats.specs.declared.b2_math.B2vec2.{B2vec2}
 use Rattle.shapes.specs.Polygon.{all-points}
-use Rattle.shapes.proofs.Tests.{less-or-not, first-places}
+use Rattle.shapes.proofs.Tests.{first-places}
 
 -- a is the point at place i
 module _ (test : B2vec2 → Bool) (l : List B2vec2) (i : ℕ) (a d : B2vec2) (within : i < length l) (a-is : a ≡ getD l i d)

@@ -9,12 +9,13 @@ use native.Mathlib.Omega.{arith}
 use lib.ListN.{length, getD, take, drop, drop-of-length-le, List·getD-eq-default}
 use lib.Seq.{drop-cons, getD-drop, length-take-le}
 use borrow.Author.Tests.{lt-ltb, le-ltb}
+use Rattle.algebra.proofs.Loops.{less-or-not}
 use Rattle.floats.specs.declared.b2_math.B2vec2.{B2vec2}
 use Rattle.floats.specs.B2Math.{b2-sub}
 use Rattle.floats.specs.B2Common.{zero32}
 use Rattle.shapes.specs.declared.outline.FanSum.{FanSum}
 use Rattle.shapes.specs.Outline.{origin, point-at, place-after, edges-from, edges, with-triangle, fan-from, fan}
-use Rattle.shapes.proofs.Tests.{less-or-not, at-place, at-first-place}
+use Rattle.shapes.proofs.Tests.{at-place, at-first-place}
 
 -- the corner after the one at i
 abbrev pub following : List B2vec2 → ℕ → B2vec2

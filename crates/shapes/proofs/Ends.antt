@@ -1,12 +1,11 @@
 -- The ends of a face are not right of it, by the rounded cross product and whatever the numbers: the product of an edge with a point less
 -- itself, or with the edge itself, is a zero or NaN, and neither is below 0. Assumes nothing.
 use mathlib.Core.Path.{_≡_, refl, sym, ap, _∙_, subst}
-use mathlib.Core.Bool.{Bool, true, false, not, cond}
+use mathlib.Core.Bool.{Bool, true, false, not}
 use Prim.Native.Nat.{ℕ, zero, _*_, _<_}
-use native.Mathlib.Nat.{mul-comm, mul-pos, zero-mul, mul-zero, sub-self}
+use native.Mathlib.Nat.{mul-pos, zero-mul, mul-zero, sub-self}
 use native.Mathlib.Omega.{arith}
 use lib.IntN.{ℤ, pos}
-use lib.Dec.{eqb}
 use lib.Ieee.{Float, nan, inf, fin, binary32, up, down, unlike, round, sum, neg, add, sub, mul, lt, ofBits}
 use lib.Ieee.Fits.{down-pos}
 use lib.Ieee.Scale.{round-same}
@@ -14,6 +13,7 @@ use borrow.Author.Tests.{le-ltb}
 use Rattle.floats.specs.declared.b2_math.B2vec2.{B2vec2}
 use Rattle.floats.specs.B2Common.{zero32}
 use Rattle.floats.specs.B2Math.{b2-sub, b2-cross}
+use Rattle.floats.proofs.Commutes.{mul-commutes}
 
 -- a zero of either sign, or NaN
 data Null : Float → Type 0 where
@@ -68,25 +68,6 @@ sub-null null-nan y-null = null-nan
 sub-null (null-zero s e) null-nan = null-nan
 sub-null (null-zero s e) (null-zero t d) =
     simp zero-mul (sum-null s (not t) (down e * down d) (mul-pos (down-pos e) (down-pos d)))
-
-unlike-comm : (s t : Bool) → unlike s t ≡ unlike t s
-unlike-comm true true = refl
-unlike-comm true false = refl
-unlike-comm false true = refl
-unlike-comm false false = refl
-
-mul-commutes : (x y : Float) → mul binary32 x y ≡ mul binary32 y x
-unfolding mul
-mul-commutes nan nan = refl
-mul-commutes nan (inf t) = refl
-mul-commutes nan (fin t n d) = refl
-mul-commutes (inf s) nan = refl
-mul-commutes (inf s) (inf t) = ap inf (unlike-comm s t)
-mul-commutes (inf s) (fin t n d) = ap (λ u. cond (eqb n 0) nan (inf u)) (unlike-comm s t)
-mul-commutes (fin s m e) nan = refl
-mul-commutes (fin s m e) (inf t) = ap (λ u. cond (eqb m 0) nan (inf u)) (unlike-comm s t)
-mul-commutes (fin s m e) (fin t n d) =
-    rw (unlike-comm s t, mul-comm (m * up e) (n * up d), mul-comm (down e) (down d)) refl
 
 -- ---- the two ends of the face from p along e
 pub first-end-not-right : (e p : B2vec2) → lt (b2-cross e (b2-sub p p)) zero32 ≡ false

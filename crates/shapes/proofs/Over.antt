@@ -5,7 +5,7 @@ use Prim.Native.Nat.{ℕ, suc, _+_, _<_, _≤_}
 use native.Mathlib.Numerals.{add-one}
 use native.Mathlib.Omega.{arith}
 use lib.ListN.{length, getD, take, drop, set, length-append}
-use lib.Seq.{drop-cons, set-append-seam, length-front, length-take-le, take-all, take-suc, take-suc-set}
+use lib.Seq.{drop-cons, set-append-seam, take-all, take-suc, take-suc-set}
 use Rattle.floats.specs.declared.b2_math.B2vec2.{B2vec2}
 use Rattle.shapes.specs.Polygon.{put-first}
 
@@ -17,9 +17,6 @@ map-one-more f [] a = refl
 map-one-more f (b ∷ l) a = ap (_∷_ (f b)) (map-one-more f l a)
 
 module _ (new old : List B2vec2) where
-  pub put-length : length new ≤ length old → length (put-first new old) ≡ length old
-  put-length fits = length-front old new (length new) (sym (length-take-le (length new) old fits))
-
   put-one-more : (p : B2vec2) → length new < length old → set (put-first new old) (length new) p ≡ put-first (new ++ (p ∷ [])) old
   put-one-more p room =
       ap (λ (l : List B2vec2). set (new ++ l) (length new) p) (drop-cons old (length new) p room)

@@ -13,12 +13,12 @@ use lib.ListN.{length, take, getD, set}
 use lib.Seq.{take-suc, take-suc-set}
 use lib.Ieee.{Float, lt}
 use borrow.Author.Tests.{eqb-true, lt-ltb, le-ltb, not-false}
+use Rattle.algebra.proofs.Loops.{less-or-not}
 use Rattle.floats.specs.declared.b2_math.B2vec2.{B2vec2}
 use Rattle.floats.specs.B2Common.{zero32}
 use Rattle.floats.specs.B2Math.{vec2, b2-sub, b2-cross}
 use Rattle.shapes.specs.Outline.{point-at, place-after}
 use Rattle.shapes.specs.Validate.{not-right-of, corners-not-right, faces-convex}
-use Rattle.shapes.proofs.Tests.{less-or-not}
 use Rattle.shapes.proofs.Ends.{first-end-not-right, second-end-not-right}
 
 -- ---- coordinates

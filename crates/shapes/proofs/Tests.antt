@@ -3,7 +3,6 @@ use mathlib.Core.Path.{_≡_, refl, sym, _∙_, ap, ap₂}
 use mathlib.Core.Bool.{Bool, true, false, cond, _||_}
 use Prim.Native.Nat.{ℕ, zero, suc, _+_, _-_, _<_, _≤_}
 use mathlib.Core.List.{List, [], _∷_}
-use mathlib.Core.Logic.{_⊎_, inl, inr}
 use native.Mathlib.Omega.{arith}
 use lib.Dec.{eqb}
 use lib.ListN.{length, take, getD}
@@ -32,15 +31,6 @@ module _ (r v : B2vec2) (k : Float) (k-is : k ≡ b2-cross r v) where
   pub turns-above : lt k zero32 ≡ false → eq k zero32 ≡ false → eq k zero32 ≡ turns-closer r v
   turns-above not-below not-level =
       simp (not-level, ap (λ x. lt x zero32) (sym k-is) ∙ not-below, ap (λ x. eq x zero32) (sym k-is) ∙ not-level)
-
-pub less-or-not : (a b : ℕ) → (a < b) ⊎ (b ≤ a)
-less-or-not a zero = inr (omega arith)
-less-or-not zero (suc b) = inl (omega arith)
-less-or-not (suc a) (suc b) = go (less-or-not a b)
-  where
-    go : (a < b) ⊎ (b ≤ a) → (suc a < suc b) ⊎ (suc b ≤ suc a)
-    go (inl h) = inl (omega arith)
-    go (inr h) = inr (omega arith)
 
 -- a place below n is a place of the first n
 pub first-places : {A : Type 0} (n j : ℕ) (l : List A) → j < n → n ≤ length l → j < length (take n l)
@@ -80,15 +70,8 @@ pub replaces-first : (l : List B2vec2) (n corner candidate j : ℕ) → corner <
 replaces-first l n corner candidate j corner-in candidate-in j-in =
     simp (at-first-place l n corner corner-in, at-first-place l n candidate candidate-in, at-first-place l n j j-in)
 
-cond-below : (t : Bool) (a b n : ℕ) → a < n → b < n → cond t a b < n
-cond-below true a b n a-below b-below = a-below
-cond-below false a b n a-below b-below = b-below
-
 -- the new candidate r of a scan of the places below n
 module _ (t : Bool) (r candidate j n : ℕ) (r-is : r ≡ cond t j candidate) (within : j < n) where
-  pub scanned-below : candidate < n → r < n
-  scanned-below below = rw r-is (cond-below t j candidate n within below)
-
   pub scanned-next : (test : ℕ → ℕ → Bool) (answer : ℕ) → test candidate j ≡ t → scan test candidate (places j (n - j)) ≡ answer
       → scan test r (places (j + 1) (n - (j + 1))) ≡ answer
   scanned-next test answer test-is so-far =

@@ -2,17 +2,14 @@
 -- is not below 2^-23, so that normalising acts. Assumes nothing.
 use mathlib.Core.Path.{_≡_, refl, sym, ap, ap₂, _∙_, subst}
 use mathlib.Core.Bool.{Bool, true, false, not, cond}
-use mathlib.Core.Logic.{_⊎_, inl, inr}
-use Prim.Native.Nat.{ℕ, _+_, _-_, _*_, _^_, _≤_, _<_}
-use native.Mathlib.Nat.{add-comm, mul-comm, mul-pos, mul-right-comm, mul-mul-mul-comm, eq-of-mul-eq-mul-right}
+use Prim.Native.Nat.{ℕ, _-_, _*_, _^_, _≤_, _<_}
+use native.Mathlib.Nat.{mul-pos, mul-right-comm, mul-mul-mul-comm, eq-of-mul-eq-mul-right}
 use native.Mathlib.Omega.{arith}
-use lib.IntN.{ℤ}
-use lib.Dec.{T, ltb}
-use lib.Ieee.{Float, nan, inf, fin, binary32, up, down, unlike, fits, round, sum, add, mul, div, neg, lt, ofBits}
-use lib.Ieee.Bits.{is-true, is-false}
+use lib.Dec.{T}
+use lib.Ieee.{Float, nan, inf, fin, binary32, up, down, unlike, fits, round, add, mul, neg, lt, ofBits}
+use lib.Ieee.Bits.{is-false}
 use lib.Ieee.Fits.{down-pos, add-fits}
 use lib.Ieee.Scale.{round-same}
-use borrow.Author.Tests.{lt-ltb, le-ltb}
 use Rattle.algebra.specs.Integer.{Z, whole, opp, _⊛_, _≐_, _≼_, _≺_, Abs}
 use Rattle.floats.specs.declared.b2_math.B2vec2.{B2vec2}
 use Rattle.floats.specs.declared.b2_math.Normalized.{Normalized}
@@ -23,12 +20,12 @@ use Rattle.floats.specs.Value.{metre, F32, mag, val}
 use Rattle.floats.proofs.Value.{metre-pos, abs-mag, mag-abs, has-value, positive-sign, neg-f32, mag-neg, val-neg}
 use Rattle.floats.proofs.Dyadic.{Dyadic}
 use Rattle.floats.proofs.Comparison.{lt-val, val-not-lt}
+use Rattle.floats.proofs.Commutes.{add-commutes}
 use Rattle.floats.proofs.Literals.{bits-dyadic, one-f32, one-val}
 use Rattle.floats.proofs.UnitFactors.{one-mul-exact, minus-one-mul-exact}
 use Rattle.floats.proofs.SqrtLaw.{sqrt-law}
 use Rattle.floats.proofs.SqrtOrder.{sqrt-low}
 use Rattle.shapes.specs.Outline.{epsilon-squared, normal-of-edge}
-use Rattle.shapes.proofs.Tests.{less-or-not}
 
 -- ---- numbers of one size have one square
 unlike-itself : (s : Bool) → unlike s s ≡ false
@@ -94,39 +91,6 @@ times-minus-one-squared (fin s m e) in-format =
     let exact = minus-one-mul-exact (neg-f32 one-f32) x-f32 (same-of-equal _ _ (val-neg one32 ∙ ap opp one-val)) in
     let minus = subst (λ (v : Z). val (mul binary32 (neg one32) (fin s m e)) ≐ v) (sym (val-neg (fin s m e))) (exact .is) in
     square-same (exact .own) x-f32 (mag-same _ (neg (fin s m e)) minus ∙ mag-neg (fin s m e))
-
--- ---- sums commute
-opposites-commute : (a b c : ℕ) → (a < b) ⊎ (b ≤ a) → (b < a) ⊎ (a ≤ b) → sum binary32 true a false b c ≡ sum binary32 false b true a c
-unfolding sum
-opposites-commute a b c (inl less) other = simp (lt-ltb a b less, le-ltb b a (omega arith))
-opposites-commute a b c (inr not-less) (inl more) = simp (le-ltb a b not-less, lt-ltb b a more)
-opposites-commute a b c (inr not-less) (inr not-more) =
-    let none : a - b ≡ b - a = omega arith in
-    simp (le-ltb a b not-less, le-ltb b a not-more, none)
-
-sum-commutes : (s t : Bool) (a b c : ℕ) → sum binary32 s a t b c ≡ sum binary32 t b s a c
-unfolding sum
-sum-commutes true true a b c = ap (λ (n : ℕ). round binary32 true n c) (add-comm a b)
-sum-commutes false false a b c = ap (λ (n : ℕ). round binary32 false n c) (add-comm a b)
-sum-commutes true false a b c = opposites-commute a b c (less-or-not a b) (less-or-not b a)
-sum-commutes false true a b c = sym (opposites-commute b a c (less-or-not b a) (less-or-not a b))
-
-add-commutes : (x y : Float) → add binary32 x y ≡ add binary32 y x
-unfolding add
-add-commutes nan nan = refl
-add-commutes nan (inf t) = refl
-add-commutes nan (fin t n d) = refl
-add-commutes (inf s) nan = refl
-add-commutes (inf true) (inf true) = refl
-add-commutes (inf true) (inf false) = refl
-add-commutes (inf false) (inf true) = refl
-add-commutes (inf false) (inf false) = refl
-add-commutes (inf s) (fin t n d) = refl
-add-commutes (fin s m e) nan = refl
-add-commutes (fin s m e) (inf t) = refl
-add-commutes (fin s m e) (fin t n d) =
-    sum-commutes s t (m * up e * down d) (n * up d * down e) (down e * down d)
-    ∙ ap (sum binary32 t (n * up d * down e) s (m * up e * down d)) (mul-comm (down e) (down d))
 
 -- ---- turning keeps the squared length
 pub turned-squared : (e : B2vec2) → T (fits binary32 (e .x)) → T (fits binary32 (e .y))

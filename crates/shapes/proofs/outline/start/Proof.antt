@@ -3,7 +3,7 @@ use mathlib.Core.Path.{_≡_, _∙_, ap₂}
 use mathlib.Core.Logic.{⊎-elim}
 use Prim.Native.Nat.{_≤_, _<_, _-_}
 use native.Mathlib.Omega.{arith}
-use lib.ListN.{length, take}
+use lib.ListN.{take}
 use Rattle.algebra.specs.Loops.{places, scan}
 use Rattle.algebra.proofs.Loops.{scan-ended}
 use Rattle.shapes.specs.Outline.{point-at, comes-before, earlier, start}
