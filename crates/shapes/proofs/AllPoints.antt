@@ -1,7 +1,7 @@
 -- A test of all points of a list, a place at a time: up to the first that fails, or of every place with those past the end left out.
 -- Assumes nothing.
 use mathlib.Core.Path.{_≡_, refl, sym, _∙_, ap, ap₂}
-use mathlib.Core.Bool.{Bool, true, false, _&&_, _||_}
+use mathlib.Core.Bool.{Bool, true, false, _&&_, _||_, and-true, or-true, or-false, and-assoc}
 use mathlib.Core.List.{List, [], _∷_, _++_}
 use mathlib.Core.Logic.{_⊎_, inl, inr}
 use Prim.Native.Nat.{ℕ, _+_, _≤_, _<_}
@@ -33,26 +33,10 @@ pub all-ended : (test : B2vec2 → Bool) (l : List B2vec2) (i : ℕ) → i ≡ l
 all-ended test l i end so-far = ap (all-points test) (sym (drop-length l) ∙ ap (λ (k : ℕ). drop k l) (sym end)) ∙ so-far
 
 -- ---- every place
-and-true : (t : Bool) → t && true ≡ t
-and-true true = refl
-and-true false = refl
-
 all-one-more : (test : B2vec2 → Bool) (l : List B2vec2) (a : B2vec2) → all-points test (l ++ (a ∷ [])) ≡ all-points test l && test a
 all-one-more test [] a = and-true (test a)
 all-one-more test (b ∷ l) a =
     ap (λ (t : Bool). test b && t) (all-one-more test l a) ∙ sym (and-assoc (test b) (all-points test l) (test a))
-  where
-    and-assoc : (p q r : Bool) → p && q && r ≡ p && (q && r)
-    and-assoc true q r = refl
-    and-assoc false q r = refl
-
-or-false : (t : Bool) → t || false ≡ t
-or-false true = refl
-or-false false = refl
-
-or-true : (t : Bool) → t || true ≡ true
-or-true true = refl
-or-true false = refl
 
 module _ (test : B2vec2 → Bool) (ps : List B2vec2) (n i : ℕ) (d : B2vec2) (ok z : Bool) (few : n ≤ length ps)
     (ok-is : ok ≡ all-points test (take i (take n ps))) (z-is : z ≡ test (getD ps i d)) where

@@ -1,7 +1,7 @@
 -- The convexity test over the corners' coordinates, a place, a corner and a face at a time. The definition leaves the ends of a face out;
 -- they are not right of it, so a test of every corner answers the same. Assumes nothing.
 use mathlib.Core.Path.{_≡_, refl, sym, _∙_, ap}
-use mathlib.Core.Bool.{Bool, true, false, not, _&&_, _||_}
+use mathlib.Core.Bool.{Bool, true, false, not, _&&_, _||_, and-false}
 use mathlib.Core.List.{List, [], _∷_, _++_, map, map-append, zipWith}
 use mathlib.Core.Logic.{inl, inr}
 use Prim.Native.Nat.{ℕ, zero, suc, _+_, _<_, min}
@@ -116,10 +116,6 @@ pub faces-next : (vs : List B2vec2) (count i : ℕ) (right : Bool) → right ≡
     → faces-convex vs count i ≡ true → faces-convex vs count (i + 1) ≡ true
 unfolding faces-convex
 faces-next vs count i right right-is fails so-far = rw (add-one, so-far) (not-false _ (sym right-is ∙ fails))
-
-and-false : (a : Bool) → a && false ≡ false
-and-false true = refl
-and-false false = refl
 
 pub faces-failed : (vs : List B2vec2) (count i n : ℕ) → i < n → corners-not-right vs count i count ≡ false → faces-convex vs count n ≡ false
 unfolding faces-convex

@@ -3,7 +3,7 @@
 use mathlib.Core.Path.{_≡_, refl, sym, ap, ap₂, _∙_, subst}
 use mathlib.Core.Bool.{Bool, true, false, not, cond}
 use Prim.Native.Nat.{ℕ, _-_, _*_, _^_, _≤_, _<_}
-use native.Mathlib.Nat.{mul-pos, mul-right-comm, mul-mul-mul-comm, eq-of-mul-eq-mul-right}
+use native.Mathlib.Nat.{le-antisymm, mul-pos, mul-right-comm, mul-mul-mul-comm, eq-of-mul-eq-mul-right}
 use native.Mathlib.Omega.{arith}
 use lib.Dec.{T}
 use lib.Ieee.{Float, nan, inf, fin, binary32, up, down, unlike, fits, round, add, mul, neg, lt, ofBits}
@@ -11,6 +11,8 @@ use lib.Ieee.Bits.{is-false}
 use lib.Ieee.Fits.{down-pos, add-fits}
 use lib.Ieee.Scale.{round-same}
 use Rattle.algebra.specs.Integer.{Z, whole, opp, _⊛_, _≐_, _≼_, _≺_, Abs}
+use Rattle.algebra.proofs.Integer.{same-sym}
+use Rattle.algebra.proofs.Magnitude.{abs-same}
 use Rattle.floats.specs.declared.b2_math.B2vec2.{B2vec2}
 use Rattle.floats.specs.declared.b2_math.Normalized.{Normalized}
 use Rattle.floats.specs.B2Common.{zero32, one32, b2-epsilon}
@@ -55,16 +57,9 @@ square-same {x = fin s m e} {y = fin t n d} x-f32 y-f32 same =
     ∙ ap (λ (u : Bool). round binary32 u (n * up d * (n * up d)) (down d * down d)) (sym (unlike-itself t))
 
 mag-same : (x y : Float) → val x ≐ val y → mag x ≡ mag y
-mag-same x y same = go (mag-abs x (mag y) (over (val x) (val y) (mag y) same (abs-mag y))) (mag-abs y (mag x) (under (val x) (val y) (mag x) same (abs-mag x)))
-  where
-    over : (a b : Z) (n : ℕ) → a ≐ b → Abs b n → Abs a n
-    over a b n e h = omega arith
-
-    under : (a b : Z) (n : ℕ) → a ≐ b → Abs a n → Abs b n
-    under a b n e h = omega arith
-
-    go : {m n : ℕ} → m ≤ n → n ≤ m → m ≡ n
-    go h k = omega arith
+mag-same x y same =
+    le-antisymm (mag-abs x (mag y) (abs-same (val y) (val x) (mag y) (same-sym (val x) (val y) same) (abs-mag y)))
+    (mag-abs y (mag x) (abs-same (val x) (val y) (mag x) same (abs-mag x)))
 
 -- ---- times 1 and times -1, squared
 same-of-equal : (a b : Z) → a ≡ b → a ≐ b
