@@ -10,7 +10,7 @@ use native.Mathlib.Numerals.{add-one}
 use native.Mathlib.Omega.{arith}
 use lib.Dec.{ltb, eqb}
 use lib.ListN.{length, take, getD, set}
-use lib.Seq.{take-suc, take-suc-set}
+use lib.Seq.{take-all, take-suc, take-suc-set}
 use lib.Ieee.{Float, lt}
 use borrow.Author.Tests.{eqb-true, lt-ltb, le-ltb, not-false}
 use Rattle.algebra.proofs.Loops.{less-or-not}
@@ -28,6 +28,11 @@ coordinate-next f vs xs j d in-vs in-xs so-far =
     rw add-one
     (take-suc-set xs j (f (getD vs j d)) in-xs ∙ ap (λ (l : List Float). l ++ (f (getD vs j d) ∷ [])) so-far
     ∙ sym (ap (map f) (take-suc vs j d in-vs) ∙ map-append f (take j vs) (getD vs j d ∷ [])))
+
+pub coordinates-ended : (f : B2vec2 → Float) (vs : List B2vec2) (xs : List Float) (j : ℕ) → length vs ≡ j → length xs ≡ j
+    → take j xs ≡ map f (take j vs) → xs ≡ map f vs
+coordinates-ended f vs xs j vs-length xs-length so-far =
+    sym (take-all j xs (omega arith)) ∙ so-far ∙ ap (map f) (take-all j vs (omega arith))
 
 joined-coordinates : (vs : List B2vec2) → zipWith vec2 (map (λ v. v .x) vs) (map (λ v. v .y) vs) ≡ vs
 unfolding zipWith

@@ -20,28 +20,25 @@ fn right_of(p: B2vec2, e: B2vec2, v: B2vec2) -> bool
     b2_math::b2_cross(e, b2_math::b2_sub(v, p)) < 0.0
 }
 
-fn xs_of(vs: [B2vec2; 8]) -> [f32; 8]
-    ensures { λ r. ⌜ r ≡ map (λ v. v .x) vs ⌝ }
-{
-    let mut xs = [0.0f32; 8];
-    let mut j = 0usize;
-    while j < 8 {
-        xs[j] = vs[j].x;
-        j += 1;
-    }
-    xs
+// The coordinates of eight points, those of one kind side by side.
+struct Coordinates {
+    xs: [f32; 8],
+    ys: [f32; 8],
 }
 
-fn ys_of(vs: [B2vec2; 8]) -> [f32; 8]
-    ensures { λ r. ⌜ r ≡ map (λ v. v .y) vs ⌝ }
+fn apart(vs: [B2vec2; 8]) -> Coordinates
+    ensures { λ r. ⌜ (r .xs ≡ map (λ v. v .x) vs) × (r .ys ≡ map (λ v. v .y) vs) ⌝ }
 {
+    let mut xs = [0.0f32; 8];
     let mut ys = [0.0f32; 8];
     let mut j = 0usize;
     while j < 8 {
-        ys[j] = vs[j].y;
+        let v = vs[j];
+        xs[j] = v.x;
+        ys[j] = v.y;
         j += 1;
     }
-    ys
+    Coordinates { xs: xs, ys: ys }
 }
 
 // Whether some of the first count corners lies right of the face from i; its ends, which are corners too, do not.
@@ -71,8 +68,9 @@ pub fn faces_convex(vs: [B2vec2; 8], count: usize) -> bool
     requires { ⌜ count ≤ 8 ⌝ }
     ensures { λ r. ⌜ r ≡ faces-convex vs count count ⌝ }
 {
-    let xs = xs_of(vs);
-    let ys = ys_of(vs);
+    let both = apart(vs);
+    let xs = both.xs;
+    let ys = both.ys;
     let mut i = 0usize;
     while i < count {
         if some_right(&xs, &ys, count, i) {

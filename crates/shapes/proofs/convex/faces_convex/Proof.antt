@@ -2,14 +2,14 @@
 use mathlib.Core.Path.{_≡_, refl, sym, _∙_, ap}
 use mathlib.Core.Bool.{true}
 use mathlib.Core.List.{zipWith}
-use lib.ListN.{length, length-map}
 use Prim.Native.Nat.{_≤_, _-_}
 use native.Mathlib.Omega.{arith}
+use lib.ListN.{length, length-map}
 use borrow.Author.Tests.{not-true}
-use borrow.Author.Needs.{needs}
 use Rattle.floats.specs.B2Math.{vec2}
 use Rattle.shapes.specs.Validate.{faces-convex}
 use Rattle.shapes.proofs.Sides.{faces-next, faces-failed, joined-faces}
+use borrow.Author.Needs.{needs}
 use Rattle.shapes.proofs.convex.faces_convex.Statement.{statement}
 use Rattle.shapes.proofs.convex.faces_convex.Tie as tie
 
@@ -19,11 +19,8 @@ Inv-loop count xs ys i₀ i = (i ≤ count) × (count ≤ 8) × (faces-convex (z
 abbrev μ-loop : tie.MeasureT-loop
 μ-loop count xs ys i₀ i = count - i
 
-xs-of-requires : tie.Need-xs-of-requires Inv-loop μ-loop
-xs-of-requires c κs = search needs
-
-ys-of-requires : tie.Need-ys-of-requires Inv-loop μ-loop
-ys-of-requires c κs = search needs
+apart-requires : tie.Need-apart-requires Inv-loop μ-loop
+apart-requires c κs = search needs
 
 loop-holds : tie.Need-loop-holds Inv-loop μ-loop
 unfolding faces-convex
@@ -31,25 +28,23 @@ loop-holds c = (omega arith, omega arith, refl)
 
 some-right-requires : tie.Need-some-right-requires Inv-loop μ-loop
 some-right-requires c κs =
-    let ys = c .before .before .before .before in
-    let xs = ys .before in
-    let vs = xs .before .args .vs in
-    let eight = xs .before .good .0 .1 .0 .1 in (
+    let both = c .before .before .before .before .before .before in
+    let vs = both .before .args .vs in
+    let eight = both .before .good .0 .1 .0 .1 in (
       omega arith,
       omega arith,
-      ap length (xs .xs-of .ensures) ∙ length-map vs (λ v. v .x) ∙ eight,
-      ap length (ys .ys-of .ensures) ∙ length-map vs (λ v. v .y) ∙ eight,
+      ap length (both .apart .ensures .0) ∙ length-map vs (λ v. v .x) ∙ eight,
+      ap length (both .apart .ensures .1) ∙ length-map vs (λ v. v .y) ∙ eight,
     )
 
 returns : tie.Need-returns Inv-loop μ-loop
 returns c =
     let loop = c .before .before .before .before .before in
-    let ys = loop .before in
-    let xs = ys .before in
-    let args = xs .before .args in
+    let both = loop .before .before .before in
+    let args = both .before .args in
     let fails = not-true _ (sym (c .before .some-right .ensures) ∙ c .if1 .taken) in
     sym (faces-failed _ (args .count) (loop .loop .i) (args .count) (omega arith) fails)
-    ∙ joined-faces (args .vs) _ _ (args .count) (xs .xs-of .ensures) (ys .ys-of .ensures)
+    ∙ joined-faces (args .vs) _ _ (args .count) (both .apart .ensures .0) (both .apart .ensures .1)
 
 add-i : tie.Need-add-i Inv-loop μ-loop
 add-i c = search needs
@@ -59,19 +54,18 @@ loop-less c = search needs
 
 loop-again : tie.Need-loop-again Inv-loop μ-loop
 loop-again c =
-    let loop = c .before .before .before .before .before .loop in
-    let count = c .before .before .before .before .before .before .before .before .args .count in
-    (omega arith, omega arith, faces-next _ count (loop .i) _ (c .before .some-right .ensures) (c .if1 .left) (loop .inv .2))
+    let loop = c .before .before .before .before .before in
+    let count = loop .before .before .before .before .args .count in
+    (omega arith, omega arith, faces-next _ count (loop .loop .i) _ (c .before .some-right .ensures) (c .if1 .left) (loop .loop .inv .2))
 
 returns-2 : tie.Need-returns-2 Inv-loop μ-loop
 returns-2 c =
     let loop = c .before in
-    let ys = loop .before in
-    let xs = ys .before in
-    let args = xs .before .args in
+    let both = loop .before .before .before in
+    let args = both .before .args in
     let all : loop .loop .i ≡ args .count = omega arith in
     sym (loop .loop .inv .2) ∙ ap (faces-convex _ (args .count)) all
-    ∙ joined-faces (args .vs) _ _ (args .count) (xs .xs-of .ensures) (ys .ys-of .ensures)
+    ∙ joined-faces (args .vs) _ _ (args .count) (both .apart .ensures .0) (both .apart .ensures .1)
 
 pub faces-convex-spec : {M : Type 1} → statement M
 faces-convex-spec =
@@ -79,8 +73,7 @@ faces-convex-spec =
     (tie.spec
     Inv-loop
     μ-loop
-    xs-of-requires
-    ys-of-requires
+    apart-requires
     loop-holds
     some-right-requires
     returns
