@@ -10,7 +10,7 @@ use lib.Ieee.{Float, nan, inf, fin, binary32, up, down, unlike, fits, round, add
 use lib.Ieee.Bits.{is-false}
 use lib.Ieee.Fits.{down-pos, add-fits}
 use lib.Ieee.Scale.{round-same}
-use Rattle.algebra.specs.Integer.{Z, whole, opp, _⊛_, _≐_, _≼_, _≺_, Abs}
+use Rattle.algebra.specs.Integer.{Z, whole, opp, _⊛_, _≐_, _≼_, _≺_}
 use Rattle.algebra.proofs.Integer.{same-sym}
 use Rattle.algebra.proofs.Magnitude.{abs-same}
 use Rattle.floats.specs.declared.b2_math.B2vec2.{B2vec2}

@@ -1,6 +1,5 @@
 // Whether the numbers of an outline are in their ranges (document 01, "Ranges").
 ghost use mathlib.Core.Path.{_≡_};
-ghost use Prim.Native.Nat.{_≤_};
 ghost use lib.ListN.{take};
 ghost use Rattle.floats.specs.Ranges.{vec2-within};
 ghost use Rattle.shapes.specs.Polygon.{all-points};
@@ -11,7 +10,6 @@ use floats::ranges;
 
 // Whether both coordinates of each of the first n points are within the limit. All eight are tested, so that the tests run side by side.
 fn points_within(limit: f32, ps: [B2vec2; 8], n: usize) -> bool
-    requires { ⌜ n ≤ 8 ⌝ }
     ensures { λ r. ⌜ r ≡ all-points (vec2-within limit) (take n ps) ⌝ }
 {
     let mut ok = true;
@@ -26,7 +24,6 @@ fn points_within(limit: f32, ps: [B2vec2; 8], n: usize) -> bool
 
 // Whether the numbers of an outline that its count takes in are in their ranges.
 pub fn polygon_in_range(shape: B2polygonShape) -> bool
-    requires { ⌜ shape .«m_count» ≤ 8 ⌝ }
     ensures { λ r. ⌜ r ≡ polygon-in-range shape ⌝ }
 {
     let vs = shape.m_vertices;

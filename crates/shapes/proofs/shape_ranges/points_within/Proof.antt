@@ -1,9 +1,10 @@
 -- The points before place i, and no more than n, are within the limit. Assumes nothing.
 use mathlib.Core.Path.{_≡_, refl, _∙_, ap}
 use Prim.Native.Nat.{_≤_, _-_}
+use native.Mathlib.Nat.{min-le-right}
 use native.Mathlib.Omega.{arith}
-use lib.ListN.{length, take}
-use lib.Seq.{length-take-le, take-all}
+use lib.ListN.{length, take, length-take}
+use lib.Seq.{take-all}
 use Rattle.floats.specs.Ranges.{vec2-within}
 use Rattle.shapes.specs.Polygon.{all-points}
 use Rattle.shapes.proofs.AllPoints.{all-masked}
@@ -12,13 +13,13 @@ use Rattle.shapes.proofs.shape_ranges.points_within.Statement.{statemen
 use Rattle.shapes.proofs.shape_ranges.points_within.Tie as tie
 
 abbrev Inv-loop : tie.InvT-loop
-Inv-loop limit n ps ok₀ i₀ ok i = (i ≤ 8) × (n ≤ 8) × (length ps ≡ 8) × (ok ≡ all-points (vec2-within limit) (take i (take n ps)))
+Inv-loop limit n ps ok₀ i₀ ok i = (i ≤ 8) × (length ps ≡ 8) × (ok ≡ all-points (vec2-within limit) (take i (take n ps)))
 
 abbrev μ-loop : tie.MeasureT-loop
 μ-loop limit n ps ok₀ i₀ ok i = 8 - i
 
 loop-holds : tie.Need-loop-holds Inv-loop μ-loop
-loop-holds c = (omega arith, omega arith, c .good .1 .0 .1 .0 .1, refl)
+loop-holds c = (omega arith, c .good .1 .0 .1 .0 .1, refl)
 
 mul-vec2-within : tie.Need-mul-vec2-within Inv-loop μ-loop
 mul-vec2-within c = search needs
@@ -40,17 +41,20 @@ loop-again c =
     let loop = c .before .before .before in
     let ps = loop .before .args .t2 in
     let inv = loop .loop .inv in
-    let size = inv .2 in
-    (omega arith, omega arith, size, all-masked (vec2-within (loop .before .args .limit)) ps _ (loop .loop .i) _ _ _ (omega arith) (inv .3) (c .vec2-within .ensures))
+    let size = inv .1 in (
+      omega arith,
+      size,
+      all-masked (vec2-within (loop .before .args .limit)) ps _ (loop .loop .i) _ _ _ (omega arith) (inv .2) (c .vec2-within .ensures),
+    )
 
 returns : tie.Need-returns Inv-loop μ-loop
 returns c =
     let loop = c .before in
     let ps = loop .before .args .t2 in
     let n = loop .before .args .n in
-    let size = loop .loop .inv .2 in
-    let all = length-take-le n ps (omega arith) in
-    loop .loop .inv .3 ∙ ap (all-points (vec2-within (loop .before .args .limit))) (take-all (loop .loop .i) (take n ps) (omega arith))
+    let size = loop .loop .inv .1 in
+    let no-more : length (take n ps) ≤ length ps = rw length-take (min-le-right n (length ps)) in
+    loop .loop .inv .2 ∙ ap (all-points (vec2-within (loop .before .args .limit))) (take-all (loop .loop .i) (take n ps) (omega arith))
 
 pub points-within-spec : {M : Type 1} → statement M
 points-within-spec =
