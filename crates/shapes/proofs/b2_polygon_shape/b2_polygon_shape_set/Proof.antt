@@ -91,10 +91,7 @@ module _ {M : Type 1} (𝓤 : URA M) (H : Heap 𝓤) (A : Atoms 𝓤) (W : Given
           let Point = asks.Point 𝓤 H A mem run in
           let to = asks.to 𝓤 H A mem run W κ q x in
           let apart = asks.apart 𝓤 H A mem run W κ q x in
-          let Got = asks.Got 𝓤 H A mem run W κ q x in
-          let said = asks.said 𝓤 H A mem run W κ q x in
           let typed = laws.lawful vec.the-type vec-laws.the-laws 𝓤 H A W .typed in
-          let shown = shows 𝓤 H A vec.the-row in
           qed W (asks.Token 𝓤 H A mem run W κ q x
           ∷ ‵ (owns (polygon.the-row ∷ ShrSlice (named 0) κ vec.the-row ∷ []) (old, (x, tt)) (value old ∷ [], (slice x ∷ [], tt))) ∷ []) ∵
           move ! (1 ∷ []) $ fsplit ! $
@@ -106,67 +103,35 @@ module _ {M : Type 1} (𝓤 : URA M) (H : Heap 𝓤) (A : Atoms 𝓤) (W : Given
           pass1 ! (init ! 18 refl (tt, (tt, (record { fits = room .0 }, tt)))) $ pass0 ! $ move ! (24 ∷ 25 ∷ []) $
           use2 W (raw (Point .pre (to 0)) ⊛ ‵ (Slice κ x)) (apart 0 (lit< tt)) $ split ! $
           calls-at ! fm Point known (to 0) (and-then ! (load ! (from ! (stop !)) (look ! 20 refl)) (and-then ! (lit ! tt) (no-more !)))
-          (λ v0.
-          use1 W (later (some (Got 0 v0))) (id⊢ 𝓤 _) $ await ! tt $ pick ! (λ p0. split ! $ move ! (1 ∷ []) $
-          use1 W (raw (fact 𝓤 (p0 ≡ point-at (now x) 0))) (said 0 p0) $
-          heard ! (p0 ≡ point-at (now x) 0) (λ p0-is. split ! $ move ! (1 ∷ []) $
-          peeks ! vec.the-row (Is vec.the-row) shown p0 (v0 ∷ []) (λ is0.
+          (λ v0. asks.got 𝓤 H A mem run W κ q x ! tt 0 v0 (λ p0 p0-is is0.
           land ! (from ! (stop !)) (init ! 19 refl (typed p0 _ is0 .0)) $ drop ! $ move ! (1 ∷ []) $
           use2 W (raw (Point .pre (to 1)) ⊛ ‵ (Slice κ x)) (apart 1 (lit< tt)) $ split ! $
           calls-at ! fm Point known (to 1) (and-then ! (load ! (from ! (stop !)) (look ! 20 refl)) (and-then ! (lit ! tt) (no-more !)))
-          (λ v1.
-          use1 W (later (some (Got 1 v1))) (id⊢ 𝓤 _) $ await ! tt $ pick ! (λ p1. split ! $ move ! (1 ∷ []) $
-          use1 W (raw (fact 𝓤 (p1 ≡ point-at (now x) 1))) (said 1 p1) $
-          heard ! (p1 ≡ point-at (now x) 1) (λ p1-is. split ! $ move ! (1 ∷ []) $
-          peeks ! vec.the-row (Is vec.the-row) shown p1 (v1 ∷ []) (λ is1.
+          (λ v1. asks.got 𝓤 H A mem run W κ q x ! tt 1 v1 (λ p1 p1-is is1.
           land ! (from ! (stop !)) (init ! 17 refl (typed p1 _ is1 .0)) $ drop ! $ move ! (1 ∷ []) $
           use2 W (raw (Point .pre (to 2)) ⊛ ‵ (Slice κ x)) (apart 2 (lit< tt)) $ split ! $
           calls-at ! fm Point known (to 2) (and-then ! (load ! (from ! (stop !)) (look ! 20 refl)) (and-then ! (lit ! tt) (no-more !)))
-          (λ v2.
-          use1 W (later (some (Got 2 v2))) (id⊢ 𝓤 _) $ await ! tt $ pick ! (λ p2. split ! $ move ! (1 ∷ []) $
-          use1 W (raw (fact 𝓤 (p2 ≡ point-at (now x) 2))) (said 2 p2) $
-          heard ! (p2 ≡ point-at (now x) 2) (λ p2-is. split ! $ move ! (1 ∷ []) $
-          peeks ! vec.the-row (Is vec.the-row) shown p2 (v2 ∷ []) (λ is2.
+          (λ v2. asks.got 𝓤 H A mem run W κ q x ! tt 2 v2 (λ p2 p2-is is2.
           land ! (from ! (stop !)) (init ! 15 refl (typed p2 _ is2 .0)) $ drop ! $ move ! (1 ∷ []) $
           use2 W (raw (Point .pre (to 3)) ⊛ ‵ (Slice κ x)) (apart 3 (lit< tt)) $ split ! $
           calls-at ! fm Point known (to 3) (and-then ! (load ! (from ! (stop !)) (look ! 20 refl)) (and-then ! (lit ! tt) (no-more !)))
-          (λ v3.
-          use1 W (later (some (Got 3 v3))) (id⊢ 𝓤 _) $ await ! tt $ pick ! (λ p3. split ! $ move ! (1 ∷ []) $
-          use1 W (raw (fact 𝓤 (p3 ≡ point-at (now x) 3))) (said 3 p3) $
-          heard ! (p3 ≡ point-at (now x) 3) (λ p3-is. split ! $ move ! (1 ∷ []) $
-          peeks ! vec.the-row (Is vec.the-row) shown p3 (v3 ∷ []) (λ is3.
+          (λ v3. asks.got 𝓤 H A mem run W κ q x ! tt 3 v3 (λ p3 p3-is is3.
           land ! (from ! (stop !)) (init ! 13 refl (typed p3 _ is3 .0)) $ drop ! $ move ! (1 ∷ []) $
           use2 W (raw (Point .pre (to 4)) ⊛ ‵ (Slice κ x)) (apart 4 (lit< tt)) $ split ! $
           calls-at ! fm Point known (to 4) (and-then ! (load ! (from ! (stop !)) (look ! 20 refl)) (and-then ! (lit ! tt) (no-more !)))
-          (λ v4.
-          use1 W (later (some (Got 4 v4))) (id⊢ 𝓤 _) $ await ! tt $ pick ! (λ p4. split ! $ move ! (1 ∷ []) $
-          use1 W (raw (fact 𝓤 (p4 ≡ point-at (now x) 4))) (said 4 p4) $
-          heard ! (p4 ≡ point-at (now x) 4) (λ p4-is. split ! $ move ! (1 ∷ []) $
-          peeks ! vec.the-row (Is vec.the-row) shown p4 (v4 ∷ []) (λ is4.
+          (λ v4. asks.got 𝓤 H A mem run W κ q x ! tt 4 v4 (λ p4 p4-is is4.
           land ! (from ! (stop !)) (init ! 11 refl (typed p4 _ is4 .0)) $ drop ! $ move ! (1 ∷ []) $
           use2 W (raw (Point .pre (to 5)) ⊛ ‵ (Slice κ x)) (apart 5 (lit< tt)) $ split ! $
           calls-at ! fm Point known (to 5) (and-then ! (load ! (from ! (stop !)) (look ! 20 refl)) (and-then ! (lit ! tt) (no-more !)))
-          (λ v5.
-          use1 W (later (some (Got 5 v5))) (id⊢ 𝓤 _) $ await ! tt $ pick ! (λ p5. split ! $ move ! (1 ∷ []) $
-          use1 W (raw (fact 𝓤 (p5 ≡ point-at (now x) 5))) (said 5 p5) $
-          heard ! (p5 ≡ point-at (now x) 5) (λ p5-is. split ! $ move ! (1 ∷ []) $
-          peeks ! vec.the-row (Is vec.the-row) shown p5 (v5 ∷ []) (λ is5.
+          (λ v5. asks.got 𝓤 H A mem run W κ q x ! tt 5 v5 (λ p5 p5-is is5.
           land ! (from ! (stop !)) (init ! 9 refl (typed p5 _ is5 .0)) $ drop ! $ move ! (1 ∷ []) $
           use2 W (raw (Point .pre (to 6)) ⊛ ‵ (Slice κ x)) (apart 6 (lit< tt)) $ split ! $
           calls-at ! fm Point known (to 6) (and-then ! (load ! (from ! (stop !)) (look ! 20 refl)) (and-then ! (lit ! tt) (no-more !)))
-          (λ v6.
-          use1 W (later (some (Got 6 v6))) (id⊢ 𝓤 _) $ await ! tt $ pick ! (λ p6. split ! $ move ! (1 ∷ []) $
-          use1 W (raw (fact 𝓤 (p6 ≡ point-at (now x) 6))) (said 6 p6) $
-          heard ! (p6 ≡ point-at (now x) 6) (λ p6-is. split ! $ move ! (1 ∷ []) $
-          peeks ! vec.the-row (Is vec.the-row) shown p6 (v6 ∷ []) (λ is6.
+          (λ v6. asks.got 𝓤 H A mem run W κ q x ! tt 6 v6 (λ p6 p6-is is6.
           land ! (from ! (stop !)) (init ! 7 refl (typed p6 _ is6 .0)) $ drop ! $ move ! (1 ∷ []) $
           use2 W (raw (Point .pre (to 7)) ⊛ ‵ (Slice κ x)) (apart 7 (lit< tt)) $ split ! $
           calls-at ! fm Point known (to 7) (and-then ! (load ! (from ! (stop !)) (look ! 20 refl)) (and-then ! (lit ! tt) (no-more !)))
-          (λ v7.
-          use1 W (later (some (Got 7 v7))) (id⊢ 𝓤 _) $ await ! tt $ pick ! (λ p7. split ! $ move ! (1 ∷ []) $
-          use1 W (raw (fact 𝓤 (p7 ≡ point-at (now x) 7))) (said 7 p7) $
-          heard ! (p7 ≡ point-at (now x) 7) (λ p7-is. split ! $ move ! (1 ∷ []) $
-          peeks ! vec.the-row (Is vec.the-row) shown p7 (v7 ∷ []) (λ is7.
+          (λ v7. asks.got 𝓤 H A mem run W κ q x ! tt 7 v7 (λ p7 p7-is is7.
           land ! (from ! (stop !)) (init ! 5 refl (typed p7 _ is7 .0)) $ drop ! $ move ! (1 ∷ []) $
           let a0 : Read = record { p = p0; v = v0; is = is0 } in let a1 : Read = record { p = p1; v = v1; is = is1 } in
           let a2 : Read = record { p = p2; v = v2; is = is2 } in let a3 : Read = record { p = p3; v = v3; is = is3 } in
@@ -205,7 +170,7 @@ module _ {M : Type 1} (𝓤 : URA M) (H : Heap 𝓤) (A : Atoms 𝓤) (W : Given
           keep ! (0 ∷ 1 ∷ 2 ∷ []) $
           by !
           (exits r u (lent-is old (now x) _ _ _ _ _ _ _ _ r p0-is p1-is p2-is p3-is p4-is p5-is p6-is p7-is r-is) old-is)
-          )))))))))))))))))))))))))))))))))))))))))))))))))
+          )))))))))))))))))))))))))))))))))
 
   module _ (C : Calls 𝓤 H) (Λ : Loops 𝓤 H) (fm : FmC 𝓤 H (W .laws) C) (known : Triple 𝓤 (C point-or) (asks.Point 𝓤 H A mem run))
       (known-eight : Triple 𝓤 (C set-of-eight) (asks.Eight 𝓤 H A mem run)) where
