@@ -1,6 +1,5 @@
 -- The outline builder, b2_polygon_shape_set, as document 01 has it: weld, start, walk, normals, centroid, with the refusals 1, 2, 3, 4,
--- 5 in
--- that order and no other; a refused call hands back the outline that it was given. Definitions only.
+-- 5 in that order and no other; a refused call hands back the outline that it was given. Definitions only.
 use mathlib.Core.Bool.{Bool, true, not, cond, _&&_, _||_}
 use mathlib.Core.List.{List, [], _∷_, _++_, map}
 use mathlib.Core.Option.{Option, none, some}

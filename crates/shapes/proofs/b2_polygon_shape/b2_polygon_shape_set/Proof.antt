@@ -16,7 +16,7 @@ use ghost.Atoms.{Atoms}
 use contract.Monad.{Fun, fact}
 use contract.Running.{givenOf, tables, tablesOf}
 use sound.WpLaws.{FmC, fmOf, WpFn-mono}
-use types.Kit.{Given, ‵, raw, _⊛_, ⋆, some, later, _$_, _∵_, !, qed, by, move, keep, drop, use1, use2, split, pick, fsplit, fjoin}
+use types.Kit.{Given, ‵, raw, ⋆, some, later, _$_, _∵_, !, qed, by, move, keep, drop, use1, split, pick, fsplit, fjoin}
 use types.Kit.{suffices, frame, await, done}
 use types.Part.{whole, sub, look-in}
 use types.Run.{look, init, forget, stop, fld, from, load, lit, of-opd, assigns, and-then, no-more, land, returns, enter}
@@ -40,10 +40,9 @@ use Rattle.floats.proofs.b2_math.B2vec2 as vec
 use Rattle.floats.proofs.b2_math.B2vec2.Laws as vec-laws
 use Rattle.shapes.specs.declared.b2_polygon_shape.B2polygonShape.{B2polygonShape}
 use Rattle.shapes.specs.declared.b2_polygon_shape.PolygonAnswer.{PolygonAnswer}
-use Rattle.shapes.specs.Outline.{point-at}
 use Rattle.shapes.specs.Polygon.{b2-polygon-shape-set}
 use Rattle.shapes.proofs.Lent.{lent-is}
-use Rattle.shapes.proofs.Calls.{Read, slice, Slice, value}
+use Rattle.shapes.proofs.Calls.{slice, Slice, value}
 use Rattle.shapes.proofs.Calls as asks
 use Rattle.shapes.proofs.b2_polygon_shape.B2polygonShape as polygon
 use Rattle.shapes.proofs.b2_polygon_shape.B2polygonShape.Laws as polygon-laws
@@ -88,9 +87,6 @@ module _ {M : Type 1} (𝓤 : URA M) (H : Heap 𝓤) (A : Atoms 𝓤) (W : Given
           → ent 𝓤 (onEntry 𝓤 H A f.signature (κ, tt) (q, tt) (old, (x, tt)) (value old ∷ [], (slice x ∷ [], tt)))
           (WpFn 𝓤 H C Λ code.function (value old ∷ slice x ∷ []) Post)
       walk room =
-          let Point = asks.Point 𝓤 H A mem run in
-          let to = asks.to 𝓤 H A mem run W κ q x in
-          let apart = asks.apart 𝓤 H A mem run W κ q x in
           let typed = laws.lawful vec.the-type vec-laws.the-laws 𝓤 H A W .typed in
           qed W (asks.Token 𝓤 H A mem run W κ q x
           ∷ ‵ (owns (polygon.the-row ∷ ShrSlice (named 0) κ vec.the-row ∷ []) (old, (x, tt)) (value old ∷ [], (slice x ∷ [], tt))) ∷ []) ∵
@@ -101,42 +97,30 @@ module _ {M : Type 1} (𝓤 : URA M) (H : Heap 𝓤) (A : Atoms 𝓤) (W : Given
           alloc1 ! (λ l₈. alloc1 ! (λ l₉. alloc1 ! (λ l₁₀. alloc1 ! (λ l₁₁. alloc0 ! $ params1 ! $
           pass1 ! (init ! 20 refl (laws.lawful polygon.the-type polygon-laws.the-laws 𝓤 H A W .typed old _ old-is .0)) $
           pass1 ! (init ! 18 refl (tt, (tt, (record { fits = room .0 }, tt)))) $ pass0 ! $ move ! (24 ∷ 25 ∷ []) $
-          use2 W (raw (Point .pre (to 0)) ⊛ ‵ (Slice κ x)) (apart 0 (lit< tt)) $ split ! $
-          calls-at ! fm Point known (to 0) (and-then ! (load ! (from ! (stop !)) (look ! 20 refl)) (and-then ! (lit ! tt) (no-more !)))
-          (λ v0. asks.got 𝓤 H A mem run W κ q x ! tt 0 v0 (λ p0 p0-is is0.
-          land ! (from ! (stop !)) (init ! 19 refl (typed p0 _ is0 .0)) $ drop ! $ move ! (1 ∷ []) $
-          use2 W (raw (Point .pre (to 1)) ⊛ ‵ (Slice κ x)) (apart 1 (lit< tt)) $ split ! $
-          calls-at ! fm Point known (to 1) (and-then ! (load ! (from ! (stop !)) (look ! 20 refl)) (and-then ! (lit ! tt) (no-more !)))
-          (λ v1. asks.got 𝓤 H A mem run W κ q x ! tt 1 v1 (λ p1 p1-is is1.
-          land ! (from ! (stop !)) (init ! 17 refl (typed p1 _ is1 .0)) $ drop ! $ move ! (1 ∷ []) $
-          use2 W (raw (Point .pre (to 2)) ⊛ ‵ (Slice κ x)) (apart 2 (lit< tt)) $ split ! $
-          calls-at ! fm Point known (to 2) (and-then ! (load ! (from ! (stop !)) (look ! 20 refl)) (and-then ! (lit ! tt) (no-more !)))
-          (λ v2. asks.got 𝓤 H A mem run W κ q x ! tt 2 v2 (λ p2 p2-is is2.
-          land ! (from ! (stop !)) (init ! 15 refl (typed p2 _ is2 .0)) $ drop ! $ move ! (1 ∷ []) $
-          use2 W (raw (Point .pre (to 3)) ⊛ ‵ (Slice κ x)) (apart 3 (lit< tt)) $ split ! $
-          calls-at ! fm Point known (to 3) (and-then ! (load ! (from ! (stop !)) (look ! 20 refl)) (and-then ! (lit ! tt) (no-more !)))
-          (λ v3. asks.got 𝓤 H A mem run W κ q x ! tt 3 v3 (λ p3 p3-is is3.
-          land ! (from ! (stop !)) (init ! 13 refl (typed p3 _ is3 .0)) $ drop ! $ move ! (1 ∷ []) $
-          use2 W (raw (Point .pre (to 4)) ⊛ ‵ (Slice κ x)) (apart 4 (lit< tt)) $ split ! $
-          calls-at ! fm Point known (to 4) (and-then ! (load ! (from ! (stop !)) (look ! 20 refl)) (and-then ! (lit ! tt) (no-more !)))
-          (λ v4. asks.got 𝓤 H A mem run W κ q x ! tt 4 v4 (λ p4 p4-is is4.
-          land ! (from ! (stop !)) (init ! 11 refl (typed p4 _ is4 .0)) $ drop ! $ move ! (1 ∷ []) $
-          use2 W (raw (Point .pre (to 5)) ⊛ ‵ (Slice κ x)) (apart 5 (lit< tt)) $ split ! $
-          calls-at ! fm Point known (to 5) (and-then ! (load ! (from ! (stop !)) (look ! 20 refl)) (and-then ! (lit ! tt) (no-more !)))
-          (λ v5. asks.got 𝓤 H A mem run W κ q x ! tt 5 v5 (λ p5 p5-is is5.
-          land ! (from ! (stop !)) (init ! 9 refl (typed p5 _ is5 .0)) $ drop ! $ move ! (1 ∷ []) $
-          use2 W (raw (Point .pre (to 6)) ⊛ ‵ (Slice κ x)) (apart 6 (lit< tt)) $ split ! $
-          calls-at ! fm Point known (to 6) (and-then ! (load ! (from ! (stop !)) (look ! 20 refl)) (and-then ! (lit ! tt) (no-more !)))
-          (λ v6. asks.got 𝓤 H A mem run W κ q x ! tt 6 v6 (λ p6 p6-is is6.
-          land ! (from ! (stop !)) (init ! 7 refl (typed p6 _ is6 .0)) $ drop ! $ move ! (1 ∷ []) $
-          use2 W (raw (Point .pre (to 7)) ⊛ ‵ (Slice κ x)) (apart 7 (lit< tt)) $ split ! $
-          calls-at ! fm Point known (to 7) (and-then ! (load ! (from ! (stop !)) (look ! 20 refl)) (and-then ! (lit ! tt) (no-more !)))
-          (λ v7. asks.got 𝓤 H A mem run W κ q x ! tt 7 v7 (λ p7 p7-is is7.
-          land ! (from ! (stop !)) (init ! 5 refl (typed p7 _ is7 .0)) $ drop ! $ move ! (1 ∷ []) $
-          let a0 : Read = record { p = p0; v = v0; is = is0 } in let a1 : Read = record { p = p1; v = v1; is = is1 } in
-          let a2 : Read = record { p = p2; v = v2; is = is2 } in let a3 : Read = record { p = p3; v = v3; is = is3 } in
-          let a4 : Read = record { p = p4; v = v4; is = is4 } in let a5 : Read = record { p = p5; v = v5; is = is5 } in
-          let a6 : Read = record { p = p6; v = v6; is = is6 } in let a7 : Read = record { p = p7; v = v7; is = is7 } in
+          asks.reads 𝓤 H A mem run W κ q x ! fm known 0 (lit< tt)
+          (and-then ! (load ! (from ! (stop !)) (look ! 20 refl)) (and-then ! (lit ! tt) (no-more !))) (λ a0 a0-is.
+          land ! (from ! (stop !)) (init ! 19 refl (typed (a0 .p) _ (a0 .is) .0)) $ drop ! $ move ! (1 ∷ []) $
+          asks.reads 𝓤 H A mem run W κ q x ! fm known 1 (lit< tt)
+          (and-then ! (load ! (from ! (stop !)) (look ! 20 refl)) (and-then ! (lit ! tt) (no-more !))) (λ a1 a1-is.
+          land ! (from ! (stop !)) (init ! 17 refl (typed (a1 .p) _ (a1 .is) .0)) $ drop ! $ move ! (1 ∷ []) $
+          asks.reads 𝓤 H A mem run W κ q x ! fm known 2 (lit< tt)
+          (and-then ! (load ! (from ! (stop !)) (look ! 20 refl)) (and-then ! (lit ! tt) (no-more !))) (λ a2 a2-is.
+          land ! (from ! (stop !)) (init ! 15 refl (typed (a2 .p) _ (a2 .is) .0)) $ drop ! $ move ! (1 ∷ []) $
+          asks.reads 𝓤 H A mem run W κ q x ! fm known 3 (lit< tt)
+          (and-then ! (load ! (from ! (stop !)) (look ! 20 refl)) (and-then ! (lit ! tt) (no-more !))) (λ a3 a3-is.
+          land ! (from ! (stop !)) (init ! 13 refl (typed (a3 .p) _ (a3 .is) .0)) $ drop ! $ move ! (1 ∷ []) $
+          asks.reads 𝓤 H A mem run W κ q x ! fm known 4 (lit< tt)
+          (and-then ! (load ! (from ! (stop !)) (look ! 20 refl)) (and-then ! (lit ! tt) (no-more !))) (λ a4 a4-is.
+          land ! (from ! (stop !)) (init ! 11 refl (typed (a4 .p) _ (a4 .is) .0)) $ drop ! $ move ! (1 ∷ []) $
+          asks.reads 𝓤 H A mem run W κ q x ! fm known 5 (lit< tt)
+          (and-then ! (load ! (from ! (stop !)) (look ! 20 refl)) (and-then ! (lit ! tt) (no-more !))) (λ a5 a5-is.
+          land ! (from ! (stop !)) (init ! 9 refl (typed (a5 .p) _ (a5 .is) .0)) $ drop ! $ move ! (1 ∷ []) $
+          asks.reads 𝓤 H A mem run W κ q x ! fm known 6 (lit< tt)
+          (and-then ! (load ! (from ! (stop !)) (look ! 20 refl)) (and-then ! (lit ! tt) (no-more !))) (λ a6 a6-is.
+          land ! (from ! (stop !)) (init ! 7 refl (typed (a6 .p) _ (a6 .is) .0)) $ drop ! $ move ! (1 ∷ []) $
+          asks.reads 𝓤 H A mem run W κ q x ! fm known 7 (lit< tt)
+          (and-then ! (load ! (from ! (stop !)) (look ! 20 refl)) (and-then ! (lit ! tt) (no-more !))) (λ a7 a7-is.
+          land ! (from ! (stop !)) (init ! 5 refl (typed (a7 .p) _ (a7 .is) .0)) $ drop ! $ move ! (1 ∷ []) $
           let Eight = asks.Eight 𝓤 H A mem run in
           let to-eight = asks.to-eight 𝓤 H A mem run W κ q x old a0 a1 a2 a3 a4 a5 a6 a7 in
           let answered = asks.answered 𝓤 H A mem run W κ q x old a0 a1 a2 a3 a4 a5 a6 a7 in
@@ -169,8 +153,8 @@ module _ {M : Type 1} (𝓤 : URA M) (H : Heap 𝓤) (A : Atoms 𝓤) (W : Given
           free0 ! $
           keep ! (0 ∷ 1 ∷ 2 ∷ []) $
           by !
-          (exits r u (lent-is old (now x) _ _ _ _ _ _ _ _ r p0-is p1-is p2-is p3-is p4-is p5-is p6-is p7-is r-is) old-is)
-          )))))))))))))))))))))))))))))))))
+          (exits r u (lent-is old (now x) _ _ _ _ _ _ _ _ r a0-is a1-is a2-is a3-is a4-is a5-is a6-is a7-is r-is) old-is)
+          )))))))))))))))))))))))))
 
   module _ (C : Calls 𝓤 H) (Λ : Loops 𝓤 H) (fm : FmC 𝓤 H (W .laws) C) (known : Triple 𝓤 (C point-or) (asks.Point 𝓤 H A mem run))
       (known-eight : Triple 𝓤 (C set-of-eight) (asks.Eight 𝓤 H A mem run)) where
