@@ -13,7 +13,7 @@ use Rattle.algebra.specs.Loops.{places}
 use Rattle.algebra.proofs.Buffer.{over-next}
 use Rattle.algebra.proofs.Lists.{getD-within}
 use Rattle.floats.specs.declared.b2_math.B2vec2.{B2vec2}
-use Rattle.floats.specs.B2Common.{zero32}
+use Rattle.rounding.specs.Literals.{zero32}
 use Rattle.floats.specs.B2Math.{vec2}
 use Rattle.direct.specs.Outlines.{point-of, points-of, flat}
 

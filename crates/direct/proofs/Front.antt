@@ -6,7 +6,7 @@ use native.Mathlib.Omega.{arith}
 use lib.ListN.{length, getD, set}
 use lib.Ieee.{Float}
 use Rattle.floats.specs.declared.b2_math.Normalized.{Normalized}
-use Rattle.floats.specs.B2Common.{zero32}
+use Rattle.rounding.specs.Literals.{zero32}
 use Rattle.floats.specs.B2Math.{vec2, b2-normalize}
 use Rattle.direct.specs.Direct.{normalized, normalized-length}
 

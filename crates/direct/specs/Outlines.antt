@@ -8,7 +8,8 @@ use lib.Ieee.{Float}
 use Rattle.algebra.specs.Buffer.{over}
 use Rattle.algebra.specs.Loops.{places}
 use Rattle.floats.specs.declared.b2_math.B2vec2.{B2vec2}
-use Rattle.floats.specs.B2Common.{zero32, b2-polygon-radius}
+use Rattle.rounding.specs.Literals.{zero32}
+use Rattle.floats.specs.B2Common.{b2-polygon-radius}
 use Rattle.floats.specs.B2Math.{vec2}
 use Rattle.shapes.specs.declared.b2_polygon_shape.B2polygonShape.{B2polygonShape}
 use Rattle.shapes.specs.declared.b2_polygon_shape.PolygonAnswer.{PolygonAnswer}

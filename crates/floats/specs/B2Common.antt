@@ -1,15 +1,5 @@
--- The constants of b2_common.rs that the collision code uses, by their bit patterns, and the floats 0, 1/2 and 1. Definitions only.
+-- The constants of b2_common.rs that the collision code uses, by their bit patterns. Definitions only.
 use lib.Ieee.{Float, binary32, ofBits}
-
--- the literals 0.0, 0.5 and 1.0
-abbrev pub zero32 : Float
-zero32 = ofBits binary32 0
-
-abbrev pub half32 : Float
-half32 = ofBits binary32 0x3f00_0000
-
-abbrev pub one32 : Float
-one32 = ofBits binary32 0x3f80_0000
 
 -- (2^24 - 1) * 2^104, the largest finite f32
 abbrev pub b2-max-float : Float

@@ -11,7 +11,8 @@ use lib.Seq.{length-take-le, take-at}
 use lib.Ieee.{binary32, div, lt}
 use borrow.Author.Tests.{lt-ltb, le-ltb}
 use Rattle.floats.specs.declared.b2_math.B2vec2.{B2vec2}
-use Rattle.floats.specs.B2Common.{one32, b2-epsilon}
+use Rattle.rounding.specs.Literals.{one32}
+use Rattle.floats.specs.B2Common.{b2-epsilon}
 use Rattle.floats.specs.B2Math.{b2-add, b2-scale}
 use Rattle.floats.specs.Ranges.{point-in-range}
 use Rattle.shapes.specs.declared.b2_polygon_shape.B2polygonShape.{B2polygonShape}

@@ -6,7 +6,8 @@ use mathlib.Core.List.{List, [], _∷_}
 use lib.ListN.{take}
 use lib.Ieee.{Float, binary32, neg, add, sub, mul, div, le, lt, eq, ofBits}
 use Rattle.floats.specs.declared.b2_math.B2vec2.{B2vec2}
-use Rattle.floats.specs.B2Common.{zero32, half32, one32, b2-polygon-radius}
+use Rattle.rounding.specs.Literals.{zero32, half32, one32}
+use Rattle.floats.specs.B2Common.{b2-polygon-radius}
 use Rattle.floats.specs.B2Math.{vec2, b2-add, b2-sub, b2-scale, b2-dot, b2-cross, b2-length-squared, b2-distance-vec2-squared}
 use Rattle.floats.specs.Ranges.{point-in-range, radius-in-range}
 use Rattle.shapes.specs.declared.b2_polygon_shape.B2polygonShape.{B2polygonShape}

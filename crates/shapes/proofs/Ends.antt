@@ -11,9 +11,9 @@ use lib.Ieee.Fits.{down-pos}
 use lib.Ieee.Scale.{round-same}
 use borrow.Author.Tests.{le-ltb}
 use Rattle.floats.specs.declared.b2_math.B2vec2.{B2vec2}
-use Rattle.floats.specs.B2Common.{zero32}
+use Rattle.rounding.specs.Literals.{zero32}
 use Rattle.floats.specs.B2Math.{b2-sub, b2-cross}
-use Rattle.floats.proofs.Commutes.{mul-commutes}
+use Rattle.rounding.proofs.Commutes.{mul-commutes}
 
 -- a zero of either sign, or NaN
 data Null : Float → Type 0 where

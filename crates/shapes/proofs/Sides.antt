@@ -15,7 +15,7 @@ use lib.Ieee.{Float, lt}
 use borrow.Author.Tests.{eqb-true, lt-ltb, le-ltb, not-false}
 use Rattle.algebra.proofs.Loops.{less-or-not}
 use Rattle.floats.specs.declared.b2_math.B2vec2.{B2vec2}
-use Rattle.floats.specs.B2Common.{zero32}
+use Rattle.rounding.specs.Literals.{zero32}
 use Rattle.floats.specs.B2Math.{vec2, b2-sub, b2-cross}
 use Rattle.shapes.specs.Outline.{point-at, place-after}
 use Rattle.shapes.specs.Validate.{not-right-of, corners-not-right, faces-convex}

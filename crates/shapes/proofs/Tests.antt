@@ -11,7 +11,7 @@ use lib.Ieee.{Float, lt, eq}
 use Rattle.algebra.specs.Loops.{places, scan}
 use Rattle.algebra.proofs.Loops.{scan-next}
 use Rattle.floats.specs.declared.b2_math.B2vec2.{B2vec2}
-use Rattle.floats.specs.B2Common.{zero32}
+use Rattle.rounding.specs.Literals.{zero32}
 use Rattle.floats.specs.B2Math.{b2-sub, b2-cross, b2-length-squared}
 use Rattle.shapes.specs.Outline.{origin, point-at, later-places, earlier, turns-closer, closer, replaces}
 

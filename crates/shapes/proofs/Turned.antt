@@ -15,18 +15,19 @@ use Rattle.algebra.proofs.Integer.{same-sym}
 use Rattle.algebra.proofs.Magnitude.{abs-same}
 use Rattle.floats.specs.declared.b2_math.B2vec2.{B2vec2}
 use Rattle.floats.specs.declared.b2_math.Normalized.{Normalized}
-use Rattle.floats.specs.B2Common.{zero32, one32, b2-epsilon}
+use Rattle.rounding.specs.Literals.{zero32, one32}
+use Rattle.floats.specs.B2Common.{b2-epsilon}
 use Rattle.floats.specs.B2Math.{b2-sqrt, b2-cross-vec-by-scalar, b2-length-squared, b2-length, times-reciprocal, b2-normalize}
-use Rattle.floats.specs.Sqrt.{sqrt}
-use Rattle.floats.specs.Value.{metre, F32, mag, val}
-use Rattle.floats.proofs.Value.{metre-pos, abs-mag, mag-abs, has-value, positive-sign, neg-f32, mag-neg, val-neg}
-use Rattle.floats.proofs.Dyadic.{Dyadic}
-use Rattle.floats.proofs.Comparison.{lt-val, val-not-lt}
-use Rattle.floats.proofs.Commutes.{add-commutes}
-use Rattle.floats.proofs.Literals.{bits-dyadic, one-f32, one-val}
-use Rattle.floats.proofs.UnitFactors.{one-mul-exact, minus-one-mul-exact}
-use Rattle.floats.proofs.SqrtLaw.{sqrt-law}
-use Rattle.floats.proofs.SqrtOrder.{sqrt-low}
+use Rattle.sqrt.specs.Sqrt.{sqrt}
+use Rattle.rounding.specs.Value.{metre, F32, mag, val}
+use Rattle.rounding.proofs.Value.{metre-pos, abs-mag, mag-abs, has-value, positive-sign, neg-f32, mag-neg, val-neg}
+use Rattle.rounding.proofs.Dyadic.{Dyadic}
+use Rattle.rounding.proofs.Comparison.{lt-val, val-not-lt}
+use Rattle.rounding.proofs.Commutes.{add-commutes}
+use Rattle.rounding.proofs.Literals.{bits-dyadic, one-f32, one-val}
+use Rattle.rounding.proofs.UnitFactors.{one-mul-exact, minus-one-mul-exact}
+use Rattle.sqrt.proofs.SqrtLaw.{sqrt-law}
+use Rattle.sqrt.proofs.SqrtOrder.{sqrt-low}
 use Rattle.shapes.specs.Outline.{epsilon-squared, normal-of-edge}
 
 -- ---- numbers of one size have one square

@@ -5,7 +5,7 @@ use mathlib.Core.List.{List, [], _∷_, map}
 use lib.Ieee.{Float, neg}
 use Rattle.floats.specs.declared.b2_math.B2vec2.{B2vec2}
 use Rattle.floats.specs.declared.b2_math.B2Rot.{B2Rot}
-use Rattle.floats.specs.B2Common.{zero32, one32}
+use Rattle.rounding.specs.Literals.{zero32, one32}
 use Rattle.floats.specs.B2Math.{vec2, b2-mul-rot-by-vec2, b2-mul-transform-by-vec2}
 use Rattle.floats.specs.Ranges.{coordinate-in-range, point-in-range, rotation-in-range}
 use Rattle.shapes.specs.declared.b2_polygon_shape.B2polygonShape.{B2polygonShape}

@@ -10,7 +10,7 @@ use lib.Ieee.{Float, binary32, ofBits, add, mul, div, lt, eq}
 use Rattle.algebra.specs.Loops.{places, weld, scan, walk}
 use Rattle.floats.specs.declared.b2_math.B2vec2.{B2vec2}
 use Rattle.shapes.specs.declared.outline.FanSum.{FanSum}
-use Rattle.floats.specs.B2Common.{zero32, half32, one32}
+use Rattle.rounding.specs.Literals.{zero32, half32, one32}
 use Rattle.floats.specs.B2Math.{vec2, b2-add, b2-sub, b2-scale, b2-cross, b2-cross-vec-by-scalar}
 use Rattle.floats.specs.B2Math.{b2-length-squared, b2-distance-vec2-squared, b2-normalize}
 

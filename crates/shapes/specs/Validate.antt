@@ -7,7 +7,7 @@ use lib.ListN.{take}
 use lib.Ieee.{lt}
 use mathlib.Core.List.{List}
 use Rattle.floats.specs.declared.b2_math.B2vec2.{B2vec2}
-use Rattle.floats.specs.B2Common.{zero32}
+use Rattle.rounding.specs.Literals.{zero32}
 use Rattle.floats.specs.B2Math.{b2-sub, b2-cross}
 use Rattle.floats.specs.Ranges.{point-in-range, radius-in-range, normal-in-range}
 use Rattle.shapes.specs.declared.b2_polygon_shape.B2polygonShape.{B2polygonShape}

@@ -6,7 +6,7 @@ ghost use mathlib.Core.List.{map, zipWith};
 ghost use Prim.Native.Nat.{_<_, _≤_};
 ghost use lib.ListN.{length};
 ghost use lib.Ieee.{lt};
-ghost use Rattle.floats.specs.B2Common.{zero32};
+ghost use Rattle.rounding.specs.Literals.{zero32};
 ghost use Rattle.floats.specs.B2Math.{vec2, b2-sub, b2-cross};
 ghost use Rattle.shapes.specs.Validate.{corners-not-right, faces-convex};
 use crate::outline;
