@@ -1,3 +1,5 @@
 pub mod RangeValue
+pub mod Ends
+pub mod Turned
 pub mod Controls
 pub mod VectorControls

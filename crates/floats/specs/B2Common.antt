@@ -9,6 +9,10 @@ b2-max-float = ofBits binary32 0x7f7f_ffff
 abbrev pub b2-epsilon : Float
 b2-epsilon = ofBits binary32 0x3400_0000
 
+-- its square: 1/2^46
+abbrev pub epsilon-squared : Float
+epsilon-squared = ofBits binary32 0x2880_0000
+
 -- 0.005, rounded: 5368709/2^30
 abbrev pub b2-linear-slop : Float
 b2-linear-slop = ofBits binary32 0x3ba3_d70a
