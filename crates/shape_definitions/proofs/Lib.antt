@@ -1,4 +1,5 @@
 pub mod Over
 pub mod AllPoints
 pub mod Counted
-pub mod Controls
+pub mod CaseRecords
+pub mod OutlineCases
