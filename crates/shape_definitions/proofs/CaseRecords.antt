@@ -1,5 +1,5 @@
--- Floats, points and answers by their bit patterns: the vocabulary of the closed cases. An answer is written out whole: what the call
--- sets by its bits, and what it keeps as the given shape's own. Assumes nothing.
+-- Floats, points and answers by their bit patterns: the vocabulary of the closed cases. An answer is written out whole:
+-- what the call sets by its bits, and what it keeps as the given shape's own. Assumes nothing.
 use mathlib.Core.Bool.{Bool}
 use mathlib.Core.List.{List, _++_}
 use Prim.Native.Nat.{ℕ}

@@ -1,5 +1,6 @@
--- The marked cases of document 01 about outlines and validate, each with its whole answer, computed by antt from the definitions; the
--- given shape is any. The answers, as bit patterns, are those on which Box2D 2.4.1 and the Rust agree. Assumes nothing.
+-- The marked cases of document 01 about outlines and validate, each with its whole answer, computed by antt from the
+-- definitions; the given shape is any. Accepted ones are what Box2D 2.4.1 and the Rust agree on, as bit patterns.
+-- Assumes nothing.
 use mathlib.Core.Path.{_≡_, refl}
 use mathlib.Core.Bool.{true}
 use mathlib.Core.List.{List, [], _∷_}
@@ -11,7 +12,8 @@ use Rattle.floats.specs.B2Math.{b2-sqrt, b2-add, b2-sub, b2-scale, b2-dot, b2-c
 use Rattle.floats.specs.B2Math.{b2-length-squared, b2-length, b2-distance-vec2-squared, b2-normalize}
 use Rattle.floats.specs.Ranges.{point-in-range, radius-in-range}
 use Rattle.shape_definitions.specs.declared.b2_polygon_shape.B2polygonShape.{B2polygonShape}
-use Rattle.shape_definitions.specs.Outline.{too-near, welded, comes-before, start, closer, next, row, edges, long-enough, fan}
+use Rattle.shape_definitions.specs.Outline.{too-near, welded, comes-before, start, closer, next, row, edges}
+use Rattle.shape_definitions.specs.Outline.{long-enough, fan}
 use Rattle.shape_definitions.specs.Polygon.{outline-of-corners, outline-of-welded, b2-polygon-shape-set}
 use Rattle.shape_definitions.specs.Validate.{faces-convex, polygon-in-range, b2-polygon-shape-validate}
 use Rattle.shape_definitions.proofs.CaseRecords.{float, vector, turned-down, made, tested}
@@ -27,7 +29,8 @@ with-second x = vector 0 0 ∷ vector x 0 ∷ vector 0 0x3f80_0000 ∷ []
 -- the unit square, and (0.5, 0) on its lower side
 abbrev square-and-fifth : List B2vec2
 square-and-fifth =
-    vector 0 0 ∷ vector 0x3f80_0000 0 ∷ vector 0x3f80_0000 0x3f80_0000 ∷ vector 0 0x3f80_0000 ∷ vector 0x3f00_0000 0 ∷ []
+    vector 0 0 ∷ vector 0x3f80_0000 0 ∷ vector 0x3f80_0000 0x3f80_0000 ∷ vector 0 0x3f80_0000
+    ∷ vector 0x3f00_0000 0 ∷ []
 
 -- an outline of no corners, whatever stands in its places
 abbrev without-corners : List B2vec2 → List B2vec2 → B2polygonShape
@@ -57,15 +60,17 @@ pub record OutlineCases (old : B2polygonShape) : Type 0 where
   pub fifth-is-no-corner : b2-polygon-shape-set old square-and-fifth
       ≡ made old (vector 0x3f00_0000 0x3f00_0000)
       (vector 0x3f80_0000 0 ∷ vector 0x3f80_0000 0x3f80_0000 ∷ vector 0 0x3f80_0000 ∷ vector 0 0 ∷ [])
-      (vector 0x3f80_0000 0x8000_0000 ∷ vector 0 0x3f80_0000 ∷ vector 0xbf80_0000 0x8000_0000 ∷ vector 0 0xbf80_0000 ∷ [])
+      (vector 0x3f80_0000 0x8000_0000 ∷ vector 0 0x3f80_0000 ∷ vector 0xbf80_0000 0x8000_0000
+      ∷ vector 0 0xbf80_0000 ∷ [])
   pub no-corners-are-convex : (vertices normals : List B2vec2)
       → b2-polygon-shape-validate (without-corners vertices normals) ≡ tested 0 true
 
 pub outline-cases : (old : B2polygonShape) → OutlineCases old
-unfolding b2-polygon-shape-set outline-of-welded outline-of-corners welded too-near comes-before start closer next row edges long-enough fan
-    b2-polygon-shape-validate polygon-in-range faces-convex point-in-range radius-in-range
-    b2-distance-vec2-squared b2-length-squared b2-length b2-normalize b2-add b2-sub b2-scale b2-dot b2-cross b2-cross-vec-by-scalar
-    b2-sqrt sqrt rounded-root whole-root root-digits size units neg add sub mul div le lt eq ofBits
+unfolding b2-polygon-shape-set outline-of-welded outline-of-corners welded too-near comes-before start closer next row
+    edges long-enough fan b2-polygon-shape-validate polygon-in-range faces-convex point-in-range radius-in-range
+    b2-distance-vec2-squared b2-length-squared b2-length b2-normalize b2-add b2-sub b2-scale b2-dot b2-cross
+    b2-cross-vec-by-scalar b2-sqrt sqrt rounded-root whole-root root-digits size units
+    neg add sub mul div le lt eq ofBits
 outline-cases old = record {
   two-points = refl;
   nine-points = λ a b c d e f g h i. refl;
