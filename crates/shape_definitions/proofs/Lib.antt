@@ -1,4 +1,10 @@
 pub mod Over
 pub mod AllPoints
 pub mod Counted
-pub mod Controls
+pub mod CaseRecords
+pub mod RefusalCases
+pub mod OutlineCases
+pub mod BuilderCases
+pub mod BoxCases
+pub mod ValidateCases
+pub mod WallCases
