@@ -1,11 +1,12 @@
 -- The one law of all field writers: a part written into `&mut buffer[at..]`, after the at elements that were written before, leaves the
--- buffer with both at its front (`over-next`). Assumes nothing.
-use Prim.Native.Nat.{ℕ, _+_, _-_, _≤_}
+-- buffer with both at its front (`over-next`); so does one element stored there (`over-store`), and a run of stores from place 0 on
+-- (`over-stores`). Assumes nothing.
+use Prim.Native.Nat.{ℕ, suc, _+_, _-_, _≤_, _<_}
 use mathlib.Core.Path.{_≡_, sym, _∙_, ap}
-use mathlib.Core.List.{List, [], _++_, append-assoc, append-nil}
+use mathlib.Core.List.{List, [], _∷_, _++_, append-assoc, append-nil}
 use native.Mathlib.Omega.{arith}
-use lib.ListN.{length, take, drop, length-append, length-drop}
-use lib.Seq.{take-all, take-at, drop-at, drop-drop, drop-length}
+use lib.ListN.{length, getD, take, drop, set, length-append, length-drop}
+use lib.Seq.{take-all, take-at, drop-at, drop-cons, drop-drop, drop-length, set-at, sets, sets-eq}
 use borrow.Rule.Slice.PartMut.{putMid, midOf}
 use Rattle.algebra.specs.Buffer.{over}
 
@@ -36,6 +37,24 @@ module _ {A : Type 0} where
       ∙ ap (λ (l : List A). first ++ l) new-part
       ∙ sym (append-assoc first next (drop (at + length next) old))
       ∙ ap (λ (k : ℕ). (first ++ next) ++ drop k old) total
+
+  pub over-store : (first old : List A) (at : ℕ) (x : A) → length first ≡ at → at < length old
+      → set (over first old) at x ≡ over (first ++ (x ∷ [])) old
+  over-store first old at x first-length within =
+      let rest : drop (length first) old ≡ getD old at x ∷ drop (suc at) old =
+      ap (λ (k : ℕ). drop k old) first-length ∙ drop-cons old at x within in
+      let total : suc at ≡ length (first ++ (x ∷ [])) = omega (arith, length-append first (x ∷ []), first-length) in
+      ap (λ (l : List A). set (first ++ l) at x) rest
+      ∙ set-at first (getD old at x) (drop (suc at) old) x at first-length
+      ∙ sym (append-assoc first (x ∷ []) (drop (suc at) old))
+      ∙ ap (λ (k : ℕ). (first ++ (x ∷ [])) ++ drop k old) total
+
+  -- on a list that is written out, `sets` is the stores themselves, one after the other
+  pub over-stores : (new old : List A) → length new ≤ length old → sets old 0 new ≡ over new old
+  over-stores new old room = sets-eq new old 0 (omega arith) ∙ ap (λ (k : ℕ). new ++ drop k old) same
+    where
+      same : 0 + length new ≡ length new
+      same = omega arith
 
   pub length-over : (new old : List A) → length new ≤ length old → length (over new old) ≡ length old
   length-over new old fits = omega (arith, length-append new (drop (length new) old), length-drop (length new) old)

@@ -1,0 +1,31 @@
+-- By the two ranges of characters. Assumes nothing.
+use native.Mathlib.Omega.{arith}
+use Rattle.lines.proofs.Reading.{from-test}
+use borrow.Author.Needs.{needs}
+use Rattle.lines.proofs.hex.nibble.Statement.{statement}
+use Rattle.lines.proofs.hex.nibble.Tie as tie
+
+sub-result : tie.Need-sub-result
+sub-result c = omega (arith, from-test 48 (c .before .args .x) 57 (c .if1 .taken))
+
+sub-result-2 : tie.Need-sub-result-2
+sub-result-2 c = omega (arith, from-test 97 (c .before .before .args .x) 102 (c .if2 .taken))
+
+add-result : tie.Need-add-result
+add-result c = search needs
+
+returns : tie.Need-returns
+returns c = simp (c .if1 .taken)
+
+returns-2 : tie.Need-returns-2
+returns-2 c =
+    let if1′ = c .before .if1 in
+    simp (if1′ .left, c .if2 .taken)
+
+returns-3 : tie.Need-returns-3
+returns-3 c =
+    let if1′ = c .before .if1 in
+    simp (if1′ .left, c .if2 .left)
+
+pub nibble-spec : {M : Type 1} → statement M
+nibble-spec = tie.close (tie.spec sub-result sub-result-2 add-result returns returns-2 returns-3)
