@@ -1,6 +1,6 @@
 -- The one law of all field writers: a part written into `&mut buffer[at..]`, after the at elements that were written before, leaves the
--- buffer with both at its front (`over-next`); so does one element stored there (`over-store`), and a run of stores from place 0 on
--- (`over-stores`). Assumes nothing.
+-- buffer with both at its front (`over-next`); so does one element stored at the first place that is not yet written (`over-store`), and
+-- a run of stores from place 0 on (`over-stores`). Assumes nothing.
 use Prim.Native.Nat.{ℕ, suc, _+_, _-_, _≤_, _<_}
 use mathlib.Core.Path.{_≡_, sym, _∙_, ap}
 use mathlib.Core.List.{List, [], _∷_, _++_, append-assoc, append-nil}
@@ -38,16 +38,16 @@ module _ {A : Type 0} where
       ∙ sym (append-assoc first next (drop (at + length next) old))
       ∙ ap (λ (k : ℕ). (first ++ next) ++ drop k old) total
 
-  pub over-store : (first old : List A) (at : ℕ) (x : A) → length first ≡ at → at < length old
-      → set (over first old) at x ≡ over (first ++ (x ∷ [])) old
-  over-store first old at x first-length within =
-      let rest : drop (length first) old ≡ getD old at x ∷ drop (suc at) old =
-      ap (λ (k : ℕ). drop k old) first-length ∙ drop-cons old at x within in
-      let total : suc at ≡ length (first ++ (x ∷ [])) = omega (arith, length-append first (x ∷ []), first-length) in
-      ap (λ (l : List A). set (first ++ l) at x) rest
-      ∙ set-at first (getD old at x) (drop (suc at) old) x at first-length
-      ∙ sym (append-assoc first (x ∷ []) (drop (suc at) old))
-      ∙ ap (λ (k : ℕ). (first ++ (x ∷ [])) ++ drop k old) total
+  pub over-store : (array new old : List A) (a : A) (n : ℕ) → array ≡ over new old → length new ≡ n → n < length old
+      → set array n a ≡ over (new ++ (a ∷ [])) old
+  over-store array new old a n array-is n-is room =
+      let rest : drop (length new) old ≡ getD old n a ∷ drop (suc n) old =
+      ap (λ (k : ℕ). drop k old) n-is ∙ drop-cons old n a room in
+      let total : suc n ≡ length (new ++ (a ∷ [])) = omega (arith, length-append new (a ∷ []), n-is) in
+      ap (λ (l : List A). set l n a) (array-is ∙ ap (λ (l : List A). new ++ l) rest)
+      ∙ set-at new (getD old n a) (drop (suc n) old) a n n-is
+      ∙ sym (append-assoc new (a ∷ []) (drop (suc n) old))
+      ∙ ap (λ (k : ℕ). (new ++ (a ∷ [])) ++ drop k old) total
 
   -- on a list that is written out, `sets` is the stores themselves, one after the other
   pub over-stores : (new old : List A) → length new ≤ length old → sets old 0 new ≡ over new old

@@ -48,5 +48,5 @@ module _ (bytes old buffer : List ℕ) (i : ℕ) (so-far : buffer ≡ over (hex 
       so-far ∙ ap (λ (k : ℕ). over (hex (take k bytes)) old) all ∙ ap (λ (l : List ℕ). over (hex l) old) (take-length bytes) in
       record {
         count = omega (arith, length-append (hex bytes) (line-feed ∷ []), length-hex bytes);
-        left = ap (λ (l : List ℕ). set l end line-feed) whole ∙ over-store (hex bytes) old end line-feed (length-hex bytes) (omega arith);
+        left = over-store _ (hex bytes) old line-feed end whole (length-hex bytes) (omega arith);
       }

@@ -1,6 +1,5 @@
-pub mod Over
-pub mod AllPoints
 pub mod Counted
+pub mod Edges
 pub mod CaseRecords
 pub mod RefusalCases
 pub mod OutlineCases
