@@ -88,7 +88,10 @@ pub fn run(cases: u64, seed: u64) -> bool {
         for row in TABLE {
             let ours = row_of(row.entry).is_some();
             for _ in 0..1 + cases / (2 * (SPOILS.len() * TABLE.len()) as u64) {
-                let Some(input) = spoiled(row, spoil, &mut random) else { break };
+                let input = match spoiled(row, spoil, &mut random) {
+                    Some(input) => input,
+                    None => break,
+                };
                 let need = 4 * (1 + row.record);
                 let room = match spoil {
                     0 => need + random.below(9) as usize,

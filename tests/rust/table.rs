@@ -14,6 +14,7 @@ pub struct Row {
     /// The refusal that document 01 adds to the references', by the harness's own test of counts and ranges.
     pub refusal: fn(&[u32]) -> u32,
     /// The refusals that an assert of a reference can stand for; of the Rust's panics nothing tells which.
+    #[cfg_attr(not(papers), allow(dead_code))]
     pub panics: &'static [u32],
     /// What a run has to meet: 0 for accepted, and the refusals that can be reached.
     pub reachable: &'static [u32],
