@@ -44,7 +44,7 @@ fn root_rust(x: f32) -> f32 {
     b2_sqrt(x)
 }
 
-/// The corners of an octagon about a unit circle, out of order. Written out: the shim over Box2D defines cosf and sinf for the whole process.
+/// The corners of an octagon about a unit circle, out of order.
 const OCTAGON: [(f32, f32); 8] =
     [(1.0, 0.0), (-0.7071, -0.7071), (0.0, 1.0), (0.7071, -0.7071), (-1.0, 0.0), (0.7071, 0.7071), (0.0, -1.0), (-0.7071, 0.7071)];
 

@@ -75,10 +75,21 @@ static void outline(const float *coordinates, int count) {
     printf("  centroid ("), print_float(get(shape + 4)), printf(", "), print_float(get(shape + 8)), printf(")\n");
 }
 
+/* The float that a word of the command line says; a word that is no number ends the program with status 2. */
+static float number(const char *word) {
+    char *end;
+    float x = strtof(word, &end);
+    if (end == word || *end) {
+        fprintf(stderr, "host: \"%s\" is no number\n", word);
+        exit(2);
+    }
+    return x;
+}
+
 int main(int argc, char **argv) {
     float given[2 * MOST_POINTS] = {0};
     int count = argc - 2;
-    for (int i = 0; i < count && i < 2 * MOST_POINTS; i++) given[i] = strtof(argv[i + 2], NULL);
+    for (int i = 0; i < count && i < 2 * MOST_POINTS; i++) given[i] = number(argv[i + 2]);
     if (argc == 3 && strcmp(argv[1], "root") == 0) return show("root", 15, given, 1), 0;
     if (argc == 4 && strcmp(argv[1], "normalize") == 0) return show("normalize", 16, given, 2), 0;
     if (argc >= 2 && strcmp(argv[1], "outline") == 0 && count % 2 == 0 && count <= 2 * MOST_POINTS) return outline(given, count), 0;

@@ -1,18 +1,31 @@
-/* Replays stored answers: each line of the file is a request and its answer in hexadecimal words, with ':' between them.
-   Every answer is asked for with an output of just its length, a longer one and one a byte short; what is not written must keep its bytes. */
-#include "netxurbil_calls.h"
+/* Replays stored answers: replay FILE COUNT. A line of the file is a request and its answer, words of eight hexadecimal digits with ' : '
+   between the two; lines that begin with '#' are comments, and a line of another form is an error. The file must hold COUNT answers.
+   Every answer is asked for with an output of just its length, a longer one and one a byte short; what is not written must keep its bytes.
+   An empty answer is that of a malformed request: asked with full room. */
+#include <ctype.h>
 #include <stdio.h>
 #include <stdlib.h>
 #include <string.h>
 
-enum { WORDS = 128, SPARE = 8 };
+enum { WORDS = 160, SPARE = 8 };
 
-static size_t words_of(char *text, uint8_t *bytes) {
+static int digit(char c) { return isdigit((unsigned char)c) ? c - '0' : c >= 'a' && c <= 'f' ? c - 'a' + 10 : -1; }
+
+/* reads words with a blank before each but the first; the number of them, and where they end */
+static size_t words_of(const char **text, int blank_first, uint8_t *bytes) {
+    const char *at = *text;
     size_t n = 0;
-    for (char *word = strtok(text, " \n"); word && n < WORDS; word = strtok(NULL, " \n"), n++) {
-        unsigned long w = strtoul(word, NULL, 16);
-        for (int i = 0; i < 4; i++) bytes[4 * n + i] = (uint8_t)(w >> (24 - 8 * i));
+    for (; n < WORDS; n++) {
+        const char *word = at + (blank_first || n > 0);
+        if (word > at && *at != ' ') break;
+        int i = 0;
+        for (; i < 8 && digit(word[i]) >= 0; i++) {
+            if (i % 2) bytes[4 * n + i / 2] = (uint8_t)(digit(word[i - 1]) << 4 | digit(word[i]));
+        }
+        if (i < 8) break;
+        at = word + 8;
     }
+    *text = at;
     return n;
 }
 
@@ -25,24 +38,39 @@ static long ask(const uint8_t *input, size_t length, uint8_t *out, size_t room) 
     return (long)words;
 }
 
+/* what is wrong with the answer, or NULL */
+static const char *wrong(const uint8_t *input, size_t asked, const uint8_t *wanted, size_t answered) {
+    static uint8_t out[4 * WORDS + SPARE];
+    const size_t rooms[] = {4 * answered, 4 * answered + SPARE, 4 * WORDS};
+    for (int i = answered == 0 ? 2 : 0; i < 3; i++) {
+        if (ask(input, 4 * asked, out, rooms[i]) != (long)answered) return "another number of words";
+        if (memcmp(out, wanted, 4 * answered) != 0) return "another answer";
+    }
+    if (answered > 0 && ask(input, 4 * asked, out, 4 * answered - 1) != 0) return "answered with a byte too little room";
+    return NULL;
+}
+
 int main(int argc, char **argv) {
-    FILE *file = argc == 2 ? fopen(argv[1], "r") : NULL;
-    if (!file) return fprintf(stderr, "usage: replay FILE\n"), 2;
+    FILE *file = argc == 3 ? fopen(argv[1], "r") : NULL;
+    if (!file) return fprintf(stderr, "usage: replay FILE COUNT\n"), 2;
     static char line[16384];
-    static uint8_t input[4 * WORDS], wanted[4 * WORDS], out[4 * WORDS + SPARE];
-    unsigned long cases = 0, differences = 0;
+    static uint8_t input[4 * WORDS], wanted[4 * WORDS];
+    unsigned long number = 0, answers = 0, differences = 0;
     while (fgets(line, sizeof line, file)) {
-        char *colon = strchr(line, ':');
-        if (line[0] == '#' || !colon) continue;
-        *colon = 0;
-        size_t asked = words_of(line, input), answered = words_of(colon + 1, wanted);
-        int right = ask(input, 4 * asked, out, 4 * answered) == (long)answered && memcmp(out, wanted, 4 * answered) == 0;
-        right = right && ask(input, 4 * asked, out, 4 * answered + SPARE) == (long)answered && memcmp(out, wanted, 4 * answered) == 0;
-        right = right && (answered == 0 || ask(input, 4 * asked, out, 4 * answered - 1) == 0);
-        cases++;
-        if (!right && ++differences <= 5) printf("  case %lu differs\n", cases);
+        number++;
+        if (line[0] == '#') continue;
+        const char *at = line, *why = "no request and answer of this form";
+        size_t asked = words_of(&at, 0, input);
+        if (asked > 0 && strncmp(at, " :", 2) == 0) {
+            at += 2;
+            size_t answered = words_of(&at, 1, wanted);
+            if (strcmp(at, "\n") == 0 || (answered == 0 && strcmp(at, " \n") == 0)) answers++, why = wrong(input, asked, wanted, answered);
+        }
+        if (why && ++differences <= 5) printf("  %s:%lu: %s\n", argv[1], number, why);
     }
     fclose(file);
-    printf("%lu stored answers, %lu differences\n", cases, differences);
-    return cases == 0 || differences > 0;
+    unsigned long pinned = strtoul(argv[2], NULL, 10);
+    if (answers != pinned) printf("  %s: %lu answers, not %s\n", argv[1], answers, argv[2]);
+    printf("%lu stored answers, %lu differences\n", answers, differences);
+    return answers == 0 || answers != pinned || differences > 0;
 }

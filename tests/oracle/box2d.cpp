@@ -1,7 +1,8 @@
 // Box2D 2.4.1 behind the request numbers of `calls`, on words: box2d_answer writes the refusal and the record after the call.
-// The library's asserts become refusals: this file defines __assert_fail and comes before the C library in the search order. It defines
-// the sine and cosine functions too, so that the four-argument box takes any sine and cosine. Built as a shared library by build_box2d.
+// The library's asserts become refusals: this file defines __assert_fail and comes before the C library in the search order. The
+// four-argument box takes the sine and cosine that turn.c was given. Built as a shared library by build_box2d.
 #include <box2d/box2d.h>
+#include <cmath>
 #include <csetjmp>
 #include <cstdint>
 #include <cstring>
@@ -10,19 +11,12 @@ static jmp_buf back;
 static bool asserting = false;
 static const char *assertion;
 static unsigned assertion_line;
-static float given_sine, given_cosine;
 
 extern "C" void __assert_fail(const char *text, const char *, unsigned line, const char *) noexcept {
     if (!asserting) __builtin_trap();
     assertion = text;
     assertion_line = line;
     longjmp(back, 1);
-}
-extern "C" float sinf(float) noexcept { return given_sine; }
-extern "C" float cosf(float) noexcept { return given_cosine; }
-extern "C" void sincosf(float, float *s, float *c) noexcept {
-    *s = given_sine;
-    *c = given_cosine;
 }
 
 namespace {
@@ -113,12 +107,6 @@ void learn() {
 
 } // namespace
 
-// What sine and cosine give from now on, in this process: the Rust's too.
-extern "C" void set_turn(float sine, float cosine) {
-    given_sine = sine;
-    given_cosine = cosine;
-}
-
 extern "C" size_t box2d_answer(const uint32_t *request, uint32_t *out) {
     learn();
     Reader in{request};
@@ -154,8 +142,6 @@ extern "C" size_t box2d_answer(const uint32_t *request, uint32_t *out) {
         b2PolygonShape p = in.polygon();
         float hx = in.number(), hy = in.number();
         b2Vec2 center = in.vec();
-        given_sine = in.number();
-        given_cosine = in.number();
         p.SetAsBox(hx, hy, center, 0.5f);
         to.polygon(p);
         break;
@@ -177,6 +163,13 @@ extern "C" size_t box2d_answer(const uint32_t *request, uint32_t *out) {
         b2Vec2 v1 = in.vec();
         e.SetTwoSided(v1, in.vec());
         to.edge(e);
+        break;
+    }
+    case 15: to.number(std::sqrt(in.number())); break;
+    case 16: {
+        b2Vec2 v = in.vec();
+        to.number(v.Normalize());
+        to.vec(v);
         break;
     }
     default: return 0;

@@ -1,6 +1,6 @@
 //! The unmodified Rust behind the request numbers of `calls`, on words. A panic of the Rust is `None`.
 use box2d_rs::b2_common::B2_POLYGON_RADIUS;
-use box2d_rs::b2_math::B2vec2;
+use box2d_rs::b2_math::{b2_sqrt, B2vec2};
 use box2d_rs::private::collision::{b2_edge_shape, b2_polygon_shape};
 use box2d_rs::shapes::b2_edge_shape::B2edgeShape;
 use box2d_rs::shapes::b2_polygon_shape::B2polygonShape;
@@ -95,6 +95,13 @@ pub fn answer(request: &[u32]) -> Option<Vec<u32>> {
             b2_edge_shape::b2_set_two_sided(&mut e, v1, from.vec());
             Some(edge_words(&e))
         }
-        entry => panic!("no entry {entry}"),
+        15 => Some(vec![b2_sqrt(from.number()).to_bits()]),
+        16 => {
+            let mut v = from.vec();
+            let mut words = vec![v.normalize().to_bits()];
+            words.extend(vec_words(v));
+            Some(words)
+        }
+        entry => panic!("no entry {entry} of the Rust"),
     }
 }

@@ -1,9 +1,20 @@
-//! What the Rust-side tests share: the door `calls`, words, and generators of floats that find something.
+//! What the rows share: our C entries on words, words compared with one NaN, random numbers, and the count of a comparison.
 
 extern "C" {
     // A `&[u8]` of Rattle is a pointer and a length.
     #[link_name = "calls"]
     fn calls_raw(input: *const u8, input_len: usize, out: *mut u8, out_len: usize) -> u32;
+    // Entry 1 on a lent slice: the old outline's 144 bytes, the points as floats x, y; count is the number of points.
+    #[allow(dead_code)]
+    fn calls_outline_slice(old: *const u8, old_len: usize, points: *const f32, count: usize, out: *mut u8, out_len: usize) -> u32;
+}
+
+pub fn to_bytes(words: &[u32]) -> Vec<u8> {
+    words.iter().flat_map(|w| w.to_be_bytes()).collect()
+}
+
+pub fn to_words(bytes: &[u8]) -> Vec<u32> {
+    bytes.chunks_exact(4).map(|b| u32::from_be_bytes([b[0], b[1], b[2], b[3]])).collect()
 }
 
 /// The number of words that `calls` says it wrote; `out` is what it left.
@@ -13,20 +24,27 @@ pub fn calls_bytes(input: &[u8], out: &mut [u8]) -> u32 {
 
 /// A request in words and its answer in words; a malformed request has none.
 pub fn calls(request: &[u32]) -> Vec<u32> {
-    let input: Vec<u8> = request.iter().flat_map(|w| w.to_be_bytes()).collect();
     let mut out = [0u8; 256];
-    let count = calls_bytes(&input, &mut out) as usize;
-    out.chunks(4).take(count).map(|b| u32::from_be_bytes([b[0], b[1], b[2], b[3]])).collect()
+    let count = calls_bytes(&to_bytes(request), &mut out) as usize;
+    to_words(&out[..4 * count])
 }
 
-/// Bits for a comparison: every NaN is one value.
+/// A request of entry 1, answered through the entry that takes the points as a lent slice.
 #[allow(dead_code)]
-pub fn bits(x: f32) -> u32 {
-    if x.is_nan() {
-        0x7fc0_0000
-    } else {
-        x.to_bits()
-    }
+pub fn lent_slice(request: &[u32]) -> Vec<u32> {
+    let old = to_bytes(&request[1..37]);
+    let points: Vec<f32> = request[38..].iter().map(|w| f32::from_bits(*w)).collect();
+    let mut out = [0u8; 256];
+    let count = unsafe {
+        calls_outline_slice(old.as_ptr(), old.len(), points.as_ptr(), points.len() / 2, out.as_mut_ptr(), out.len())
+    };
+    to_words(&out[..4 * count as usize])
+}
+
+/// Words for a comparison: every NaN is one value. Those at the places `plain` are no floats.
+pub fn one_nan(words: &[u32], plain: &[usize]) -> Vec<u32> {
+    let nan = |w: u32| if f32::from_bits(w).is_nan() { 0x7fc0_0000 } else { w };
+    words.iter().enumerate().map(|(i, w)| if plain.contains(&i) { *w } else { nan(*w) }).collect()
 }
 
 /// xorshift64*, from a seed that is printed with every result.
@@ -48,72 +66,56 @@ impl Random {
         (self.next() >> 11) % n
     }
 
-    /// A float of one of the kinds that matter: any bits, specials, subnormals, tiny, grid numbers, ordinary sizes, neighbours of
-    /// powers of two, squares.
-    pub fn float(&mut self) -> f32 {
-        const SPECIAL: [u32; 14] = [
-            0x0000_0000, 0x8000_0000, 0x7f80_0000, 0xff80_0000, 0x7fc0_0000, 0xffc0_0001, 0x0000_0001, 0x807f_ffff, 0x0080_0000,
-            0x7f7f_ffff, 0xff7f_ffff, 0x3f80_0000, 0x3400_0000, 0x33ff_ffff,
-        ];
-        let any = self.next() as u32;
-        let sign = any & 0x8000_0000;
-        match self.below(9) {
-            0 => f32::from_bits(any),
-            1 => f32::from_bits(SPECIAL[self.below(14) as usize]),
-            2 => f32::from_bits(sign | (any & 0x007f_ffff)),
-            3 => f32::from_bits(sign | ((0x3380_0000 + (any & 0x00ff_ffff)) & 0x7fff_ffff)),
-            4 => (self.below(2049) as f32 - 1024.0) / 256.0,
-            5 => f32::from_bits(sign | (0x3700_0000 + (any & 0x0fff_ffff))),
-            6 => f32::from_bits(sign | ((any & 0x7f80_0000) + self.below(3) as u32).wrapping_sub(1) & 0x7fff_ffff),
-            7 => {
-                let root = f32::from_bits(0x2000_0000 + (any & 0x3f7f_ffff));
-                root * root
-            }
-            _ => f32::from_bits(sign | (0x1f00_0000 + (any & 0x00ff_ffff))),
-        }
+    pub fn of<T: Copy>(&mut self, list: &[T]) -> T {
+        list[self.below(list.len() as u64) as usize]
+    }
+
+    /// True once in n.
+    pub fn once_in(&mut self, n: u64) -> bool {
+        self.below(n) == 0
     }
 }
 
-/// Counts of one comparison, printed in one line that the test command reads.
+/// Counts of one comparison, printed in one line of the form that the suites read.
 pub struct Tally {
-    name: &'static str,
+    name: String,
     pub cases: u64,
-    pub differences: u64,
-    notes: Vec<(&'static str, u64)>,
+    differences: u64,
+    notes: Vec<(String, u64)>,
 }
 
 impl Tally {
-    pub fn new(name: &'static str) -> Tally {
-        Tally { name, cases: 0, differences: 0, notes: Vec::new() }
+    pub fn new(name: &str) -> Tally {
+        Tally { name: name.to_string(), cases: 0, differences: 0, notes: Vec::new() }
     }
 
-    /// One case; the first differences are printed with what they were given.
-    pub fn case(&mut self, request: &[u32], ours: &[u32], theirs: &[u32]) {
+    /// One case, right or not; the first wrong ones are printed with what they were given.
+    pub fn case(&mut self, right: bool, what: impl Fn() -> String) {
         self.cases += 1;
-        if ours != theirs {
+        if !right {
             self.differences += 1;
             if self.differences <= 5 {
-                println!("  {}: {request:08x?} gives {ours:08x?}, the reference {theirs:08x?}", self.name);
+                println!("  {}: {}", self.name, what());
             }
         }
     }
 
     /// How often something was met that a good generator meets.
-    pub fn met(&mut self, what: &'static str) {
-        match self.notes.iter_mut().find(|(w, _)| *w == what) {
+    pub fn met(&mut self, what: &str) {
+        match self.notes.iter_mut().find(|(w, _)| w == what) {
             Some((_, n)) => *n += 1,
-            None => self.notes.push((what, 1)),
+            None => self.notes.push((what.to_string(), 1)),
         }
     }
 
     /// Prints the line and answers whether the comparison passed: no difference, and everything wanted was met.
-    pub fn report(&self, wanted: &[&str]) -> bool {
-        let missing: Vec<&&str> = wanted.iter().filter(|w| !self.notes.iter().any(|(x, _)| *x == **w)).collect();
+    pub fn report(&self, wanted: &[String]) -> bool {
+        let missing: Vec<&String> = wanted.iter().filter(|w| !self.notes.iter().any(|(x, _)| x == *w)).collect();
         let mut notes: Vec<String> = self.notes.iter().map(|(w, n)| format!("{w} {n}")).collect();
         notes.sort();
         let passed = self.differences == 0 && missing.is_empty() && self.cases > 0;
         println!(
-            "{} {}: {} cases, {} differences; {}{}",
+            "{}: {}: {} cases, {} differences; {}{}",
             if passed { "ok" } else { "FAILED" },
             self.name,
             self.cases,

@@ -1,0 +1,122 @@
+# What the suites share, and the commands beside them. Sourced; the working folder becomes the repository's root.
+# A check prints `ok: NAME` or `FAILED: NAME: why`. Status 3 of a command is "not at hand", used only where the papers' folder
+# is absent or the package registry cannot be reached; every other status but 0 is a failure.
+cd "$(dirname "${BASH_SOURCE[0]}")/.." || exit 1
+
+# The crates with C exports and their header: a new name is written here (and in examples/host.c, which includes the header).
+calls_crate=calls
+bench_crate=direct
+header=netxurbil_calls.h
+
+build=target/tests
+oracle=$PWD/target/oracle
+warnings="-Wall -Wextra -Werror -O2"
+mkdir -p $build "$oracle"
+passed=0 failed=0
+
+ok() { passed=$((passed + 1)); echo "ok: $1"; }
+fail() { failed=$((failed + 1)); echo "FAILED: $1: $2"; }
+
+# check NAME COMMAND..: one check, passed where the command ends with status 0
+check() {
+    local name=$1 status; shift
+    "$@"; status=$?
+    if [ $status -eq 0 ]; then ok "$name"; else fail "$name" "status $status of '$*'"; fi
+    return $status
+}
+
+# reference NAME COMMAND..: the same, but status 3 is no failure: what the command needs is not at hand
+reference() {
+    local name=$1 status; shift
+    "$@"; status=$?
+    case $status in
+        0) ok "$name" ;;
+        3) echo "not at hand: $name" ;;
+        *) fail "$name" "status $status of '$*'" ;;
+    esac
+    return $status
+}
+
+# output FILE COMMAND..: the command ends with status 0 and writes something to FILE
+output() {
+    local file=$1; shift
+    rm -f "$file"
+    "$@" > "$file" || return
+    [ -s "$file" ] || { echo "nothing written by '$*'"; return 1; }
+}
+
+# same WANTED GOT: two files that are not empty and are the same
+same() {
+    local file
+    for file; do [ -s "$file" ] || { echo "nothing in $file"; return 1; }; done
+    diff "$1" "$2"
+}
+
+# counted NAME COMMAND..: a command that makes checks of its own and says how many in its last line, `N passed, M failed`
+counted() {
+    local name=$1 log status; shift
+    log=$(mktemp)
+    "$@" | tee "$log"; status=${PIPESTATUS[0]}
+    add_up "$name" "$log" $status ""
+    rm -f "$log"
+}
+
+# add_up NAME LOG STATUS WORDS: adds the counts of the log's last line, `WORDS N passed, M failed`. A failure where there is no such line,
+# where it counts nothing, and where it does not fit the status.
+add_up() {
+    local last good bad
+    last=$(tail -n 1 "$2")
+    if ! [[ $last =~ ^"$4"([0-9]+)\ passed,\ ([0-9]+)\ failed$ ]]; then
+        fail "$1" "no count in its last line, status $3"
+        return
+    fi
+    good=${BASH_REMATCH[1]} bad=${BASH_REMATCH[2]}
+    passed=$((passed + good)) failed=$((failed + bad))
+    if [ $((good + bad)) -eq 0 ]; then
+        fail "$1" "it counts no check"
+    elif [ "$3" -ne 0 ] && [ "$bad" -eq 0 ]; then
+        fail "$1" "status $3, though it counts no failure"
+    elif [ "$3" -eq 0 ] && [ "$bad" -ne 0 ]; then
+        fail "$1" "status 0, though it counts failures"
+    fi
+}
+
+# summary: the last line of a suite, and its status
+summary() {
+    echo "suite: $passed passed, $failed failed"
+    [ $failed -eq 0 ]
+}
+
+# install PACKAGE: from Debian. Status 3 where the registry cannot be reached, 1 where the package cannot be had from it
+install() {
+    apt-get update -qq -o APT::Update::Error-Mode=any > /dev/null 2>&1 || { echo "the package registry cannot be reached"; return 3; }
+    apt-get install -y -qq "$1" > /dev/null 2>&1 || { echo "$1 cannot be installed"; return 1; }
+}
+
+# tool COMMAND PACKAGE: a check that the command is there, installed where it is missing. Never "not at hand": nothing goes without it.
+tool() {
+    command -v "$1" > /dev/null || install "$2"
+    if command -v "$1" > /dev/null; then ok "the tool $1"; else fail "the tool $1" "it is missing and could not be installed"; fi
+}
+
+# library CRATE: a check that the crate is proved and built for C, in target/staticlib. Not built again from the same files.
+library() {
+    local file=target/staticlib/lib$1.a key
+    key=$({ rt version; find crates crates.txt -type f -exec sha256sum {} + | sort; } | sha256sum)
+    if [ -s "$file" ] && [ "$(cat "$file.key" 2> /dev/null)" = "$key$(sha256sum < "$file")" ]; then
+        ok "static library $1, built before from these files"
+    else
+        rm -f "$file.key"
+        check "static library $1" quiet rt staticlib "$1" && echo "$key$(sha256sum < "$file")" > "$file.key"
+    fi
+}
+
+# quiet COMMAND..: its output only where it fails
+quiet() {
+    local log status
+    log=$(mktemp)
+    "$@" > "$log" 2>&1; status=$?
+    [ $status -eq 0 ] || tail -n 20 "$log"
+    rm -f "$log"
+    return $status
+}

@@ -1,0 +1,67 @@
+//! The differential runs: every row of the table, ours against the unmodified Rust and Box2D 2.4.1, every field, refusals included; and
+//! malformed requests. Built with `--cfg papers` where the Rust is at hand and `--cfg box2d` where Box2D is.
+//! usage: differential CASES SEED               compares, for each row until CASES were asked of the references
+//!        differential store FILE CASES SEED    prints answers for tests/stored/FILE.txt, on which the references agree
+#![allow(unknown_lints, unexpected_cfgs)]
+#[cfg(box2d)]
+mod box2d_oracle;
+mod compare;
+mod floats;
+mod generators;
+mod malformed;
+mod ranges;
+#[cfg(papers)]
+mod rust_oracle;
+mod shapes;
+mod support;
+mod table;
+use support::{one_nan, Random};
+use table::{Row, TABLE};
+
+fn store(file: &str, cases: u64, seed: u64) {
+    let hex = |words: &[u32]| words.iter().map(|w| format!("{w:08x}")).collect::<Vec<_>>().join(" ");
+    let mut random = Random::new(seed);
+    println!("# request : answer, by 'differential store {file} {cases} {seed}'");
+    if file == "malformed" {
+        println!("# an empty answer: nothing is written");
+        malformed::stored(cases, &mut random).iter().for_each(|request| println!("{} :", hex(request)));
+        return;
+    }
+    println!("# the Rust and Box2D 2.4.1 agree on it, but for refusals 2, 6, 7 and 9, which are document 01's alone");
+    let rows: Vec<&Row> = TABLE.iter().filter(|row| row.stored == file && row.ours.is_some()).collect();
+    for i in 0..cases {
+        let row = rows[i as usize % rows.len()];
+        let request = (row.generate)(&mut random);
+        let (answer, agree, _) = compare::expected(row, &request);
+        assert!(agree && answer.refusals.len() == 1, "both references are needed, and have to agree");
+        println!("{} : {:08x} {}", hex(&request), answer.refusals[0], hex(&one_nan(&answer.record, row.plain)));
+    }
+}
+
+fn main() {
+    std::panic::set_hook(Box::new(|panic| {
+        // the Rust's asserts are answers; what goes wrong in the harness is shown
+        if panic.location().map_or(true, |place| place.file().contains("tests/rust")) {
+            eprintln!("{panic}");
+        }
+    }));
+    let words: Vec<String> = std::env::args().skip(1).collect();
+    let number = |i: usize| words[i].parse::<u64>().unwrap_or_else(|_| panic!("{:?} is no number", words[i]));
+    if words.len() == 4 && words[0] == "store" {
+        return store(&words[1], number(2), number(3));
+    }
+    assert!(words.len() == 2, "usage: differential CASES SEED");
+    let (cases, seed) = (number(0), number(1));
+    println!("seed {seed}");
+    let mut results = vec![malformed::run(cases, seed)];
+    for (i, row) in TABLE.iter().enumerate() {
+        if compare::REFERENCES + row.ours.is_some() as usize >= 2 {
+            results.push(compare::run(row, cases, seed + 1 + i as u64));
+        } else {
+            println!("not at hand: what to compare in the row '{}'", row.name);
+        }
+    }
+    let failed = results.iter().filter(|passed| !**passed).count();
+    println!("{} passed, {failed} failed", results.len() - failed);
+    std::process::exit((failed > 0) as i32);
+}

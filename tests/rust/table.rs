@@ -1,0 +1,148 @@
+//! The table of entries: a row for each, with its generator and what a comparison has to know of it.
+use crate::floats::{self, KINDS};
+use crate::ranges::{EDGE, POLYGON};
+use crate::shapes;
+use crate::support::{calls, Random};
+
+pub struct Row {
+    pub name: &'static str,
+    /// The number of the request, by which both oracles go.
+    pub entry: u32,
+    /// The file of tests/stored that has answers of it.
+    pub stored: &'static str,
+    pub generate: fn(&mut Random) -> Vec<u32>,
+    /// The refusal that document 01 adds to the references', by the harness's own test of counts and ranges.
+    pub refusal: fn(&[u32]) -> u32,
+    /// The refusals that an assert of a reference can stand for; of the Rust's panics nothing tells which.
+    #[cfg_attr(not(papers), allow(dead_code))]
+    pub panics: &'static [u32],
+    /// What a run has to meet: 0 for accepted, and the refusals that can be reached.
+    pub reachable: &'static [u32],
+    /// What a refused call answers after the refusal.
+    pub refused: fn(&[u32]) -> Vec<u32>,
+    /// Words of a request, for entry 1 without its points, and of the record in the answer.
+    pub length: usize,
+    pub record: usize,
+    /// Words of the record that are no floats.
+    pub plain: &'static [usize],
+    /// Words of the request that hold at most a number, or it is malformed.
+    pub closed: &'static [(usize, u32)],
+    /// What is counted of a request and its answer, and what of it must be met.
+    pub kinds: fn(&[u32], &[u32]) -> Vec<&'static str>,
+    pub wanted: &'static [&'static str],
+    /// Ours; without it only the references are compared with each other.
+    pub ours: Option<fn(&[u32]) -> Vec<u32>>,
+}
+
+fn none(_: &[u32]) -> u32 {
+    0
+}
+fn nothing(_: &[u32]) -> Vec<u32> {
+    Vec::new()
+}
+fn no_kinds(_: &[u32], _: &[u32]) -> Vec<&'static str> {
+    Vec::new()
+}
+fn old_outline(request: &[u32]) -> Vec<u32> {
+    request[1..1 + POLYGON].to_vec()
+}
+fn old_wall(request: &[u32]) -> Vec<u32> {
+    request[1..1 + EDGE].to_vec()
+}
+
+const OUTLINE: Row = Row {
+    name: "outline builder",
+    entry: 1,
+    stored: "shapes",
+    generate: shapes::set,
+    refusal: shapes::set_refusal,
+    panics: &[1, 3, 4, 5],
+    reachable: &[0, 1, 2, 3, 4, 5],
+    refused: old_outline,
+    length: 2 + POLYGON,
+    record: POLYGON,
+    plain: &[3],
+    closed: &[],
+    kinds: no_kinds,
+    wanted: &[],
+    ours: Some(calls),
+};
+const BOX: Row = Row {
+    name: "box",
+    entry: 2,
+    generate: shapes::set_as_box,
+    refusal: shapes::box_refusal,
+    panics: &[],
+    reachable: &[0, 2],
+    length: 3 + POLYGON,
+    ..OUTLINE
+};
+const VALIDATE: Row = Row {
+    name: "validate",
+    entry: 4,
+    generate: shapes::validate,
+    refusal: shapes::validate_refusal,
+    reachable: &[0, 2, 7],
+    refused: |_| vec![0],
+    length: 1 + POLYGON,
+    record: 1,
+    plain: &[0],
+    kinds: |_, answer| vec![if answer[1] == 1 { "convex" } else { "not convex" }],
+    wanted: &["convex", "not convex"],
+    ..BOX
+};
+const WALL: Row = Row {
+    name: "one-sided wall",
+    entry: 5,
+    generate: shapes::set_one_sided,
+    refusal: shapes::wall_refusal,
+    refused: old_wall,
+    length: 9 + EDGE,
+    record: EDGE,
+    plain: &[1],
+    closed: &[(2, 1)],
+    ..BOX
+};
+const ROOT: Row = Row {
+    name: "root",
+    entry: 15,
+    stored: "floats",
+    generate: floats::root,
+    refusal: none,
+    reachable: &[0],
+    refused: nothing,
+    length: 2,
+    record: 1,
+    plain: &[],
+    kinds: |request, _| vec![floats::kind(request[1])],
+    wanted: &KINDS,
+    ..BOX
+};
+
+pub const TABLE: &[Row] = &[
+    OUTLINE,
+    Row { name: "outline builder, lent slice", generate: shapes::set_any_count, ours: None, ..OUTLINE },
+    BOX,
+    Row {
+        name: "box with sine and cosine",
+        entry: 3,
+        generate: shapes::set_as_box_angle,
+        reachable: &[0, 2, 6],
+        length: 7 + POLYGON,
+        ..BOX
+    },
+    VALIDATE,
+    WALL,
+    Row { name: "two-sided wall", entry: 6, generate: shapes::set_two_sided, length: 5 + EDGE, ..WALL },
+    ROOT,
+    Row {
+        name: "normalise",
+        entry: 16,
+        generate: floats::normalize,
+        length: 3,
+        record: 3,
+        kinds: |request, answer| vec![floats::kind(request[1]), if answer[1] == 0 { "kept as it was" } else { "made unit" }],
+        wanted: &["NaN", "infinity", "-0", "+0", "subnormal", "below 0", "normal", "kept as it was", "made unit"],
+        ..ROOT
+    },
+];
