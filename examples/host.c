@@ -3,7 +3,7 @@
           host root X              the square root
           host normalize X Y       a vector made unit
           host outline X Y X Y ..  the outline builder on a list of points */
-#include "netxurbil_calls.h"
+#include "netxurbil_test_calls.h"
 #include <inttypes.h>
 #include <stdio.h>
 #include <stdlib.h>

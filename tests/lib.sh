@@ -4,9 +4,9 @@
 cd "$(dirname "${BASH_SOURCE[0]}")/.." || exit 1
 
 # The crates with C exports and their header: a new name is written here (and in examples/host.c, which includes the header).
-calls_crate=calls
-bench_crate=direct
-header=netxurbil_calls.h
+calls_crate=test_calls
+bench_crate=bench_calls
+header=netxurbil_test_calls.h
 
 build=target/tests
 oracle=$PWD/target/oracle

@@ -1,4 +1,4 @@
-// The door for tests and benchmarks: every entry point behind a number, on byte slices.
+// The C entry points for tests: every call behind a number, on byte slices.
 ghost use Rattle.test_calls.specs.Words.{Written};
 ghost use Rattle.test_calls.specs.Entries.{root-answer, normalize-answer, answer};
 use floats::b2_math;

@@ -1,6 +1,6 @@
-/* The door for tests and benchmarks (crates/calls). A slice of bytes is a pointer and a length. */
-#ifndef NETXURBIL_CALLS_H
-#define NETXURBIL_CALLS_H
+/* The C entry points for tests (crates/test_calls). A slice of bytes is a pointer and a length. */
+#ifndef NETXURBIL_TEST_CALLS_H
+#define NETXURBIL_TEST_CALLS_H
 #include <stddef.h>
 #include <stdint.h>
 
