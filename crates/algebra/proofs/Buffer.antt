@@ -1,13 +1,16 @@
 -- The one law of all field writers: a part written into `&mut buffer[at..]`, after the at elements that were written before, leaves the
--- buffer with both at its front (`over-next`). Assumes nothing.
-use Prim.Native.Nat.{ℕ, _+_, _-_, _≤_}
-use mathlib.Core.Path.{_≡_, sym, _∙_, ap}
-use mathlib.Core.List.{List, [], _++_, append-assoc, append-nil}
+-- buffer with both at its front (`over-next`); and stores element by element, in the first places or at the first that is not yet
+-- written (`over-store`). Assumes nothing.
+use Prim.Native.Nat.{ℕ, suc, _+_, _-_, _≤_, _<_}
+use mathlib.Core.Path.{_≡_, refl, sym, _∙_, ap}
+use mathlib.Core.List.{List, [], _∷_, _++_, append-assoc, append-nil}
+use native.Mathlib.Numerals.{add-one}
 use native.Mathlib.Omega.{arith}
-use lib.ListN.{length, take, drop, length-append, length-drop}
-use lib.Seq.{take-all, take-at, drop-at, drop-drop, drop-length}
+use lib.ListN.{length, getD, take, drop, set, length-append, length-drop}
+use lib.Seq.{take-all, take-at, drop-at, drop-drop, drop-length, drop-cons, set-append-seam}
 use borrow.Rule.Slice.PartMut.{putMid, midOf}
 use Rattle.algebra.specs.Buffer.{over}
+use Rattle.algebra.proofs.Lists.{length-one-more}
 
 module _ {A : Type 0} where
   -- `&mut buffer[at..]` lends what stands from at on
@@ -39,3 +42,30 @@ module _ {A : Type 0} where
 
   pub length-over : (new old : List A) → length new ≤ length old → length (over new old) ≡ length old
   length-over new old fits = omega (arith, length-append new (drop (length new) old), length-drop (length new) old)
+
+  -- ---- stores in the first places
+  pub two-stores : (l : List A) (a b : A) → 2 ≤ length l → set (set l 0 a) 1 b ≡ over (a ∷ b ∷ []) l
+  two-stores [] a b room = absurd (omega arith)
+  two-stores (w ∷ []) a b room = absurd (omega arith)
+  two-stores (w ∷ x ∷ l) a b room = refl
+
+  pub four-stores : (l : List A) (a b c d : A) → 4 ≤ length l → set (set (set (set l 0 a) 1 b) 2 c) 3 d ≡ over (a ∷ b ∷ c ∷ d ∷ []) l
+  four-stores [] a b c d room = absurd (omega arith)
+  four-stores (w ∷ []) a b c d room = absurd (omega arith)
+  four-stores (w ∷ x ∷ []) a b c d room = absurd (omega arith)
+  four-stores (w ∷ x ∷ y ∷ []) a b c d room = absurd (omega arith)
+  four-stores (w ∷ x ∷ y ∷ z ∷ l) a b c d room = refl
+
+  -- a store at the first place that is not yet written
+  store-one-more : (new old : List A) (a : A) → length new < length old → set (over new old) (length new) a ≡ over (new ++ (a ∷ [])) old
+  store-one-more new old a room =
+      ap (λ (l : List A). set (new ++ l) (length new) a) (drop-cons old (length new) a room)
+      ∙ set-append-seam new (getD old (length new) a) (drop (suc (length new)) old) a
+      ∙ sym (append-assoc new (a ∷ []) (drop (suc (length new)) old))
+      ∙ ap (λ (k : ℕ). (new ++ (a ∷ [])) ++ drop k old) (sym (length-one-more new a (length new) refl ∙ add-one (length new)))
+
+  pub over-store : (array new old : List A) (a : A) (n : ℕ) → array ≡ over new old → length new ≡ n → n < length old
+      → set array n a ≡ over (new ++ (a ∷ [])) old
+  over-store array new old a n array-is n-is room =
+      ap (λ (l : List A). set l n a) array-is ∙ ap (λ (k : ℕ). set (over new old) k a) (sym n-is)
+      ∙ store-one-more new old a (omega arith)

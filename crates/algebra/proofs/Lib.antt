@@ -6,6 +6,12 @@ pub mod Products
 pub mod Squares
 pub mod Ring
 pub mod Plane
+pub mod Booleans
 pub mod Lists
-pub mod Loops
+pub mod All
 pub mod Buffer
+pub mod Loops
+pub mod Scan
+pub mod Weld
+pub mod Naming
+pub mod Places

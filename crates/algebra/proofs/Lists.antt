@@ -1,6 +1,7 @@
 -- Lists without repeats and their places: a list without repeats whose elements all lie in another is no longer than it (the
--- pigeonhole), an element that is not there may be added at the end, and each place holds an element of its own. Assumes nothing.
-use mathlib.Core.Path.{_≡_, refl, sym, ap, _∙_, subst}
+-- pigeonhole), an element that is not there may be added at the end, and each place holds an element of its own; places of the first n
+-- elements, one more at the end, and a copy made a place at a time. Assumes nothing.
+use mathlib.Core.Path.{_≡_, refl, sym, ap, ap₂, _∙_}
 use mathlib.Core.List.{
   List,
   [],
@@ -12,14 +13,14 @@ use mathlib.Core.List.{
   List·Memᴰ·append-cases,
   List·Memᴰ·eq-of-singleton,
   Memᴰ·cast,
-  Memᴰ·append-left,
-  Memᴰ·append-right,
 }
 use mathlib.Core.List as L
 use mathlib.Core.Logic.{_⊎_, inl, inr}
-use Prim.Native.Nat.{ℕ, zero, suc, _≤_, _<_, zero-le}
+use Prim.Native.Nat.{ℕ, zero, suc, _+_, _≤_, _<_, zero-le}
+use native.Mathlib.Numerals.{add-one}
 use native.Mathlib.Omega.{arith}
-use lib.ListN.{length, getD, take, drop, set, take-append-drop}
+use lib.ListN.{length, getD, take, set, length-append}
+use lib.Seq.{length-take-le, take-all, take-suc, take-suc-set}
 use Rattle.algebra.specs.Lists.{Once}
 
 module _ {A : Type 0} where
@@ -70,15 +71,6 @@ module _ {A : Type 0} where
   getD-mem (a ∷ l) zero d h = L.List·Memᴰ·head refl
   getD-mem (a ∷ l) (suc i) d h = L.List·Memᴰ·tail (getD-mem l i d (omega arith))
 
-  pub place-of-mem : (l : List A) (a d : A) → List·Memᴰ a l → (i : ℕ) × (i < length l) × (getD l i d ≡ a)
-  place-of-mem [] a d m = absurd (List·Memᴰ·not-nil m)
-  place-of-mem (b ∷ l) a d m = go (place-of-mem l a d) (List·Memᴰ·cases-cons m)
-    where
-      go : (List·Memᴰ a l → (i : ℕ) × (i < length l) × (getD l i d ≡ a)) → (a ≡ b) ⊎ List·Memᴰ a l
-          → (i : ℕ) × (i < suc (length l)) × (getD (b ∷ l) i d ≡ a)
-      go ih (inl e) = (zero, omega arith, sym e)
-      go ih (inr k) = let h = ih k in (suc (h .0), omega (arith, h .1), h .2)
-
   pub once-place : (l : List A) (d : A) → Once l → (i j : ℕ) → i < length l → j < length l → getD l i d ≡ getD l j d → i ≡ j
   once-place [] d once i j i<n j<n e = absurd (omega arith)
   once-place (a ∷ l) d once zero zero i<n j<n e = refl
@@ -86,36 +78,31 @@ module _ {A : Type 0} where
   once-place (a ∷ l) d once (suc i) zero i<n j<n e = absurd (once .0 (Memᴰ·cast (sym e) (getD-mem l i d (omega arith))))
   once-place (a ∷ l) d once (suc i) (suc j) i<n j<n e = ap suc (once-place l d (once .1) i j (omega arith) (omega arith) e)
 
-  -- what holds at every place holds of every element
-  pub all-of-places : (P : A → Type 0) (l : List A) (d : A) → ((i : ℕ) → i < length l → P (getD l i d)) → (a : A) → List·Memᴰ a l → P a
-  all-of-places P l d at a m = let h = place-of-mem l a d m in subst P (h .2) (at (h .0) (h .1))
-
-  -- ---- elements of a part, and after a store
-  pub mem-of-take : (n : ℕ) (l : List A) (a : A) → List·Memᴰ a (take n l) → List·Memᴰ a l
-  mem-of-take n l a m = subst (List·Memᴰ a) (take-append-drop n l) (Memᴰ·append-left (drop n l) m)
-
-  pub mem-of-drop : (n : ℕ) (l : List A) (a : A) → List·Memᴰ a (drop n l) → List·Memᴰ a l
-  mem-of-drop n l a m = subst (List·Memᴰ a) (take-append-drop n l) (Memᴰ·append-right (take n l) m)
-
-  pub mem-set-cases : (l : List A) (i : ℕ) (a b : A) → List·Memᴰ a (set l i b) → (a ≡ b) ⊎ List·Memᴰ a l
-  mem-set-cases [] i a b m = inr m
-  mem-set-cases (c ∷ l) zero a b m = go (List·Memᴰ·cases-cons m)
-    where
-      go : (a ≡ b) ⊎ List·Memᴰ a l → (a ≡ b) ⊎ List·Memᴰ a (c ∷ l)
-      go (inl e) = inl e
-      go (inr k) = inr (L.List·Memᴰ·tail k)
-  mem-set-cases (c ∷ l) (suc i) a b m = go (mem-set-cases l i a b) (List·Memᴰ·cases-cons m)
-    where
-      later : (a ≡ b) ⊎ List·Memᴰ a l → (a ≡ b) ⊎ List·Memᴰ a (c ∷ l)
-      later (inl e) = inl e
-      later (inr k) = inr (L.List·Memᴰ·tail k)
-
-      go : (List·Memᴰ a (set l i b) → (a ≡ b) ⊎ List·Memᴰ a l) → (a ≡ c) ⊎ List·Memᴰ a (set l i b) → (a ≡ b) ⊎ List·Memᴰ a (c ∷ l)
-      go ih (inl e) = inr (L.List·Memᴰ·head e)
-      go ih (inr k) = later (ih k)
-
   -- within a list it does not matter what is said to stand past its end
   pub getD-within : (l : List A) (i : ℕ) (d e : A) → i < length l → getD l i d ≡ getD l i e
   getD-within [] i d e within = absurd (omega arith)
   getD-within (x ∷ l) zero d e within = refl
   getD-within (x ∷ l) (suc i) d e within = getD-within l i d e (omega arith)
+
+  -- a place below n is a place of the first n
+  pub first-places : (n j : ℕ) (l : List A) → j < n → n ≤ length l → j < length (take n l)
+  first-places n j l below few = omega (arith, length-take-le n l few)
+
+  -- all of a list, by its first places
+  pub whole-row : (n : ℕ) (l m : List A) → take n l ≡ m → length l ≡ n → l ≡ m
+  whole-row n l m first size = sym (take-all n l (omega arith)) ∙ first
+
+  -- ---- one more at the end
+  pub length-one-more : (l : List A) (a : A) (n : ℕ) → length l ≡ n → length (l ++ (a ∷ [])) ≡ n + 1
+  length-one-more l a n n-is = length-append l (a ∷ []) ∙ ap (λ (k : ℕ). k + 1) n-is
+
+  -- ---- a copy, a place at a time: the first i places are those of l
+  module _ (l new : List A) (i : ℕ) (so-far : take i new ≡ take i l) where
+    pub copied-next : (v d : A) → i < length l → i < length new → v ≡ getD l i d → take (i + 1) (set new i v) ≡ take (i + 1) l
+    copied-next v d within room v-is =
+        ap (λ (k : ℕ). take k (set new i v)) (add-one i) ∙ take-suc-set new i v room
+        ∙ ap₂ (λ (a : List A) (q : A). a ++ (q ∷ [])) so-far v-is ∙ sym (take-suc l i d within)
+        ∙ ap (λ (k : ℕ). take k l) (sym (add-one i))
+
+    pub copied : length new ≡ i → length l ≡ i → new ≡ l
+    copied new-length l-length = whole-row i new l (so-far ∙ take-all i l (omega arith)) new-length

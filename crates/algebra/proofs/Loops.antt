@@ -2,24 +2,13 @@
 use mathlib.Core.Path.{_≡_, refl, sym, _∙_, ap}
 use mathlib.Core.List.{List, [], _∷_, _++_, append-assoc}
 use mathlib.Core.Bool.{Bool, true, false, cond, _||_}
-use Prim.Native.Nat.{ℕ, zero, suc, _+_, _-_, _<_, _≤_}
+use Prim.Native.Nat.{ℕ, suc, _+_, _-_, _<_, _≤_}
 use native.Mathlib.Numerals.{add-one}
 use native.Mathlib.Omega.{arith}
 use lib.ListN.{length, getD, take, drop, set}
 use lib.Seq.{drop-cons, drop-length, take-suc-set}
-use mathlib.Core.Logic.{_⊎_, inl, inr}
 use mathlib.Core.Option.{Option, none, some, Option·map}
 use Rattle.algebra.specs.Loops.{places, near-any, keep-unless, weld, scan, stop-or, walk}
-
--- a place lies before another, or does not
-pub less-or-not : (a b : ℕ) → (a < b) ⊎ (b ≤ a)
-less-or-not a zero = inr (omega arith)
-less-or-not zero (suc b) = inl (omega arith)
-less-or-not (suc a) (suc b) = go (less-or-not a b)
-  where
-    go : (a < b) ⊎ (b ≤ a) → (suc a < suc b) ⊎ (suc b ≤ suc a)
-    go (inl h) = inl (omega arith)
-    go (inr h) = inr (omega arith)
 
 module _ {A : Type 0} where
   -- ---- near-any, from place j on: a is the element there

@@ -1,9 +1,14 @@
 -- Identities of cross and dot products, each by `ring`: Lagrange's, the one that orders directions in a half plane (three-crosses),
--- and those that move an orientation from one corner of a triangle to another. Assumes nothing.
+-- and those that move an orientation from one corner of a triangle to another. Cross and dot products respect equality by value, and
+-- a squared length is not negative, and 0 of no vector but 0. Assumes nothing.
 use mathlib.Core.List.{List, [], _∷_}
-use Rattle.algebra.specs.Integer.{Z, whole, _⊞_, _⊠_, opp, _≐_}
+use native.Mathlib.Omega.{arith}
+use Rattle.algebra.specs.Integer.{Z, whole, _⊞_, _⊠_, opp, _≐_, _≼_}
 use Rattle.algebra.specs.Polynomial.{Expr, var, num, neg, _:+_, _:-_, _:*_}
-use Rattle.algebra.specs.Plane.{Point, from-to, cross, dot, orient}
+use Rattle.algebra.specs.Plane.{Point, SameVector, cross, dot, orient}
+use Rattle.algebra.proofs.Integer.{sum-same, difference-same}
+use Rattle.algebra.proofs.Signs.{sum-not-negative}
+use Rattle.algebra.proofs.Products.{product-same, product-zero, square-not-negative, square-zero}
 use Rattle.algebra.proofs.Ring.{ring}
 
 -- ---- points as pairs of expressions: the i-th point of an environment
@@ -82,11 +87,6 @@ module _ (p q r : Point) where
   pub orientation-swapped : orient r q p ≐ opp (orient p q r)
   orientation-swapped = ring (orient-expr point₂ point₁ point₀) (neg (orient-expr point₀ point₁ point₂)) three tt
 
-  -- measured from the second point
-  pub orientation-from-end : orient p q r ≐ cross (from-to p q) (from-to q r)
-  orientation-from-end =
-      ring (orient-expr point₀ point₁ point₂) (cross-expr (from-to-expr point₀ point₁) (from-to-expr point₁ point₂)) three tt
-
 -- two of the three equal: 0
 pub orient-first-twice : (p r : Point) → orient p p r ≐ whole 0
 orient-first-twice p r = ring (orient-expr point₀ point₀ point₁) (num 0) (coordinates (p ∷ r ∷ [])) tt
@@ -96,3 +96,38 @@ orient-begin p q = ring (orient-expr point₀ point₁ point₀) (num 0) (coordi
 
 pub orient-end : (p q : Point) → orient p q q ≐ whole 0
 orient-end p q = ring (orient-expr point₀ point₁ point₁) (num 0) (coordinates (p ∷ q ∷ [])) tt
+
+-- ---- equal by value
+module _ (u u' v v' : Point) (u-same : SameVector u u') (v-same : SameVector v v') where
+  pub cross-same : cross u v ≐ cross u' v'
+  cross-same =
+      difference-same (u .x ⊠ v .y) (u' .x ⊠ v' .y) (u .y ⊠ v .x) (u' .y ⊠ v' .x)
+      (product-same (u .x) (u' .x) (v .y) (v' .y) (u-same .0) (v-same .1))
+      (product-same (u .y) (u' .y) (v .x) (v' .x) (u-same .1) (v-same .0))
+
+  pub dot-same : dot u v ≐ dot u' v'
+  dot-same =
+      sum-same (u .x ⊠ v .x) (u' .x ⊠ v' .x) (u .y ⊠ v .y) (u' .y ⊠ v' .y)
+      (product-same (u .x) (u' .x) (v .x) (v' .x) (u-same .0) (v-same .0))
+      (product-same (u .y) (u' .y) (v .y) (v' .y) (u-same .1) (v-same .1))
+
+-- ---- squared lengths
+pub length-not-negative : (u : Point) → whole 0 ≼ dot u u
+length-not-negative u =
+    sum-not-negative (u .x ⊠ u .x) (u .y ⊠ u .y) (square-not-negative (u .x)) (square-not-negative (u .y))
+
+pub zero-of-length : (u : Point) → dot u u ≐ whole 0 → (u .x ≐ whole 0) × (u .y ≐ whole 0)
+zero-of-length u h = (
+  square-zero (u .x) (below (u .x ⊠ u .x) (u .y ⊠ u .y) (square-not-negative (u .y)) h),
+  square-zero (u .y) (below (u .y ⊠ u .y) (u .x ⊠ u .x) (square-not-negative (u .x)) (swap (u .x ⊠ u .x) (u .y ⊠ u .y) h)),
+)
+  where
+    below : (a b : Z) → whole 0 ≼ b → a ⊞ b ≐ whole 0 → a ≼ whole 0
+    below a b b-nn e = omega arith
+
+    swap : (a b : Z) → a ⊞ b ≐ whole 0 → b ⊞ a ≐ whole 0
+    swap a b e = omega arith
+
+pub length-of-zero : (u : Point) → u .x ≐ whole 0 → u .y ≐ whole 0 → dot u u ≐ whole 0
+length-of-zero u x-zero y-zero =
+    sum-same (u .x ⊠ u .x) (whole 0) (u .y ⊠ u .y) (whole 0) (product-zero (u .x) (u .x) x-zero) (product-zero (u .y) (u .y) y-zero)

@@ -33,6 +33,7 @@ use Rattle.algebra.specs.Polynomial.{
   SamePolynomial,
 }
 use Rattle.algebra.proofs.Integer.{same-refl, same-trans, sum-same, difference-same}
+use Rattle.algebra.proofs.Signs.{same-of-difference}
 use Rattle.algebra.proofs.Products.{product-same, product-zero}
 
 -- ---- laws of the ring, over numbers that stay shut
@@ -103,9 +104,6 @@ product-step x r a p q e f = omega arith
 
 zero-term : (c m p : Z) → c ≐ whole 0 → p ≐ whole 0 → c ⊠ m ⊞ p ≐ whole 0
 zero-term c m p h k = omega (arith, product-zero c m h)
-
-same-of-difference : (x a b : Z) → x ≐ a ⊟ b → x ≐ whole 0 → a ≐ b
-same-of-difference x a b e h = omega arith
 
 same-of-parts : (a : Z) → a .0 ≡ a .1 → a ≐ whole 0
 same-of-parts a e = omega arith

@@ -67,3 +67,10 @@ same-of-zero-difference a b h = omega arith
 
 pub same-of-same-difference : (a b c : Z) → a ⊟ c ≐ b ⊟ c → a ≐ b
 same-of-same-difference a b c h = omega arith
+
+-- a named difference
+pub same-of-difference : (d a b : Z) → d ≐ a ⊟ b → d ≐ whole 0 → a ≐ b
+same-of-difference d a b e h = omega arith
+
+pub difference-of-same : (d a b : Z) → d ≐ a ⊟ b → a ≐ b → d ≐ whole 0
+difference-of-same d a b e h = omega arith

@@ -1,10 +1,14 @@
 -- Points of the plane with whole coordinates, also read as the vectors to them: differences, cross and dot products, and the doubled
 -- area of a triangle, above 0 where it is turned counter-clockwise. Definitions only.
-use Rattle.algebra.specs.Integer.{Z, _⊞_, _⊟_, _⊠_}
+use Rattle.algebra.specs.Integer.{Z, _⊞_, _⊟_, _⊠_, _≐_}
 
 pub record Point : Type 0 where
   pub x : Z
   pub y : Z
+
+-- equal by value
+abbrev pub SameVector : Point → Point → Type 0
+SameVector u v = (u .x ≐ v .x) × (u .y ≐ v .y)
 
 -- the vector from p to q
 abbrev pub from-to : Point → Point → Point

@@ -5,14 +5,13 @@ use mathlib.Core.List.{[], _∷_}
 use native.Mathlib.Omega.{arith}
 use Rattle.algebra.specs.Integer.{Z, whole, _⊞_, _⊟_, _⊠_, _≐_, _≼_, _≺_}
 use Rattle.algebra.specs.Polynomial.{_:+_}
-use Rattle.algebra.specs.Plane.{Point, from-to, cross, dot}
+use Rattle.algebra.specs.Plane.{Point, SameVector, from-to, cross, dot}
 use Rattle.algebra.proofs.Integer.{lt-trans, sign-cases, compare-cases}
 use Rattle.algebra.proofs.Signs.{
   positive-weaken,
   zero-weaken,
   positive-of-opposite,
   zero-of-opposite,
-  sum-not-negative,
   same-of-zero-difference,
 }
 use Rattle.algebra.proofs.Products.{
@@ -22,7 +21,6 @@ use Rattle.algebra.proofs.Products.{
   factor-positive,
   factor-zero,
   square-not-negative,
-  square-zero,
   mean-above,
   mean-equal,
 }
@@ -37,6 +35,8 @@ use Rattle.algebra.proofs.Plane.{
   three-crosses,
   dot-along,
   cross-antisymmetric,
+  length-not-negative,
+  zero-of-length,
 }
 
 -- v lies strictly left of u, or on its line and u is longer
@@ -46,9 +46,6 @@ Beats u v = (whole 0 ≺ cross u v) ⊎ ((cross u v ≐ whole 0) × (dot v v ≺
 -- v ends strictly left of u, or on it between its ends
 abbrev pub Beside : Point → Point → Type 0
 Beside u v = (whole 0 ≺ cross u v) ⊎ ((cross u v ≐ whole 0) × (dot v v ≺ dot u v))
-
-abbrev pub SameVector : Point → Point → Type 0
-SameVector u v = (u .x ≐ v .x) × (u .y ≐ v .y)
 
 -- ---- signs, over numbers that stay shut: b y = c x + a z
 weighed-left : (a b c x y z : Z) → b ⊠ y ≐ c ⊠ x ⊞ a ⊠ z → whole 0 ≺ a → whole 0 ≺ b → whole 0 ≺ c → whole 0 ≺ x → whole 0 ≼ z → whole 0 ≺ y
@@ -74,20 +71,11 @@ flat : (s c a b : Z) → s ⊠ s ⊞ c ⊠ c ≐ a ⊠ b → c ≐ whole 0 → s
 flat s c a b e c-zero = omega (arith, product-zero c c c-zero)
 
 -- ---- lengths
-pub length-not-negative : (u : Point) → whole 0 ≼ dot u u
-length-not-negative u = sum-not-negative (u .x ⊠ u .x) (u .y ⊠ u .y) (square-not-negative (u .x)) (square-not-negative (u .y))
-
 pub length-positive : (d u : Point) → whole 0 ≺ dot d u → whole 0 ≺ dot u u
 length-positive d u h = other-factor-positive (dot d u) (dot u u) (dot d d) (cross d u) (lagrange d u) h (length-not-negative d)
 
 pub flat-lagrange : (u v : Point) → cross u v ≐ whole 0 → dot u v ⊠ dot u v ≐ dot u u ⊠ dot v v
 flat-lagrange u v h = flat (dot u v) (cross u v) (dot u u) (dot v v) (lagrange u v) h
-
-first-part-zero : (a b : Z) → a ⊠ a ⊞ b ⊠ b ≐ whole 0 → a ≐ whole 0
-first-part-zero a b h = square-zero a (omega (arith, square-not-negative b))
-
-second-part-zero : (a b : Z) → a ⊠ a ⊞ b ⊠ b ≐ whole 0 → b ≐ whole 0
-second-part-zero a b h = square-zero b (omega (arith, square-not-negative a))
 
 -- |v - u|² + 2 u · v = |u|² + |v|²
 gap-squared : (u v : Point) → dot (from-to u v) (from-to u v) ⊞ (dot u v ⊞ dot u v) ≐ dot u u ⊞ dot v v
@@ -131,10 +119,9 @@ module _ (d u v : Point) (du : whole 0 ≺ dot d u) (dv : whole 0 ≺ dot d v) w
   equal-length : cross u v ≐ whole 0 → dot u u ≐ dot v v → SameVector u v
   equal-length h e =
       let mean : dot u v ≐ dot u u = mean-equal (dot u v) (dot u u) (dot v v) (flat-lagrange u v h) (same-way h) (length-not-negative v) e in
-      let gap : dot (from-to u v) (from-to u v) ≐ whole 0 = no-gap (dot (from-to u v) (from-to u v)) (dot u v) (dot u u) (dot v v) (gap-squared u v) e mean in (
-        same-of-zero-difference (u .x) (v .x) (first-part-zero (v .x ⊟ u .x) (v .y ⊟ u .y) gap),
-        same-of-zero-difference (u .y) (v .y) (second-part-zero (v .x ⊟ u .x) (v .y ⊟ u .y) gap),
-      )
+      let none = zero-of-length (from-to u v)
+      (no-gap (dot (from-to u v) (from-to u v)) (dot u v) (dot u u) (dot v v) (gap-squared u v) e mean) in
+      (same-of-zero-difference (u .x) (v .x) (none .0), same-of-zero-difference (u .y) (v .y) (none .1))
 
   pub beats-total : Beats u v ⊎ (Beats v u ⊎ SameVector u v)
   beats-total = by-cases (sign-cases (cross u v)) (compare-cases (dot u u) (dot v v))

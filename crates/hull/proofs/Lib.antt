@@ -1,8 +1,6 @@
 pub mod Points
 pub mod Directions
 pub mod Sides
-pub mod Scan
-pub mod Weld
 pub mod Walk
 pub mod Corners
 pub mod Next
@@ -12,7 +10,6 @@ pub mod Wrap
 pub mod Unique
 pub mod Area
 pub mod Outcome
-pub mod Naming
 pub mod Places
 pub mod Theorem
 pub mod Controls

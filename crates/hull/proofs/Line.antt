@@ -24,7 +24,8 @@ use Rattle.algebra.proofs.Plane.{
   orient-end,
 }
 use Rattle.hull.specs.Hull.{Left, Between, OnLine}
-use Rattle.hull.proofs.Directions.{Beside, weighed-zero, length-not-negative}
+use Rattle.hull.proofs.Directions.{Beside, weighed-zero}
+use Rattle.algebra.proofs.Plane.{length-not-negative}
 use Rattle.hull.proofs.Sides.{beside-of-words}
 use Rattle.hull.proofs.Corners.{Corner, Side, side-long}
 

@@ -15,9 +15,11 @@ use Rattle.algebra.proofs.Plane.{orientation-reversed, orient-first-twice}
 use Rattle.hull.specs.Hull.{AllReduced, Left, Between}
 use Rattle.hull.specs.Outline.{same-point, farther, wraps-closer, replaces, next-corner}
 use Rattle.hull.proofs.Points.{value-eq, same-point-eq, not-same-point}
-use Rattle.hull.proofs.Directions.{Beats, Beside, SameVector, beats-trans, beats-total, beats-beside, length-not-negative}
+use Rattle.hull.proofs.Directions.{Beats, Beside, beats-trans, beats-total, beats-beside}
+use Rattle.algebra.specs.Plane.{SameVector}
+use Rattle.algebra.proofs.Plane.{length-not-negative}
 use Rattle.hull.proofs.Sides.{words-of-beside}
-use Rattle.hull.proofs.Scan.{scan-mem, scan-best}
+use Rattle.algebra.proofs.Scan.{scan-mem, scan-best}
 use Rattle.hull.proofs.Corners.{Corner, Side}
 
 -- ---- the test says that j beats e, as seen from p

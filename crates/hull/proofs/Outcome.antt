@@ -17,7 +17,7 @@ use Rattle.hull.specs.Hull.{ReducedPoint, AllReduced, Edge, Linked, IsHu
 use Rattle.algebra.specs.Loops.{weld}
 use Rattle.hull.specs.Outline.{same-point, corners, refusal, closed, wrapped, outline-within, AcceptedWithin, TurnedDownWithin}
 use Rattle.hull.proofs.Points.{same-point-eq, same-point-own, point-discrete}
-use Rattle.hull.proofs.Weld.{weld-length, weld-within, weld-once, weld-all}
+use Rattle.algebra.proofs.Weld.{weld-length, weld-within, weld-once, weld-all}
 use Rattle.hull.proofs.Wrap.{Wrapped, Folded, wrap-outcome}
 
 -- ---- the same points, the same facts

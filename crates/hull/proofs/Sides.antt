@@ -31,7 +31,8 @@ use Rattle.algebra.proofs.Plane.{
   orientation-swapped,
 }
 use Rattle.hull.specs.Hull.{Left, Between}
-use Rattle.hull.proofs.Directions.{Beside, length-not-negative, flat-lagrange}
+use Rattle.hull.proofs.Directions.{Beside, flat-lagrange}
+use Rattle.algebra.proofs.Plane.{length-not-negative}
 
 -- ---- identities of three points
 module _ (p q r : Point) where

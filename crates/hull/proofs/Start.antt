@@ -13,7 +13,7 @@ use Rattle.algebra.proofs.Integer.{same-sym, le-antisym, order-cases, same-of-t
 use Rattle.hull.specs.Hull.{ReducedPoint, AllReduced, First}
 use Rattle.hull.specs.Outline.{starts-before, start}
 use Rattle.hull.proofs.Points.{value-eq}
-use Rattle.hull.proofs.Scan.{scan-mem, scan-best}
+use Rattle.algebra.proofs.Scan.{scan-mem, scan-best}
 
 -- r comes after e: a smaller x, or the same and a larger y
 abbrev After : Point → Point → Type 0

@@ -15,23 +15,16 @@ use mathlib.Core.List.{
 }
 use mathlib.Core.List as L
 use mathlib.Core.Logic.{_⊎_, inl, inr}
-use mathlib.Core.Bool.{Bool, true, false, not, _||_}
+use mathlib.Core.Bool.{Bool, true, false, not}
 use Prim.Native.Nat.{_+_, _≤_}
 use native.Mathlib.Omega.{arith}
 use lib.Dec.{T, T-not}
 use lib.ListN.{length, length-append}
 use mir.Facts.{or-yes}
 use Rattle.algebra.specs.Lists.{Once}
 use Rattle.algebra.proofs.Lists.{once-snoc}
+use Rattle.algebra.proofs.Booleans.{or-left, or-right}
 use Rattle.algebra.specs.Loops.{near-any, keep-unless, weld}
-
-or-left : (a b : Bool) → T a → T (a || b)
-or-left true b t = tt
-or-left false b t = absurd t
-
-or-right : (a b : Bool) → T b → T (a || b)
-or-right true b t = tt
-or-right false b t = t
 
 module _ {A : Type 0} (near : A → A → Bool) where
   -- ---- none twice: a point is near itself

@@ -1,13 +1,15 @@
 -- The builder's three loops commute with a naming of the points, g : A → B, that keeps their tests: places of an array for points,
--- floats for whole numbers. Assumes nothing.
+-- floats for whole numbers. So loops whose tests agree on the points in question agree, and a walk stays among them where its step
+-- does. Assumes nothing.
 use mathlib.Core.Path.{_≡_, refl, sym, ap, ap₂, _∙_, subst}
-use mathlib.Core.List.{List, [], _∷_, _++_, List·Memᴰ, List·Memᴰ·append-cases, List·Memᴰ·eq-of-singleton, map}
+use mathlib.Core.List.{List, [], _∷_, List·Memᴰ, List·Memᴰ·cases-cons, List·Memᴰ·append-cases, List·Memᴰ·eq-of-singleton}
+use mathlib.Core.List.{map, map-append, map-id}
 use mathlib.Core.List as L
 use mathlib.Core.Logic.{_⊎_, inl, inr}
 use mathlib.Core.Bool.{Bool, true, false, cond, _||_}
 use mathlib.Core.Option.{Option, none, some, Option·map}
 use Prim.Native.Nat.{ℕ, zero, suc}
 use Rattle.algebra.specs.Loops.{near-any, keep-unless, weld, scan, stop-or, walk}
 
 module _ {A B : Type 0} (g : A → B) where
   cond-map : (t : Bool) (a b : A) → cond t (g a) (g b) ≡ g (cond t a b)
@@ -16,11 +18,7 @@ module _ {A B : Type 0} (g : A → B) where
 
   keep-map : (t : Bool) (kept : List A) (a : A) → keep-unless t (map g kept) (g a) ≡ map g (keep-unless t kept a)
   keep-map true kept a = refl
-  keep-map false kept a = sym (snoc kept)
-    where
-      snoc : (l : List A) → map g (l ++ (a ∷ [])) ≡ map g l ++ (g a ∷ [])
-      snoc [] = refl
-      snoc (b ∷ l) = ap (_∷_ (g b)) (snoc l)
+  keep-map false kept a = sym (map-append g kept (a ∷ []))
 
   stop-map : (t : Bool) (p : A) (row : Option (List A)) → stop-or t (g p) (Option·map (map g) row) ≡ Option·map (map g) (stop-or t p row)
   stop-map true p row = refl
@@ -77,3 +75,40 @@ module _ {A B : Type 0} (g : A → B) where
           ∙ ap₂ (λ (t : Bool) (row : Option (List B)). stop-or t (g p) row) (same-same (nextA p) start (next-in p p-in) start-in)
           (walk-map fuel (nextA p) (next-in p p-in))
           ∙ stop-map (sameA (nextA p) start) p (walk sameA nextA start fuel (nextA p))
+
+-- ---- loops whose tests agree
+module _ {A : Type 0} (In : A → Type 0) where
+  pub scan-agree : (testA testB : A → A → Bool) → ((e j : A) → In e → In j → testB e j ≡ testA e j) → (js : List A) (e : A) → In e
+      → ((j : A) → List·Memᴰ j js → In j) → scan testB e js ≡ scan testA e js
+  scan-agree testA testB agree js e e-in js-in =
+      ap (scan testB e) (sym (map-id js)) ∙ scan-map (λ a. a) In testA testB agree js e e-in js-in
+
+  pub walk-agree : (same : A → A → Bool) (nextA nextB : A → A) → ((p : A) → In p → nextB p ≡ nextA p) → ((p : A) → In p → In (nextA p))
+      → (start : A) (fuel : ℕ) → In start → walk same nextB start fuel start ≡ walk same nextA start fuel start
+  walk-agree same nextA nextB agree next-in start fuel start-in =
+      walk-map (λ a. a) In same same (λ p q p-in q-in. refl) nextA nextB agree next-in start start-in fuel start start-in
+      ∙ same-row (walk same nextA start fuel start)
+    where
+      same-row : (o : Option (List A)) → Option·map (map (λ a. a)) o ≡ o
+      same-row none = refl
+      same-row (some l) = ap some (map-id l)
+
+  -- ---- the walk stays among the points in question
+  abbrev pub InRow : Option (List A) → Type 0
+  InRow none = Unit {0}
+  InRow (some r) = (a : A) → List·Memᴰ a r → In a
+
+  pub walk-in : (same : A → A → Bool) (next : A → A) → ((p : A) → In p → In (next p)) → (start : A) (fuel : ℕ) (p : A) → In p
+      → InRow (walk same next start fuel p)
+  walk-in same next next-in start zero p p-in = tt
+  walk-in same next next-in start (suc fuel) p p-in =
+      go (same (next p) start) (walk same next start fuel (next p)) (walk-in same next next-in start fuel (next p) (next-in p p-in))
+    where
+      more : (r : List A) → ((a : A) → List·Memᴰ a r → In a) → (a : A) → (a ≡ p) ⊎ List·Memᴰ a r → In a
+      more r r-in a (inl e) = subst In (sym e) p-in
+      more r r-in a (inr m) = r-in a m
+
+      go : (t : Bool) (o : Option (List A)) → InRow o → InRow (stop-or t p o)
+      go true o o-in = λ a m. subst In (sym (List·Memᴰ·eq-of-singleton m)) p-in
+      go false none o-in = tt
+      go false (some r) o-in = λ a m. more r o-in a (List·Memᴰ·cases-cons m)
