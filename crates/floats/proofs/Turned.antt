@@ -2,17 +2,13 @@
 -- is not below 2^-23, so that normalising acts. Assumes nothing.
 use mathlib.Core.Path.{_≡_, refl, sym, ap, ap₂, _∙_, subst}
 use mathlib.Core.Bool.{Bool, true, false, not, cond}
-use Prim.Native.Nat.{ℕ, _-_, _*_, _^_, _≤_, _<_}
-use native.Mathlib.Nat.{le-antisymm, mul-pos, mul-right-comm, mul-mul-mul-comm, eq-of-mul-eq-mul-right}
+use Prim.Native.Nat.{ℕ, _-_, _*_, _^_, _≤_}
 use native.Mathlib.Omega.{arith}
 use lib.Dec.{T}
-use lib.Ieee.{Float, nan, inf, fin, binary32, up, down, unlike, fits, round, add, mul, neg, lt, ofBits}
+use lib.Ieee.{Float, nan, inf, fin, binary32, fits, add, mul, lt, ofBits}
 use lib.Ieee.Bits.{is-false}
-use lib.Ieee.Fits.{down-pos, add-fits}
-use lib.Ieee.Scale.{round-same}
-use Rattle.algebra.specs.Integer.{Z, whole, opp, _⊛_, _≐_, _≼_, _≺_}
-use Rattle.algebra.proofs.Integer.{same-sym}
-use Rattle.algebra.proofs.Magnitude.{abs-same}
+use lib.Ieee.Fits.{add-fits}
+use Rattle.algebra.specs.Integer.{Z, whole, _⊛_, _≐_, _≼_, _≺_}
 use Rattle.floats.specs.declared.b2_math.B2vec2.{B2vec2}
 use Rattle.floats.specs.declared.b2_math.Normalized.{Normalized}
 use Rattle.rounding.specs.Literals.{zero32, one32}
@@ -20,72 +16,13 @@ use Rattle.floats.specs.B2Common.{b2-epsilon, epsilon-squared}
 use Rattle.floats.specs.B2Math.{b2-sqrt, b2-cross-vec-by-scalar, b2-length-squared, b2-length, times-reciprocal, b2-normalize}
 use Rattle.sqrt.specs.Sqrt.{sqrt}
 use Rattle.rounding.specs.Value.{metre, F32, mag, val}
-use Rattle.rounding.proofs.Value.{metre-pos, abs-mag, mag-abs, has-value, positive-sign, neg-f32, mag-neg, val-neg}
-use Rattle.rounding.proofs.Dyadic.{Dyadic}
+use Rattle.rounding.proofs.Value.{metre-pos, positive-sign}
 use Rattle.rounding.proofs.Comparison.{lt-val, val-not-lt}
 use Rattle.rounding.proofs.Commutes.{add-commutes}
-use Rattle.rounding.proofs.Literals.{bits-dyadic, one-f32, one-val}
-use Rattle.rounding.proofs.UnitFactors.{one-mul-exact, minus-one-mul-exact}
+use Rattle.rounding.proofs.Squares.{times-one-squared, times-minus-one-squared}
+use Rattle.floats.proofs.Constants.{epsilon-is, epsilon-squared-is}
 use Rattle.sqrt.proofs.SqrtLaw.{sqrt-law}
 use Rattle.sqrt.proofs.SqrtOrder.{sqrt-low}
-
--- ---- numbers of one size have one square
-unlike-itself : (s : Bool) → unlike s s ≡ false
-unlike-itself true = refl
-unlike-itself false = refl
-
-same-fraction : (a E b D g m : ℕ) → 0 < m → a * m ≡ g * E → b * m ≡ g * D → a * D ≡ b * E
-same-fraction a E b D g m m-pos a-is b-is =
-    eq-of-mul-eq-mul-right m m-pos (a * D) (b * E)
-    (mul-right-comm a D m ∙ ap (λ (n : ℕ). n * D) a-is ∙ mul-right-comm g E D ∙ ap (λ (n : ℕ). n * E) (sym b-is) ∙ mul-right-comm b m E)
-
-same-square : (a E b D : ℕ) → a * D ≡ b * E → a * a * (D * D) ≡ b * b * (E * E)
-same-square a E b D h = mul-mul-mul-comm a a D D ∙ ap₂ (λ (m n : ℕ). m * n) h h ∙ sym (mul-mul-mul-comm b b E E)
-
-square-same : {x y : Float} → F32 x → F32 y → mag x ≡ mag y → mul binary32 x x ≡ mul binary32 y y
-unfolding mul
-square-same {x = nan} x-f32 y-f32 same = absurd (x-f32 .is-finite)
-square-same {x = inf s} x-f32 y-f32 same = absurd (x-f32 .is-finite)
-square-same {x = fin s m e} {y = nan} x-f32 y-f32 same = absurd (y-f32 .is-finite)
-square-same {x = fin s m e} {y = inf t} x-f32 y-f32 same = absurd (y-f32 .is-finite)
-square-same {x = fin s m e} {y = fin t n d} x-f32 y-f32 same =
-    let y-is = has-value y-f32 .1 ∙ ap (λ (g : ℕ). g * down d) (sym same) in
-    let fraction = same-fraction (m * up e) (down e) (n * up d) (down d) (mag (fin s m e)) metre metre-pos (has-value x-f32 .1) y-is in
-    ap (λ (u : Bool). round binary32 u (m * up e * (m * up e)) (down e * down e)) (unlike-itself s)
-    ∙ round-same binary32 false (m * up e * (m * up e)) (down e * down e) (n * up d * (n * up d)) (down d * down d)
-    (mul-pos (down-pos e) (down-pos e)) (mul-pos (down-pos d) (down-pos d)) (same-square (m * up e) (down e) (n * up d) (down d) fraction)
-    ∙ ap (λ (u : Bool). round binary32 u (n * up d * (n * up d)) (down d * down d)) (sym (unlike-itself t))
-
-mag-same : (x y : Float) → val x ≐ val y → mag x ≡ mag y
-mag-same x y same =
-    le-antisymm (mag-abs x (mag y) (abs-same (val y) (val x) (mag y) (same-sym (val x) (val y) same) (abs-mag y)))
-    (mag-abs y (mag x) (abs-same (val x) (val y) (mag x) same (abs-mag x)))
-
--- ---- times 1 and times -1, squared
-same-of-equal : (a b : Z) → a ≡ b → a ≐ b
-same-of-equal a b e = subst (λ (c : Z). a ≐ c) e (omega arith)
-
-times-one-squared : (y : Float) → T (fits binary32 y) → mul binary32 (mul binary32 one32 y) (mul binary32 one32 y) ≡ mul binary32 y y
-unfolding mul ofBits
-times-one-squared nan in-format = refl
-times-one-squared (inf true) in-format = refl
-times-one-squared (inf false) in-format = refl
-times-one-squared (fin s m e) in-format =
-    let y-f32 : F32 (fin s m e) = record { in-format = in-format; is-finite = tt } in
-    let exact = one-mul-exact one-f32 y-f32 (same-of-equal _ _ one-val) in
-    square-same (exact .own) y-f32 (mag-same _ (fin s m e) (exact .is))
-
-times-minus-one-squared : (x : Float) → T (fits binary32 x)
-    → mul binary32 (mul binary32 (neg one32) x) (mul binary32 (neg one32) x) ≡ mul binary32 x x
-unfolding mul neg ofBits
-times-minus-one-squared nan in-format = refl
-times-minus-one-squared (inf true) in-format = refl
-times-minus-one-squared (inf false) in-format = refl
-times-minus-one-squared (fin s m e) in-format =
-    let x-f32 : F32 (fin s m e) = record { in-format = in-format; is-finite = tt } in
-    let exact = minus-one-mul-exact (neg-f32 one-f32) x-f32 (same-of-equal _ _ (val-neg one32 ∙ ap opp one-val)) in
-    let minus = subst (λ (v : Z). val (mul binary32 (neg one32) (fin s m e)) ≐ v) (sym (val-neg (fin s m e))) (exact .is) in
-    square-same (exact .own) x-f32 (mag-same _ (neg (fin s m e)) minus ∙ mag-neg (fin s m e))
 
 -- ---- turning keeps the squared length
 pub turned-squared : (e : B2vec2) → T (fits binary32 (e .x)) → T (fits binary32 (e .y))
@@ -96,13 +33,6 @@ turned-squared e x-fits y-fits =
     ∙ add-commutes (mul binary32 (e .y) (e .y)) (mul binary32 (e .x) (e .x))
 
 -- ---- the root of a squared length above 2^-46
--- 2^-46 and 2^-23
-pub epsilon-squared-is : Dyadic epsilon-squared (whole 1) 46
-epsilon-squared-is = bits-dyadic 0x2880_0000 1 46 tt tt
-
-pub epsilon-is : Dyadic b2-epsilon (whole 1) 23
-epsilon-is = bits-dyadic 0x3400_0000 1 23 tt tt
-
 module _ (l : Float) (l-f32 : F32 l) (long : T (lt epsilon-squared l)) where
   record Large (v : Z) : Type 0 where
     positive : whole 0 ≺ v

@@ -13,7 +13,8 @@ use lib.Seq.{take-append-seam, take-at, getD-append-seam}
 use mir.Facts.{yes-and}
 use Rattle.algebra.specs.Plane.{Point}
 use Rattle.algebra.specs.Lists.{Once}
-use Rattle.algebra.proofs.Lists.{getD-mem, once-place}
+use Rattle.algebra.proofs.Lists.{getD-mem, getD-within, once-place}
+use Rattle.algebra.proofs.All.{all-at}
 use Rattle.floats.specs.declared.b2_math.B2vec2.{B2vec2}
 use Rattle.floats.specs.B2Math.{b2-sub}
 use Rattle.floats.specs.Ranges.{point-in-range, radius-in-range, normal-in-range}
@@ -22,66 +23,12 @@ use Rattle.shape_definitions.specs.declared.b2_polygon_shape.PolygonAnswer.{Pol
 use Rattle.shape_definitions.specs.Outline.{origin, point-at, place-after, edges, edges-from, normal-of-edge, fan, centroid-of}
 use Rattle.shape_definitions.specs.Polygon.{all-points, put-first, finished}
 use Rattle.shape_definitions.specs.Validate.{polygon-in-range}
+use Rattle.shape_definitions.proofs.Edges.{edges-length, edge-at, after-in, after-other}
 use Rattle.grid.specs.Grid.{GridPoint, GridList, value-point, values}
 use Rattle.grid.specs.Demand3.{refusal-of, outline-from}
-use Rattle.grid.proofs.Places.{getD-any}
 use Rattle.grid.proofs.Normals.{EdgeNormal, edge-normal, edge-normal-in-range}
-use Rattle.grid.proofs.Verdict.{Corners, all-in-range, not-lt, Verdict, wrong-number, too-few, on-line, built, verdict}
+use Rattle.grid.proofs.Verdict.{Corners, all-in-range, Verdict, wrong-number, too-few, on-line, built, verdict}
 use Rattle.grid.proofs.Centroid.{centroid-in-range}
-
--- ---- the edge at a place
-edges-from-length : (first p : B2vec2) (qs : List B2vec2) → length (edges-from first p qs) ≡ suc (length qs)
-edges-from-length first p [] = refl
-edges-from-length first p (q ∷ qs) = ap suc (edges-from-length first q qs)
-
-pub edges-length : (cs : List B2vec2) → length (edges cs) ≡ length cs
-unfolding edges
-edges-length [] = refl
-edges-length (p ∷ ps) = edges-from-length p p ps
-
-edge-from-at : (first p d : B2vec2) (qs : List B2vec2) (i : ℕ) → i < suc (length qs)
-    → getD (edges-from first p qs) i d ≡ b2-sub (getD (qs ++ (first ∷ [])) i d) (getD (p ∷ qs) i d)
-edge-from-at first p d [] zero h = refl
-edge-from-at first p d [] (suc i) h = absurd (omega arith)
-edge-from-at first p d (q ∷ qs) zero h = refl
-edge-from-at first p d (q ∷ qs) (suc i) h = edge-from-at first q d qs i (omega arith)
-
--- the corner after a place
-next-at : (first d : B2vec2) (qs : List B2vec2) (i : ℕ) → i < suc (length qs)
-    → getD (qs ++ (first ∷ [])) i d ≡ getD (first ∷ qs) (place-after (suc (length qs)) i) d
-next-at first d qs i h = go (ltb (i + 1) (suc (length qs))) (ltb→lt (i + 1) (suc (length qs))) (lt→ltb (i + 1) (suc (length qs)))
-  where
-    go : (t : Bool) → (T t → i + 1 < suc (length qs)) → (i + 1 < suc (length qs) → T t)
-        → getD (qs ++ (first ∷ [])) i d ≡ getD (first ∷ qs) (cond t (i + 1) 0) d
-    go true below above = let l = below tt in List·getD-append qs (first ∷ []) d i (omega arith) ∙ ap (λ (n : ℕ). getD (first ∷ qs) n d)
-        (sym (add-one i))
-    go false below above =
-        ap (λ (n : ℕ). getD (qs ++ (first ∷ [])) n d) (last (λ l. above l)) ∙ getD-append-seam qs first [] d
-      where
-        last : (i + 1 < suc (length qs) → ⊥) → i ≡ length qs
-        last not-below = let l = not-lt (i + 1) (suc (length qs)) not-below in omega arith
-
--- the place after one of two or more is another place
-pub after-in : (n i : ℕ) → i < n → place-after n i < n
-after-in n i h = go (ltb (i + 1) n) (ltb→lt (i + 1) n)
-  where
-    go : (t : Bool) → (T t → i + 1 < n) → cond t (i + 1) 0 < n
-    go true below = below tt
-    go false below = omega arith
-
-after-other : (n i : ℕ) → 2 ≤ n → i < n → place-after n i ≡ i → ⊥
-after-other n i two h = go (ltb (i + 1) n) (lt→ltb (i + 1) n)
-  where
-    go : (t : Bool) → (i + 1 < n → T t) → cond t (i + 1) 0 ≡ i → ⊥
-    go true above e = omega arith
-    go false above e = above (omega arith)
-
-pub edge-at : (cs : List B2vec2) (i : ℕ) → i < length cs
-    → point-at (edges cs) i ≡ b2-sub (point-at cs (place-after (length cs) i)) (point-at cs i)
-unfolding edges
-edge-at [] i h = absurd (omega arith)
-edge-at (c ∷ cs) i h =
-    edge-from-at c c origin cs i h ∙ ap (λ (v : B2vec2). b2-sub v (getD (c ∷ cs) i origin)) (next-at c origin cs i h)
 
 -- ---- corners at different places differ by value
 values-at : (cs : List B2vec2) (i : ℕ) → getD (values cs) i (value-point origin) ≡ value-point (point-at cs i)
@@ -102,7 +49,7 @@ module _ (cs : List B2vec2) (grid : GridList cs) (once : Once (values cs)) (two 
   pub normal-at : EdgeNormal (point-at cs i) (point-at cs (place-after (length cs) i)) (point-at (map normal-of-edge (edges cs)) i)
   normal-at =
       subst (EdgeNormal (point-at cs i) (point-at cs (place-after (length cs) i)))
-      (sym (getD-any (map normal-of-edge (edges cs)) i origin (normal-of-edge origin)
+      (sym (getD-within (map normal-of-edge (edges cs)) i origin (normal-of-edge origin)
       (rw (length-map (edges cs) normal-of-edge, edges-length cs) i-in)
       ∙ List·getD-map normal-of-edge (edges cs) i origin ∙ ap normal-of-edge (edge-at cs i i-in)))
       (edge-normal (at-grid i i-in) (at-grid (place-after (length cs) i) (after-in (length cs) i i-in)) corners-differ)
@@ -116,11 +63,6 @@ pub record GridOutline (shape : B2polygonShape) : Type 0 where
       → EdgeNormal (point-at (shape .«m_vertices») i) (point-at (shape .«m_vertices») (place-after (shape .«m_count») i))
       (point-at (shape .«m_normals») i)
   pub in-range : T (radius-in-range (shape .«m_radius»)) → T (polygon-in-range shape)
-
-all-points-at : (test : B2vec2 → Bool) (l : List B2vec2) → ((i : ℕ) → i < length l → T (test (point-at l i))) → T (all-points test l)
-all-points-at test [] at = tt
-all-points-at test (v ∷ l) at = yes-and (test v) (all-points test l) (at 0 (omega arith))
-    (all-points-at test l (λ i h. at (suc i) (omega arith)))
 
 module _ (old : B2polygonShape) (s : List Point) (cs : List B2vec2) (c : Corners s cs) where
   row-three : 3 ≤ length cs
@@ -153,7 +95,7 @@ module _ (old : B2polygonShape) (s : List Point) (cs : List B2vec2) (c : Corners
   normals-in-range =
       rw (take-at (map normal-of-edge (edges cs)) (drop (length (map normal-of-edge (edges cs))) (old .«m_normals»))
       (length cs) normals-length)
-      (all-points-at normal-in-range (map normal-of-edge (edges cs)) one)
+      (all-at normal-in-range (map normal-of-edge (edges cs)) origin one)
     where
       one : (i : ℕ) → i < length (map normal-of-edge (edges cs)) → T (normal-in-range (point-at (map normal-of-edge (edges cs)) i))
       one i i-in =

@@ -3,7 +3,7 @@
 use mathlib.Core.Logic.{_⊎_, inl, inr}
 use mathlib.Core.List.{[], _∷_}
 use native.Mathlib.Omega.{arith}
-use Rattle.algebra.specs.Integer.{Z, whole, _⊞_, _⊟_, _⊠_, _≐_, _≼_, _≺_}
+use Rattle.algebra.specs.Integer.{Z, whole, _⊞_, _⊠_, _≐_, _≼_, _≺_}
 use Rattle.algebra.specs.Polynomial.{_:+_}
 use Rattle.algebra.specs.Plane.{Point, SameVector, from-to, cross, dot}
 use Rattle.algebra.proofs.Integer.{lt-trans, sign-cases, compare-cases}

@@ -9,13 +9,14 @@ use native.Mathlib.Omega.{arith}
 use lib.ListN.{length, getD, take, drop, drop-of-length-le, List·getD-eq-default}
 use lib.Seq.{drop-cons, getD-drop, length-take-le}
 use borrow.Author.Tests.{lt-ltb, le-ltb}
-use Rattle.algebra.proofs.Loops.{less-or-not}
+use Rattle.algebra.proofs.Booleans.{less-or-not}
+use Rattle.algebra.proofs.Lists.{getD-within}
 use Rattle.floats.specs.declared.b2_math.B2vec2.{B2vec2}
 use Rattle.floats.specs.B2Math.{b2-sub}
 use Rattle.rounding.specs.Literals.{zero32}
 use Rattle.shape_definitions.specs.declared.b2_polygon_shape.FanSum.{FanSum}
 use Rattle.shape_definitions.specs.Outline.{origin, point-at, place-after, edges-from, edges, with-triangle, fan-from, fan}
-use Rattle.outline_builder.proofs.Tests.{at-place, at-first-place}
+use Rattle.outline_builder.proofs.Tests.{at-first-place}
 
 -- the corner after the one at i
 abbrev pub following : List B2vec2 → ℕ → B2vec2
@@ -44,7 +45,7 @@ module _ (vs : List B2vec2) (m i : ℕ) (within : i < m) (few : m ≤ length vs)
 following-by : (l : List B2vec2) (i : ℕ) → i < length l → (i + 1 < length l) ⊎ (length l ≤ i + 1)
     → getD l (i + 1) (point-at l 0) ≡ following l i
 following-by l i within (inl more) =
-    at-place l (i + 1) (point-at l 0) more
+    getD-within l (i + 1) (point-at l 0) origin more
     ∙ ap (λ (t : Bool). point-at l (cond t (i + 1) 0)) (sym (lt-ltb (i + 1) (length l) more))
 following-by l i within (inr last) =
     List·getD-eq-default l (point-at l 0) last ∙ ap (λ (t : Bool). point-at l (cond t (i + 1) 0)) (sym (le-ltb (i + 1) (length l) last))

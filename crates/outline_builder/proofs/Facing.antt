@@ -2,7 +2,7 @@
 -- enough. Assumes nothing.
 use mathlib.Core.Path.{_≡_, refl, sym, _∙_, ap, subst}
 use mathlib.Core.Bool.{Bool, true, false, _&&_}
-use mathlib.Core.List.{List, [], _∷_, _++_, map, append-assoc, append-nil}
+use mathlib.Core.List.{List, [], _∷_, _++_, map, map-append, append-assoc, append-nil}
 use Prim.Native.Nat.{ℕ, _+_, _<_, _≤_}
 use native.Mathlib.Omega.{arith}
 use lib.ListN.{length, drop, set, length-map, drop-of-length-le}
@@ -13,7 +13,8 @@ use Rattle.floats.specs.B2Common.{epsilon-squared}
 use Rattle.shape_definitions.specs.Outline.{point-at, edges, long-enough, normal-of-edge}
 use Rattle.shape_definitions.specs.Polygon.{put-first}
 use Rattle.outline_builder.specs.Parts.{NormalsResult}
-use Rattle.shape_definitions.proofs.Over.{length-one-more, map-one-more, put-next}
+use Rattle.algebra.proofs.Lists.{length-one-more}
+use Rattle.algebra.proofs.Buffer.{over-store}
 use Rattle.outline_builder.proofs.Around.{following, edges-rest, edges-start, edges-next}
 
 -- with the normals of the edges before the one at i done
@@ -47,9 +48,9 @@ module _ (l old ns : List B2vec2) (i : ℕ) (e : B2vec2) (f : Facing l old i ns)
     done = f .done ++ (e ∷ []);
     done-length = length-one-more (f .done) e i (f .done-length);
     filled =
-        put-next ns (map normal-of-edge (f .done)) old n i (f .filled) (length-map (f .done) normal-of-edge ∙ f .done-length) (omega arith)
+        over-store ns (map normal-of-edge (f .done)) old n i (f .filled) (length-map (f .done) normal-of-edge ∙ f .done-length) (omega arith)
         ∙ ap (λ (x : B2vec2). put-first (map normal-of-edge (f .done) ++ (x ∷ [])) old) n-is
-        ∙ ap (λ (new : List B2vec2). put-first new old) (sym (map-one-more normal-of-edge (f .done) e));
+        ∙ ap (λ (new : List B2vec2). put-first new old) (sym (map-append normal-of-edge (f .done) (e ∷ [])));
     rest =
         append-assoc (f .done) (e ∷ []) (edges-rest (point-at l 0) (drop (i + 1) l))
         ∙ ap (λ (es : List B2vec2). f .done ++ es) (sym edges-here) ∙ f .rest;

@@ -1,11 +1,10 @@
 -- The tests of the outline builder, from the values that the code computes on the way. Assumes nothing.
-use mathlib.Core.Path.{_≡_, refl, sym, _∙_, ap, ap₂}
+use mathlib.Core.Path.{_≡_, sym, _∙_, ap, ap₂}
 use mathlib.Core.Bool.{Bool, true, false, cond, _||_}
-use Prim.Native.Nat.{ℕ, zero, suc, _+_, _-_, _<_, _≤_}
-use mathlib.Core.List.{List, [], _∷_}
-use native.Mathlib.Omega.{arith}
+use Prim.Native.Nat.{ℕ, _+_, _-_, _<_, _≤_}
+use mathlib.Core.List.{List}
 use lib.Dec.{eqb}
-use lib.ListN.{length, take, getD}
+use lib.ListN.{length, take}
 use lib.Seq.{length-take-le, getD-take}
 use lib.Ieee.{Float, lt, eq}
 use Rattle.algebra.specs.Loops.{places, scan}
@@ -32,26 +31,9 @@ module _ (r v : B2vec2) (k : Float) (k-is : k ≡ b2-cross r v) where
   turns-above not-below not-level =
       simp (not-level, ap (λ x. lt x zero32) (sym k-is) ∙ not-below, ap (λ x. eq x zero32) (sym k-is) ∙ not-level)
 
--- a place below n is a place of the first n
-pub first-places : {A : Type 0} (n j : ℕ) (l : List A) → j < n → n ≤ length l → j < length (take n l)
-first-places n j l below few = omega (arith, length-take-le n l few)
-
--- an element of an array, whatever is said to stand past its end
-pub at-place : (l : List B2vec2) (i : ℕ) (d : B2vec2) → i < length l → getD l i d ≡ point-at l i
-at-place [] i d within = absurd (omega arith)
-at-place (x ∷ l) zero d within = refl
-at-place (x ∷ l) (suc i) d within = at-place l i d (omega arith)
-
+-- the point at a place of the first n
 pub at-first-place : (l : List B2vec2) (n i : ℕ) → i < n → point-at (take n l) i ≡ point-at l i
 at-first-place l n i within = getD-take n l i origin within
-
--- ---- the two ways of a choice, from the Boolean that the code has
-module _ {A : Type 0} (t r : Bool) (a b : A) where
-  pub chosen : r ≡ true → r ≡ t → a ≡ cond t a b
-  chosen holds r-is = ap (λ (u : Bool). cond u a b) (sym holds ∙ r-is)
-
-  pub unchosen : r ≡ false → r ≡ t → b ≡ cond t a b
-  unchosen fails r-is = ap (λ (u : Bool). cond u a b) (sym fails ∙ r-is)
 
 -- the test that replaces the candidate, from the vectors that the code has: r to the candidate, v to the other point
 pub replaces-by : (l : List B2vec2) (ih ie j : ℕ) (corner r v : B2vec2) (z : Bool) → corner ≡ point-at l ih

@@ -1,7 +1,7 @@
 -- The walk of the outline builder on its way: the corners done stand over the old points, and those to come complete the row. Assumes
 -- nothing.
 use mathlib.Core.Path.{_≡_, refl, sym, _∙_, ap, subst}
-use mathlib.Core.List.{List, [], _∷_, _++_, map}
+use mathlib.Core.List.{List, [], _∷_, _++_, map, map-append}
 use mathlib.Core.Option.{Option, some, Option·map}
 use Prim.Native.Nat.{ℕ, suc, _+_, _-_, _<_, _≤_}
 use native.Mathlib.Omega.{arith}
@@ -14,7 +14,8 @@ use Rattle.floats.specs.declared.b2_math.B2vec2.{B2vec2}
 use Rattle.shape_definitions.specs.Outline.{point-at, start, next, row}
 use Rattle.shape_definitions.specs.Polygon.{put-first}
 use Rattle.outline_builder.specs.Parts.{WalkResult}
-use Rattle.shape_definitions.proofs.Over.{length-one-more, map-one-more, put-next}
+use Rattle.algebra.proofs.Lists.{length-one-more}
+use Rattle.algebra.proofs.Buffer.{over-store}
 
 -- at place ih, with m corners done
 pub record Walking (ps old : List B2vec2) (m ih : ℕ) (corners : List B2vec2) : Type 0 where
@@ -41,9 +42,9 @@ module _ (ps old corners : List B2vec2) (m ih : ℕ) (p : B2vec2) (w : Walking p
   unfolding done-here
   filled-here =
       let new-length : length (map (point-at ps) (w .done)) ≡ m = length-map (w .done) (point-at ps) ∙ w .done-length in
-      put-next corners (map (point-at ps) (w .done)) old p m (w .filled) new-length (omega arith)
+      over-store corners (map (point-at ps) (w .done)) old p m (w .filled) new-length (omega arith)
       ∙ ap (λ (q : B2vec2). put-first (map (point-at ps) (w .done) ++ (q ∷ [])) old) p-is
-      ∙ ap (λ (new : List B2vec2). put-first new old) (sym (map-one-more (point-at ps) (w .done) ih))
+      ∙ ap (λ (new : List B2vec2). put-first new old) (sym (map-append (point-at ps) (w .done) (ih ∷ [])))
 
   rest-here : Option·map (_++_ (w .done)) (walk eqb (next ps) (start ps) (suc (8 - (m + 1))) ih) ≡ row ps
   rest-here = ap (λ (k : ℕ). Option·map (_++_ (w .done)) (walk eqb (next ps) (start ps) k ih)) fuel ∙ w .rest

@@ -8,7 +8,7 @@ use native.Mathlib.Omega.{arith}
 use lib.Dec.{eqb}
 use lib.Ieee.{Float, nan, inf, fin, binary32, up, down, unlike, round, sum, add, mul}
 use borrow.Author.Tests.{lt-ltb, le-ltb}
-use Rattle.algebra.proofs.Loops.{less-or-not}
+use Rattle.algebra.proofs.Booleans.{less-or-not}
 
 -- ---- products
 unlike-comm : (s t : Bool) → unlike s t ≡ unlike t s

@@ -1,4 +1,5 @@
--- The comparisons of finite numbers are those of their values, in both directions: `<`, `<=`, `==`, true and false. Assumes nothing.
+-- The comparisons of finite numbers are those of their values, in both directions: `<`, `<=`, `==`, a `<` that fails; and `<` and `==`
+-- as the computed tests of those values. Assumes nothing.
 use mathlib.Core.Path.{_≡_, refl, sym, ap, _∙_, subst}
 use mathlib.Core.Logic.{inl, inr}
 use Prim.Native.Nat.{ℕ, _+_, _*_, _<_}
@@ -9,18 +10,13 @@ use mathlib.Core.Bool.{Bool, true, false, not, _||_, Bool·beq}
 use lib.Dec.{T, ltb, eqb, ltb→lt, lt→ltb, eqb→eq, not-T, T-not}
 use lib.Ieee.{Float, fin, up, down, below, level, lt, eq, le}
 use lib.Ieee.Fits.{down-pos, and-i, and-l, and-r, eq→eqb}
-use Rattle.algebra.specs.Integer.{signed, _≐_, _≼_, _≺_}
-use Rattle.algebra.proofs.Integer.{order-cases}
+use Rattle.algebra.specs.Integer.{signed, _≐_, _≼_, _≺_, _≐?_, _≺?_}
+use Rattle.algebra.proofs.Integer.{order-cases, same-of-test, test-of-same, lt-of-test, test-of-lt}
+use Rattle.algebra.proofs.Booleans.{bool-iff, or-left, or-right}
 use Rattle.rounding.specs.Value.{metre, F32, sign, mag, val}
 use Rattle.rounding.proofs.Value.{metre-pos, val-signed, AsFin, as-fin, f32-as-fin}
 
 -- ---- a comparison of fractions p / c and q / c is that of the units m and n that they are
-pub bool-iff : (a b : Bool) → (T a → T b) → (T b → T a) → a ≡ b
-bool-iff true true f g = refl
-bool-iff false false f g = refl
-bool-iff true false f g = absurd (f tt)
-bool-iff false true f g = absurd (g tt)
-
 module _ (d c : ℕ) (d-pos : 0 < d) (c-pos : 0 < c) where
   lt-scaled : (p q m n : ℕ) → p * d ≡ m * c → q * d ≡ n * c → p < q → m < n
   lt-scaled p q m n h k l =
@@ -125,14 +121,6 @@ module _ {x y : Float} (x-f32 : F32 x) (y-f32 : F32 y) where
   val-eq h = subst T (sym (eq-is (f32-as-fin x-f32) (f32-as-fin y-f32)))
       (signed-level (sign x) (sign y) (mag x) (mag y) (rw (val-signed x, val-signed y) at h))
 
-or-left : (a b : Bool) → T a → T (a || b)
-or-left true b h = tt
-or-left false b h = absurd h
-
-or-right : (a b : Bool) → T b → T (a || b)
-or-right true b h = tt
-or-right false b h = h
-
 module _ {x y : Float} (x-f32 : F32 x) (y-f32 : F32 y) where
   pub le-val : T (le x y) → val x ≼ val y
   unfolding le
@@ -150,7 +138,7 @@ module _ {x y : Float} (x-f32 : F32 x) (y-f32 : F32 y) where
     | inr l ↦ or-left (lt x y) (eq x y) (val-lt x-f32 y-f32 l)
   ]
 
--- ---- and where they are false
+-- ---- where `<` fails
 module _ {x y : Float} (x-f32 : F32 x) (y-f32 : F32 y) where
   pub not-lt-val : T (not (lt x y)) → val y ≼ val x
   not-lt-val h = elim (order-cases (val y) (val x)) [
@@ -161,17 +149,14 @@ module _ {x y : Float} (x-f32 : F32 x) (y-f32 : F32 y) where
   pub val-not-lt : val y ≼ val x → T (not (lt x y))
   val-not-lt h = not-T (lt x y) (λ t. let l = lt-val x-f32 y-f32 t in omega arith)
 
-  pub not-le-val : T (not (le x y)) → val y ≺ val x
-  not-le-val h = elim (order-cases (val x) (val y)) [
-    | inl l ↦ absurd (T-not (le x y) h (val-le x-f32 y-f32 l))
-    | inr g ↦ g
-  ]
+-- ---- as whole-number tests
+module _ {x y : Float} (x-f32 : F32 x) (y-f32 : F32 y) where
+  pub lt-test : lt x y ≡ (val x ≺? val y)
+  lt-test =
+      bool-iff (lt x y) (val x ≺? val y) (λ t. test-of-lt (val x) (val y) (lt-val x-f32 y-f32 t))
+      (λ t. val-lt x-f32 y-f32 (lt-of-test (val x) (val y) t))
 
-  pub val-not-le : val y ≺ val x → T (not (le x y))
-  val-not-le h = not-T (le x y) (λ t. let l = le-val x-f32 y-f32 t in omega arith)
-
-  pub not-eq-val : T (not (eq x y)) → val x ≐ val y → ⊥
-  not-eq-val h e = T-not (eq x y) h (val-eq x-f32 y-f32 e)
-
-  pub val-not-eq : (val x ≐ val y → ⊥) → T (not (eq x y))
-  val-not-eq h = not-T (eq x y) (λ t. h (eq-val x-f32 y-f32 t))
+  pub eq-test : eq x y ≡ (val x ≐? val y)
+  eq-test =
+      bool-iff (eq x y) (val x ≐? val y) (λ t. test-of-same (val x) (val y) (eq-val x-f32 y-f32 t))
+      (λ t. val-eq x-f32 y-f32 (same-of-test (val x) (val y) t))

@@ -8,8 +8,8 @@ use native.Mathlib.Omega.{arith}
 use mathlib.Core.Bool.{Bool, true, false}
 use lib.Dec.{T, leb, leb→le, lit<}
 use lib.Pow.{pow-add, pow-pos, pow-mono}
-use lib.Ieee.{Float, binary32, round, add, sub, mul, neg}
-use Rattle.algebra.specs.Integer.{Z, signed, opp, _⊞_, _⊟_, _⊠_, _⊛_, _≐_, _≼_, _≺_, Abs}
+use lib.Ieee.{Float, binary32, round, add, sub, mul}
+use Rattle.algebra.specs.Integer.{Z, signed, _⊞_, _⊟_, _⊠_, _⊛_, _≐_, _≼_, _≺_, Abs}
 use Rattle.algebra.proofs.Integer.{same-sym, same-trans, multiple-same, multiple-cancel-same, multiple-mono}
 use Rattle.algebra.proofs.Integer.{multiple-mono-lt, multiple-cancel, multiple-cancel-lt, le-resp, lt-resp}
 use Rattle.algebra.proofs.Integer.{product-of-multiples, multiple-of-multiple}
@@ -17,7 +17,7 @@ use Rattle.algebra.proofs.Magnitude.{Sized, sized, sized-abs}
 use Rattle.algebra.proofs.Products.{product-same}
 use lib.Ieee.Scale.{overflow}
 use Rattle.rounding.specs.Value.{metre, F32, val}
-use Rattle.rounding.proofs.Value.{metre-is, metre-pos, metre-split, val-neg, neg-f32}
+use Rattle.rounding.proofs.Value.{metre-is, metre-pos, metre-split}
 use Rattle.rounding.proofs.Rounding.{rounded, rounded-exact}
 use Rattle.rounding.proofs.Operations.{Rounds}
 use Rattle.rounding.proofs.Rounds.{rounds-f32, rounds-val}
@@ -141,12 +141,6 @@ exact-mul {x} {y} {c} {e} t u low x-is y-is bound =
     swapped k v d h =
         let m : metre * (k * v .0 + metre * d .1) ≡ metre * (metre * d .0 + k * v .1) = ap (λ (n : ℕ). metre * n) h in
         omega arith
-
-pub exact-neg : {x : Float} {c : Z} {t : ℕ} → Dyadic x c t → Dyadic (neg x) (opp c) t
-exact-neg {x} {c} {t} x-is = record { own = neg-f32 (x-is .own); is = rw val-neg (turn (2 ^ t) (val x) (x-is .is)) }
-  where
-    turn : (k : ℕ) (v : Z) → k ⊛ v ≐ metre ⊛ c → k ⊛ opp v ≐ metre ⊛ opp c
-    turn k v h = omega arith
 
 -- at a finer scale
 pub dyadic-finer : {x : Float} {c : Z} {t : ℕ} (k : ℕ) → Dyadic x c t → Dyadic x (2 ^ k ⊛ c) (t + k)

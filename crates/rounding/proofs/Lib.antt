@@ -17,6 +17,8 @@ pub mod Relative
 pub mod Doubling
 pub mod Literals
 pub mod UnitFactors
+pub mod Squares
+pub mod Null
 pub mod Sign
 pub mod Quotient
 pub mod Reciprocal

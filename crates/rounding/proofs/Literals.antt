@@ -86,3 +86,10 @@ one-val = bits-val 0x3f80_0000 tt ∙ ap whole (sym metre-is)
 
 pub one-mag : mag one32 ≡ metre
 one-mag = bits-mag 0x3f80_0000 tt ∙ sym metre-is
+
+-- as multiples of a power of two
+pub zero-dyadic : (t : ℕ) → Dyadic zero32 (whole 0) t
+zero-dyadic t = record { own = zero-f32; is = rw zero-val (omega arith) }
+
+pub half-dyadic : Dyadic half32 (whole 1) 1
+half-dyadic = bits-dyadic 0x3f00_0000 1 1 tt tt

@@ -1,16 +1,16 @@
 -- F2, the absolute rounding law: an exact result of at most 2^k m gives a finite result that is at most 2^k ticks away, subnormal
 -- results included. One law for every rounding, then sum, difference, product and quotient; and the sizes of results. Assumes nothing.
 use Prim.Native.Nat.{ℕ, _+_, _*_, _^_, _≤_, _<_}
-use native.Mathlib.Nat.{le-trans, mul-assoc, le-of-mul-le-mul-right}
+use native.Mathlib.Nat.{le-trans, mul-assoc}
 use native.Mathlib.Omega.{arith}
 use lib.Dec.{T, leb, leb→le}
 use lib.Ieee.{Float, binary32, add, sub, mul, div}
 use Rattle.algebra.specs.Integer.{Z, _⊞_, _⊟_, _⊠_, _⊛_, Abs}
-use Rattle.algebra.proofs.Magnitude.{abs-scale, abs-unscale, abs-product, abs-widen}
+use Rattle.algebra.proofs.Magnitude.{abs-unscale, abs-product}
 use Rattle.rounding.specs.Value.{metre, tick, F32, sign, mag, val}
 use Rattle.rounding.proofs.Value.{metre-pos, abs-mag}
 use Rattle.rounding.proofs.Error.{rounded-low, rounded-absolute}
-use Rattle.rounding.proofs.Operations.{Rounds, abs-turned, product-size, add-rounds, sub-rounds, mul-rounds, div-rounds}
+use Rattle.rounding.proofs.Operations.{Rounds, abs-turned, add-rounds, sub-rounds, mul-rounds, div-rounds}
 use Rattle.rounding.proofs.Rounds.{rounds-f32, rounds-error, size-le, sum-error, product-error, quotient-error}
 
 -- z is v, at most e away
@@ -100,15 +100,3 @@ near-size n z-near v-abs = let h = z-near .err in omega arith
 pub near-product-size : {z : Float} {v : Z} {e : ℕ} (n : ℕ) → NearProduct z v e → Abs v (n * metre) → Abs (val z) (n + e)
 near-product-size {z} {v} {e} n z-near v-abs =
     abs-unscale metre (n + e) (val z) metre-pos (let h = z-near .err in omega arith)
-
--- |x| metre ≤ n |y|
-pub near-quotient-size : {z x y : Float} {e : ℕ} (n : ℕ) → NearQuotient z x y e → 0 < mag y → mag x * metre ≤ n * mag y
-    → Abs (val z) (n + e)
-near-quotient-size {z} {x} {y} {e} n z-near y-pos x-low =
-    abs-widen (val z) (mag z) (n + e) (abs-mag z)
-    (le-of-mul-le-mul-right
-    (product-size z y ((n + e) * mag y)
-    (total (val z ⊠ val y) (metre ⊛ val x) (mag y) (z-near .err) (abs-scale metre (mag x) (val x) (abs-mag x)) x-low)) y-pos)
-  where
-    total : (v w : Z) (l : ℕ) → Abs (v ⊟ w) (e * l) → Abs w (metre * mag x) → mag x * metre ≤ n * l → Abs v ((n + e) * l)
-    total v w l v-near w-abs x-low = omega arith

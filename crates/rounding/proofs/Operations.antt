@@ -10,8 +10,8 @@ use mathlib.Core.Bool.{Bool, true, false, not, cond, _&&_}
 use lib.IntN.{ℤ}
 use lib.Dec.{T, ltb, eqb, ltb→lt, nltb→le, eqb·suc-zero}
 use lib.Ieee.{Float, nan, inf, fin, binary32, up, down, unlike, round, neg, sum, add, sub, mul, div}
-use lib.Ieee.Fits.{up-pos, down-pos, add-fits, sub-fits, mul-fits, div-fits}
-use lib.Ieee.Scale.{finite, round-same}
+use lib.Ieee.Fits.{up-pos, down-pos}
+use lib.Ieee.Scale.{round-same}
 use Rattle.algebra.specs.Integer.{Z, signed, opp, _⊞_, _⊟_, _⊠_, _≐_, Abs}
 use Rattle.algebra.proofs.Integer.{same-sym}
 use Rattle.algebra.proofs.Magnitude.{abs-same, signed-abs}
@@ -194,16 +194,3 @@ div-rounds x-f32 y-f32 y-pos = of-fins (f32-as-fin x-f32) (f32-as-fin y-f32) y-p
               (quotient-fraction (m * up e) (n * up d) (down e) (down d) (mag (fin s m e)) (mag (fin t n d)) x-is y-is);
           exact = signed-quotient s t (mag (fin s m e));
         }
-
--- ---- every result is in the format
-pub add-f32 : (x y : Float) → T (finite (add binary32 x y)) → F32 (add binary32 x y)
-add-f32 x y h = record { in-format = add-fits binary32 x y; is-finite = h }
-
-pub sub-f32 : (x y : Float) → T (finite (sub binary32 x y)) → F32 (sub binary32 x y)
-sub-f32 x y h = record { in-format = sub-fits binary32 x y; is-finite = h }
-
-pub mul-f32 : (x y : Float) → T (finite (mul binary32 x y)) → F32 (mul binary32 x y)
-mul-f32 x y h = record { in-format = mul-fits binary32 x y; is-finite = h }
-
-pub div-f32 : (x y : Float) → T (finite (div binary32 x y)) → F32 (div binary32 x y)
-div-f32 x y h = record { in-format = div-fits binary32 x y; is-finite = h }

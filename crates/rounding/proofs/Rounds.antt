@@ -2,7 +2,7 @@
 -- size is an error of the value; then the same for sums, products and quotients, freed of the common factor. Assumes nothing.
 use mathlib.Core.Path.{_≡_, sym, ap, _∙_, subst}
 use Prim.Native.Nat.{ℕ, _+_, _*_, _≤_, _<_}
-use native.Mathlib.Nat.{le-refl, le-of-mul-le-mul-right}
+use native.Mathlib.Nat.{le-of-mul-le-mul-right}
 use native.Mathlib.Omega.{arith}
 use mathlib.Core.Bool.{Bool, true, false}
 use lib.Dec.{T}
@@ -10,7 +10,7 @@ use lib.Ieee.{Float, binary32, round, unlike}
 use lib.Ieee.Scale.{overflow, finite}
 use Rattle.algebra.specs.Integer.{Z, signed, _⊟_, _⊠_, _⊛_, _≐_, Abs}
 use Rattle.algebra.proofs.Integer.{same-sym, same-trans}
-use Rattle.algebra.proofs.Magnitude.{abs-same, abs-signed, signed-abs}
+use Rattle.algebra.proofs.Magnitude.{abs-same, signed-abs}
 use Rattle.rounding.specs.Value.{metre, F32, sign, mag, val}
 use Rattle.rounding.proofs.Value.{metre-pos, val-signed, val-of-value, mag-of-value}
 use Rattle.rounding.proofs.Rounding.{rounded, round-value, round-f32, finite-rounded}
@@ -30,11 +30,6 @@ module _ {z : Float} {num : Z} {den : ℕ} (r : Rounds z num den) where
   size-le n h =
       signed-abs (r .negative) (r .size) n
       (abs-same num (signed (r .negative) (r .size)) n (same-sym (signed (r .negative) (r .size)) num (r .exact)) h)
-
-  pub abs-size : Abs num (r .size)
-  abs-size =
-      abs-same (signed (r .negative) (r .size)) num (r .size) (r .exact)
-      (abs-signed (r .negative) (r .size) (r .size) (le-refl (r .size)))
 
 module _ {z : Float} {num : Z} {den : ℕ} (r : Rounds z num den) (z-f32 : F32 z) where
   pub rounds-val : val z ≡ signed (r .negative) (rounded (r .size) den)

@@ -74,12 +74,6 @@ module _ {z : Float} {num : Z} {den : ℕ} (r : Rounds z num den) where
     | inr g ↦ absurd (let n = rounds-negative r g in omega arith)
   ]
 
-  pub rounds-not-positive : num ≼ whole 0 → val z ≼ whole 0
-  rounds-not-positive h = elim (order-cases (val z) (whole 0)) [
-    | inl l ↦ l
-    | inr g ↦ absurd (let n = rounds-positive r g in omega arith)
-  ]
-
 -- ---- the operations
 module _ {x y : Float} (x-f32 : F32 x) (y-f32 : F32 y) where
   pub add-not-negative : whole 0 ≼ val x ⊞ val y → whole 0 ≼ val (add binary32 x y)

@@ -13,7 +13,9 @@ use Rattle.rounding.proofs.Bounds.{div-above}
 use Rattle.rounding.proofs.Exact.{Is, add-exact, sub-exact, mul-exact, div-exact}
 use Rattle.rounding.proofs.Relative.{add-relative, sub-relative, mul-relative, mul-mixed, div-relative, div-mixed}
 use Rattle.rounding.proofs.Doubling.{add-double, sub-double, mul-double, div-double}
-use Rattle.rounding.proofs.Sign.{Opposite, mul-negative}
+use Rattle.rounding.proofs.Order.{add-mono, sub-mono, mul-mono, div-mono}
+use Rattle.rounding.proofs.Sign.{Opposite, mul-negative, add-not-negative, sub-not-negative, mul-not-negative}
+use Rattle.rounding.proofs.Sign.{div-not-negative}
 use Rattle.rounding.proofs.Quotient.{Between, InUnit, div-in-unit}
 use Rattle.rounding.proofs.Reciprocal.{Reciprocal, reciprocal}
 use Rattle.rounding.proofs.Dot.{dot, DotNear, products-dot-near}
@@ -100,6 +102,25 @@ ordered-results x-f32 y-f32 r-f32 = record {
   quotient-above = div-above x-f32 y-f32 r-f32;
 }
 
+-- and results rise with the exact ones
+pub record RisingResults (x y x' y' : Float) : Type 0 where
+  pub sum : F32 (add binary32 x y) → F32 (add binary32 x' y') → val x ⊞ val y ≼ val x' ⊞ val y'
+      → val (add binary32 x y) ≼ val (add binary32 x' y')
+  pub difference : F32 (sub binary32 x y) → F32 (sub binary32 x' y') → val x ⊟ val y ≼ val x' ⊟ val y'
+      → val (sub binary32 x y) ≼ val (sub binary32 x' y')
+  pub product : F32 (mul binary32 x y) → F32 (mul binary32 x' y') → val x ⊠ val y ≼ val x' ⊠ val y'
+      → val (mul binary32 x y) ≼ val (mul binary32 x' y')
+  pub quotient : F32 (div binary32 x y) → F32 (div binary32 x' y') → whole 0 ≺ val y → whole 0 ≺ val y'
+      → val x ⊠ val y' ≼ val x' ⊠ val y → val (div binary32 x y) ≼ val (div binary32 x' y')
+
+pub rising-results : {x y x' y' : Float} → F32 x → F32 y → F32 x' → F32 y' → RisingResults x y x' y'
+rising-results x-f32 y-f32 x'-f32 y'-f32 = record {
+  sum = add-mono x-f32 y-f32 x'-f32 y'-f32;
+  difference = sub-mono x-f32 y-f32 x'-f32 y'-f32;
+  product = mul-mono x-f32 y-f32 x'-f32 y'-f32;
+  quotient = div-mono x-f32 y-f32 x'-f32 y'-f32;
+}
+
 -- ---- F4: a finite result is at most twice the exact one in size
 pub record DoubledResults (x y : Float) : Type 0 where
   pub sum : (n : ℕ) → F32 (add binary32 x y) → Abs (val x ⊞ val y) n → Abs (val (add binary32 x y)) (2 * n)
@@ -123,6 +144,21 @@ reciprocal-near = reciprocal
 -- ---- F7: a product below 0 has factors of opposite signs
 pub product-negative : {x y : Float} → F32 x → F32 y → val (mul binary32 x y) ≺ whole 0 → Opposite (val x) (val y)
 product-negative = mul-negative
+
+-- and a result is not negative where the exact one is not
+pub record NotNegativeResults (x y : Float) : Type 0 where
+  pub sum : whole 0 ≼ val x ⊞ val y → whole 0 ≼ val (add binary32 x y)
+  pub difference : whole 0 ≼ val x ⊟ val y → whole 0 ≼ val (sub binary32 x y)
+  pub product : whole 0 ≼ val x ⊠ val y → whole 0 ≼ val (mul binary32 x y)
+  pub quotient : whole 0 ≼ val x → whole 0 ≺ val y → whole 0 ≼ val (div binary32 x y)
+
+pub not-negative-results : {x y : Float} → F32 x → F32 y → NotNegativeResults x y
+not-negative-results x-f32 y-f32 = record {
+  sum = add-not-negative x-f32 y-f32;
+  difference = sub-not-negative x-f32 y-f32;
+  product = mul-not-negative x-f32 y-f32;
+  quotient = div-not-negative x-f32 y-f32;
+}
 
 -- ---- F8: a quotient of a number by one of the same sign that is no smaller lies in [0, 1]
 pub quotient-in-unit : {x y : Float} → F32 x → F32 y → Between (val x) (val y) → InUnit (div binary32 x y)

@@ -1,9 +1,10 @@
--- The value of a finite binary32 number as a whole number of units of 2^-149 m: the units, |val x| = mag x, negation and the zeros.
+-- The value of a finite binary32 number as a whole number of units of 2^-149 m: the units, |val x| = mag x and how sizes follow values,
+-- negation and the zeros.
 -- `HasValue x s g metre`, of lib.Ieee, says that x is finite, has the sign s and is g units in size; `F32` gives it and is given
 -- back by it. Assumes nothing.
 use mathlib.Core.Path.{_≡_, refl, sym, ap, _∙_}
 use Prim.Native.Nat.{ℕ, zero, suc, _+_, _-_, _*_, _/_, _%_, _^_, _≤_, _<_}
-use native.Mathlib.Nat.{le-refl, mul-assoc, mul-one, mul-div-cancel, not-le-of-lt, zero-mul, zero-div, pow-succ'}
+use native.Mathlib.Nat.{le-refl, le-antisymm, mul-assoc, mul-one, mul-div-cancel, not-le-of-lt, zero-mul, zero-div, pow-succ'}
 use native.Mathlib.Omega.{arith}
 use mathlib.Core.Bool.{Bool, true, false, not, _&&_}
 use lib.IntN.{ℤ, pos, negsuc}
@@ -13,8 +14,9 @@ use lib.Ieee.{Float, nan, inf, fin, binary32, up, down, neg, fits}
 use lib.Ieee.Digits.{back}
 use lib.Ieee.Fits.{down-pos, and-l, and-r, neg-fits}
 use lib.Ieee.Exact.{HasValue}
-use Rattle.algebra.specs.Integer.{whole, signed, opp, _⊛_, _≐_, _≺_, Abs}
-use Rattle.algebra.proofs.Magnitude.{abs-signed, signed-abs}
+use Rattle.algebra.specs.Integer.{Z, whole, signed, opp, _≐_, _≼_, _≺_, Abs}
+use Rattle.algebra.proofs.Integer as Integer
+use Rattle.algebra.proofs.Magnitude.{abs-same, abs-signed, signed-abs}
 use Rattle.rounding.specs.Value.{metre, tick, F32, sign, mag, val}
 
 -- ---- the units
@@ -25,10 +27,6 @@ metre-is = refl
 pub metre-pos : 0 < metre
 unfolding metre
 metre-pos = lit< tt
-
-pub tick-pos : 0 < tick
-unfolding tick
-tick-pos = lit< tt
 
 pub metre-ticks : metre ≡ 2 ^ 25 * tick
 unfolding metre tick
@@ -66,6 +64,27 @@ positive-sign x h =
     by-sign : (s : Bool) (g : ℕ) → whole 0 ≺ signed s g → (s ≡ false) × (0 < g)
     by-sign true g h = absurd (omega arith)
     by-sign false g h = (refl, omega arith)
+
+-- a value that is not negative is its size
+pub least-is : (x : Float) → whole 0 ≼ val x → val x ≐ whole (mag x)
+least-is x h = rw (val-signed x) (by-sign (sign x) (mag x) (rw (val-signed x) at h))
+  where
+    by-sign : (s : Bool) (n : ℕ) → whole 0 ≼ signed s n → signed s n ≐ whole n
+    by-sign true n h = omega arith
+    by-sign false n h = omega arith
+
+pub mag-mono : (x y : Float) → whole 0 ≼ val x → val x ≼ val y → mag x ≤ mag y
+mag-mono x y h k =
+    sizes (val x) (val y) (mag x) (mag y) (least-is x h) (least-is y (Integer.le-trans (whole 0) (val x) (val y) h k)) k
+  where
+    sizes : (a b : Z) (m n : ℕ) → a ≐ whole m → b ≐ whole n → a ≼ b → m ≤ n
+    sizes a b m n d e h = omega arith
+
+-- one value, one size
+pub mag-same : (x y : Float) → val x ≐ val y → mag x ≡ mag y
+mag-same x y same =
+    le-antisymm (mag-abs x (mag y) (abs-same (val y) (val x) (mag y) (Integer.same-sym (val x) (val y) same) (abs-mag y)))
+    (mag-abs y (mag x) (abs-same (val x) (val y) (mag x) same (abs-mag x)))
 
 -- ---- from a fraction of lib.Ieee
 mag-is : (m : ℕ) (e : ℤ) (g : ℕ) → m * up e * metre ≡ g * down e → m * up e * metre / down e ≡ g
@@ -137,14 +156,6 @@ pub f32-as-fin : {x : Float} → F32 x → AsFin x
 f32-as-fin {x = nan} h = absurd (h .is-finite)
 f32-as-fin {x = inf s} h = absurd (h .is-finite)
 f32-as-fin {x = fin s m e} h = as-fin s m e (has-value h .1)
-
--- down e / up e times the value of m 2^e is m metres
-pub val-fin : {s : Bool} {m : ℕ} {e : ℤ} → F32 (fin s m e) → down e ⊛ val (fin s m e) ≐ (up e * metre) ⊛ signed s m
-val-fin {s} {m} {e} h = rw val-signed (by-sign s (up e) (down e) (mag (fin s m e)) (has-value h .1))
-  where
-    by-sign : (s : Bool) (u d g : ℕ) → m * u * metre ≡ g * d → d ⊛ signed s g ≐ (u * metre) ⊛ signed s m
-    by-sign true u d g k = omega arith
-    by-sign false u d g k = omega arith
 
 -- ---- negation
 pub neg-f32 : {x : Float} → F32 x → F32 (neg x)

@@ -1,33 +1,36 @@
 -- Each headline law applied to closed numbers, 0, 1/2, 1 and -1: the hypotheses of none are vacuous. Assumes nothing.
 use mathlib.Core.Path.{refl, sym}
 use mathlib.Core.Logic.{inl}
-use Prim.Native.Nat.{ℕ, _*_, _^_, _≤_}
-use native.Mathlib.Nat.{le-refl, le-trans, le-of-eq, one-mul, mul-le-mul-right}
+use Prim.Native.Nat.{ℕ, _+_, _*_, _^_, _≤_}
+use native.Mathlib.Nat.{le-trans, le-of-eq, one-mul, mul-le-mul-right}
 use native.Mathlib.Omega.{arith}
 use lib.Dec.{T, lit≤}
-use lib.Ieee.{binary32, neg, add, div, lt}
+use lib.Ieee.{binary32, neg, add, mul, div, lt}
 use Rattle.algebra.specs.Integer.{whole, _⊞_, _⊟_, _⊠_, _⊛_, _≐_, _≼_, _≺_, Abs}
 use Rattle.rounding.specs.Value.{metre, tick, val}
-use Rattle.rounding.specs.Literals.{half32, one32}
+use Rattle.rounding.specs.Literals.{zero32, half32, one32}
 use Rattle.rounding.proofs.Value.{metre-pos, val-neg, neg-f32}
-use Rattle.rounding.proofs.Comparison.{val-lt}
-use Rattle.rounding.proofs.Near.{Near}
+use Rattle.rounding.proofs.Comparison.{val-lt, not-lt-val, val-not-lt}
+use Rattle.rounding.proofs.Near.{Near, near-size, near-product-size}
 use Rattle.rounding.proofs.Exact.{Is}
 use Rattle.rounding.proofs.Dyadic.{Dyadic, exact-add}
-use Rattle.rounding.proofs.Literals.{bits-dyadic, half-f32, half-val, one-f32, one-val, one-mag}
-use Rattle.rounding.proofs.UnitFactors.{minus-one-mul-exact}
+use Rattle.rounding.proofs.Literals.{zero-f32, zero-val, half-dyadic, half-f32, half-val, one-f32, one-val, one-mag}
+use Rattle.rounding.proofs.UnitFactors.{minus-one-mul-exact, zero-mul-exact}
 use Rattle.rounding.proofs.Sign.{Opposite}
 use Rattle.rounding.proofs.Quotient.{InUnit}
 use Rattle.rounding.proofs.Reciprocal.{Reciprocal}
-use Rattle.rounding.proofs.Dot.{dot, DotNear}
+use Rattle.rounding.proofs.Dot.{dot, DotNear, dot-near}
 use Rattle.rounding.proofs.Theorem.{exact-results, near-results, relative-results, ordered-results}
-use Rattle.rounding.proofs.Theorem.{doubled-results}
+use Rattle.rounding.proofs.Theorem.{rising-results, doubled-results, not-negative-results}
 use Rattle.rounding.proofs.Theorem.{reciprocal-near, product-negative, quotient-in-unit, dot-near-5}
 use Rattle.rounding.proofs.Theorem.{dot-near-7}
 
 -- ---- values
 halves : val half32 ⊞ val half32 ≐ val one32
 halves = rw one-val (let h = half-val in omega arith)
+
+one-abs : Abs (val one32) metre
+one-abs = rw one-val (omega arith)
 
 pub half-low : val half32 ≼ val one32
 half-low = rw one-val (let h = half-val in omega arith)
@@ -41,9 +44,6 @@ one-pos = rw one-val (let m = metre-pos in omega arith)
 halves-abs : Abs (val half32 ⊞ val half32) metre
 halves-abs = let h = half-val in omega arith
 
-half-dyadic : Dyadic half32 (whole 1) 1
-half-dyadic = bits-dyadic 0x3f00_0000 1 1 tt tt
-
 -- ---- F1
 half-sum : Is (add binary32 half32 half32) (val half32 ⊞ val half32)
 half-sum = exact-results half-f32 half-f32 one-f32 .sum halves
@@ -55,12 +55,27 @@ half-sum-dyadic = exact-add 1 tt half-dyadic half-dyadic (omega arith)
 half-sum-near : Near (add binary32 half32 half32) (val half32 ⊞ val half32) (2 ^ 0 * tick)
 half-sum-near = near-results 0 tt half-f32 half-f32 .sum metre halves-abs (le-of-eq (sym (one-mul metre)))
 
+-- so at most 1 m and a tick
+half-sum-size : Abs (val (add binary32 half32 half32)) (metre + 2 ^ 0 * tick)
+half-sum-size = near-size metre half-sum-near halves-abs
+
+one-product-size : Abs (val (mul binary32 one32 one32)) (metre + 2 ^ 0 * tick)
+one-product-size =
+    near-product-size metre (near-results 0 tt one-f32 one-f32 .product metre metre one-abs one-abs (omega arith))
+    (rw one-val (omega arith))
+
 half-sum-relative : Abs (2 ^ 24 ⊛ (val (add binary32 half32 half32) ⊟ (val half32 ⊞ val half32))) metre
 half-sum-relative = relative-results half-f32 half-f32 .sum metre (half-sum .own) halves-abs
 
 -- ---- F3
 half-sum-below : val (add binary32 half32 half32) ≼ val one32
 half-sum-below = ordered-results half-f32 half-f32 one-f32 .sum-below (half-sum .own) (let h = halves in omega arith)
+
+half-sum-rises : val (add binary32 half32 half32) ≼ val (add binary32 half32 one32)
+half-sum-rises =
+    rising-results half-f32 half-f32 half-f32 one-f32 .sum (half-sum .own)
+    (near-results 1 tt half-f32 one-f32 .sum (2 * metre) (let h = half-val in rw one-val (omega arith)) (omega arith) .own)
+    (let h = half-low in omega arith)
 
 -- ---- F4
 half-sum-double : Abs (val (add binary32 half32 half32)) (2 * metre)
@@ -81,6 +96,13 @@ minus-one-product =
     (let z = minus-one-mul-exact (neg-f32 one-f32) one-f32
     (rw (val-neg one32, one-val) refl) .is in let p = one-pos in omega arith)
 
+half-sum-least : whole 0 ≼ val (add binary32 half32 half32)
+half-sum-least = not-negative-results half-f32 half-f32 .sum (let p = half-pos in omega arith)
+
+-- times 0
+zero-times-one : Is (mul binary32 zero32 one32) (whole 0)
+zero-times-one = zero-mul-exact zero-f32 one-f32 (rw zero-val (omega arith))
+
 -- ---- F8
 half-quotient : InUnit (div binary32 half32 one32)
 half-quotient = quotient-in-unit half-f32 one-f32 (inl (let p = half-pos in omega arith, (half-low, one-pos)))
@@ -96,6 +118,13 @@ ones-dot-5 = dot-near-5 one-f32 one-f32 one-f32 one-f32 (one-product-abs 32 (lit
 ones-dot-7 : DotNear (dot one32 one32 one32 one32) (val one32 ⊠ val one32 ⊞ val one32 ⊠ val one32) 7 128
 ones-dot-7 = dot-near-7 one-f32 one-f32 one-f32 one-f32 (one-product-abs 128 (lit≤ tt)) (one-product-abs 128 (lit≤ tt))
 
+-- by the sizes of the coordinates
+ones-dot : DotNear (dot one32 one32 one32 one32) (val one32 ⊠ val one32 ⊞ val one32 ⊠ val one32) 0 1
+ones-dot = dot-near 0 1 tt tt tt one-f32 one-f32 one-f32 one-f32 metre metre one-abs one-abs one-abs one-abs (omega arith)
+
 -- ---- comparisons
+one-not-lt-half : val half32 ≼ val one32
+one-not-lt-half = not-lt-val one-f32 half-f32 (val-not-lt one-f32 half-f32 half-low)
+
 half-lt-one : T (lt half32 one32)
 half-lt-one = val-lt half-f32 one-f32 (rw one-val (let h = half-val in let m = metre-pos in omega arith))

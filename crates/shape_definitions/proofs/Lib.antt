@@ -1,4 +1,3 @@
-pub mod Over
-pub mod AllPoints
 pub mod Counted
+pub mod Edges
 pub mod Controls

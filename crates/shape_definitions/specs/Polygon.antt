@@ -1,12 +1,14 @@
 -- The outline builder, b2_polygon_shape_set, as document 01 has it: weld, start, walk, normals, centroid, with the refusals 1, 2, 3, 4,
 -- 5 in that order and no other; a refused call hands back the outline that it was given. Definitions only.
-use mathlib.Core.Bool.{Bool, true, not, cond, _&&_, _||_}
-use mathlib.Core.List.{List, [], _∷_, _++_, map}
+use mathlib.Core.Bool.{Bool, not, cond, _&&_, _||_}
+use mathlib.Core.List.{List, map}
 use mathlib.Core.Option.{Option, none, some}
 use Prim.Native.Nat.{ℕ}
 use lib.Dec.{ltb}
-use lib.ListN.{length, take, drop}
+use lib.ListN.{length, take}
 use lib.Ieee.{lt}
+use Rattle.algebra.specs.Lists.{all-of}
+use Rattle.algebra.specs.Buffer.{over}
 use Rattle.floats.specs.declared.b2_math.B2vec2.{B2vec2}
 use Rattle.floats.specs.B2Common.{b2-epsilon}
 use Rattle.floats.specs.Ranges.{point-in-range}
@@ -20,13 +22,13 @@ use Rattle.shape_definitions.specs.Outline.{point-at, welded, row, edges
 abbrev pub refused : ℕ → B2polygonShape → PolygonAnswer
 refused number old = record { refusal = number; shape = old }
 
+-- every point passes the test
 abbrev pub all-points : (B2vec2 → Bool) → List B2vec2 → Bool
-all-points test [] = true
-all-points test (v ∷ vs) = test v && all-points test vs
+all-points test points = all-of test points
 
 -- new points in the first places; the places past them keep their bits
 abbrev pub put-first : List B2vec2 → List B2vec2 → List B2vec2
-put-first new old = new ++ drop (length new) old
+put-first new old = over new old
 
 -- the outline of a row of corners: normals, then the centroid; the radius is kept
 abbrev pub finished : B2polygonShape → List B2vec2 → FanSum → PolygonAnswer

@@ -13,7 +13,7 @@ use lib.ListN.{length, take, getD, set}
 use lib.Seq.{take-all, take-suc, take-suc-set}
 use lib.Ieee.{Float, lt}
 use borrow.Author.Tests.{eqb-true, lt-ltb, le-ltb, not-false}
-use Rattle.algebra.proofs.Loops.{less-or-not}
+use Rattle.algebra.proofs.Booleans.{less-or-not}
 use Rattle.floats.specs.declared.b2_math.B2vec2.{B2vec2}
 use Rattle.rounding.specs.Literals.{zero32}
 use Rattle.floats.specs.B2Math.{vec2, b2-sub, b2-cross}

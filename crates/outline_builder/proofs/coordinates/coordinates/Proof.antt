@@ -5,7 +5,7 @@ use native.Mathlib.Omega.{arith}
 use lib.ListN.{length, take}
 use Rattle.outline_builder.specs.Coordinates.{points-in, EightPoints}
 use Rattle.outline_builder.proofs.CoordinatePoints.{eight-stored}
-use Rattle.shape_definitions.proofs.Over.{copied-next, copied}
+use Rattle.algebra.proofs.Lists.{copied-next, copied}
 use borrow.Author.Needs.{needs}
 use Rattle.outline_builder.proofs.coordinates.coordinates.Statement.{statement}
 use Rattle.outline_builder.proofs.coordinates.coordinates.Tie as tie

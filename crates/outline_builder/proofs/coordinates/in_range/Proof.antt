@@ -8,8 +8,9 @@ use borrow.Author.Tests.{not-true, not-false}
 use Rattle.floats.specs.Ranges.{point-in-range}
 use Rattle.shape_definitions.specs.Polygon.{all-points}
 use Rattle.outline_builder.specs.Coordinates.{points-in, EightPoints}
-use Rattle.outline_builder.proofs.Tests.{first-places, at-first-place}
-use Rattle.shape_definitions.proofs.AllPoints.{all-failed, all-next, all-ended}
+use Rattle.outline_builder.proofs.Tests.{at-first-place}
+use Rattle.algebra.proofs.Lists.{first-places}
+use Rattle.algebra.proofs.All.{all-failed, all-next, all-ended}
 use borrow.Author.Needs.{needs}
 use Rattle.outline_builder.proofs.coordinates.in_range.Statement.{statement}
 use Rattle.outline_builder.proofs.coordinates.in_range.Tie as tie

@@ -4,7 +4,7 @@ use Prim.Native.Nat.{_≤_, _-_}
 use native.Mathlib.Omega.{arith}
 use lib.ListN.{length, take, length-set}
 use Rattle.outline_builder.specs.Coordinates.{points-in, EightPoints}
-use Rattle.shape_definitions.proofs.Over.{copied-next, copied}
+use Rattle.algebra.proofs.Lists.{copied-next, copied}
 use borrow.Author.Needs.{needs}
 use Rattle.outline_builder.proofs.coordinates.points.Statement.{statement}
 use Rattle.outline_builder.proofs.coordinates.points.Tie as tie

@@ -8,7 +8,8 @@ use Rattle.algebra.specs.Loops.{near-any}
 use Rattle.algebra.proofs.Loops.{near-found, near-next, near-none}
 use Rattle.shape_definitions.specs.Outline.{too-near}
 use Rattle.outline_builder.specs.Coordinates.{points-in, EightPoints}
-use Rattle.outline_builder.proofs.Tests.{first-places, at-first-place}
+use Rattle.outline_builder.proofs.Tests.{at-first-place}
+use Rattle.algebra.proofs.Lists.{first-places}
 use borrow.Author.Needs.{needs}
 use Rattle.outline_builder.proofs.outline.near_any.Statement.{statement}
 use Rattle.outline_builder.proofs.outline.near_any.Tie as tie

@@ -9,7 +9,8 @@ use Rattle.algebra.proofs.Loops.{scan-ended}
 use Rattle.floats.specs.B2Math.{b2-sub}
 use Rattle.shape_definitions.specs.Outline.{point-at, replaces, next}
 use Rattle.outline_builder.specs.Coordinates.{points-in, EightPoints}
-use Rattle.outline_builder.proofs.Tests.{chosen, unchosen, replaces-by, replaces-first, scanned-next, scanned-from-one}
+use Rattle.outline_builder.proofs.Tests.{replaces-by, replaces-first, scanned-next, scanned-from-one}
+use Rattle.algebra.proofs.Booleans.{chosen, unchosen}
 use borrow.Author.Needs.{needs}
 use Rattle.outline_builder.proofs.outline.next.Statement.{statement}
 use Rattle.outline_builder.proofs.outline.next.Tie as tie

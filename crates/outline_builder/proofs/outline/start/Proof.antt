@@ -8,7 +8,8 @@ use Rattle.algebra.specs.Loops.{places, scan}
 use Rattle.algebra.proofs.Loops.{scan-ended}
 use Rattle.shape_definitions.specs.Outline.{point-at, comes-before, earlier, start}
 use Rattle.outline_builder.specs.Coordinates.{points-in, EightPoints}
-use Rattle.outline_builder.proofs.Tests.{chosen, unchosen, earlier-first, scanned-next, scanned-from-one}
+use Rattle.outline_builder.proofs.Tests.{earlier-first, scanned-next, scanned-from-one}
+use Rattle.algebra.proofs.Booleans.{chosen, unchosen}
 use borrow.Author.Needs.{needs}
 use Rattle.outline_builder.proofs.outline.start.Statement.{statement}
 use Rattle.outline_builder.proofs.outline.start.Tie as tie

@@ -12,7 +12,8 @@ use Rattle.algebra.proofs.Loops.{weld-dropped, weld-kept, weld-ended}
 use Rattle.floats.specs.declared.b2_math.B2vec2.{B2vec2}
 use Rattle.shape_definitions.specs.Outline.{too-near, welded}
 use Rattle.outline_builder.specs.Coordinates.{points-in, EightPoints}
-use Rattle.outline_builder.proofs.Tests.{first-places, at-first-place}
+use Rattle.outline_builder.proofs.Tests.{at-first-place}
+use Rattle.algebra.proofs.Lists.{first-places}
 use Rattle.outline_builder.proofs.CoordinatePoints.{eight-stored}
 use borrow.Author.Needs.{needs}
 use Rattle.outline_builder.proofs.outline.weld.Statement.{statement}

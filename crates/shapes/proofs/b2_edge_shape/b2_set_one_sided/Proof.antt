@@ -2,7 +2,7 @@
 use mathlib.Core.Bool.{_&&_}
 use Rattle.floats.specs.Ranges.{point-in-range}
 use Rattle.shape_definitions.specs.Edge.{b2-set-one-sided}
-use Rattle.outline_builder.proofs.Tests.{chosen, unchosen}
+use Rattle.algebra.proofs.Booleans.{chosen, unchosen}
 use borrow.Author.Needs.{needs}
 use Rattle.shapes.proofs.b2_edge_shape.b2_set_one_sided.Statement.{statement}
 use Rattle.shapes.proofs.b2_edge_shape.b2_set_one_sided.Tie as tie

@@ -1,6 +1,6 @@
 -- The first four places are written. Assumes nothing.
 use native.Mathlib.Omega.{arith}
-use Rattle.shape_definitions.proofs.Over.{put-four}
+use Rattle.algebra.proofs.Buffer.{four-stores}
 use borrow.Author.Needs.{needs}
 use Rattle.shapes.proofs.b2_polygon_shape.put_four.Statement.{statement}
 use Rattle.shapes.proofs.b2_polygon_shape.put_four.Tie as tie
@@ -20,7 +20,7 @@ array-set-from-new-4 c = search needs
 returns : tie.Need-returns
 returns c =
     let eight = c .good .0 .1 .0 .1 in
-    put-four (c .args .old) _ _ _ _ (omega arith)
+    four-stores (c .args .old) _ _ _ _ (omega arith)
 
 pub put-four-spec : {M : Type 1} → statement M
 put-four-spec =

@@ -7,7 +7,7 @@ use lib.ListN.{length, take, length-take}
 use lib.Seq.{take-all}
 use Rattle.floats.specs.Ranges.{vec2-within}
 use Rattle.shape_definitions.specs.Polygon.{all-points}
-use Rattle.shape_definitions.proofs.AllPoints.{all-masked}
+use Rattle.algebra.proofs.All.{all-masked}
 use borrow.Author.Needs.{needs}
 use Rattle.shapes.proofs.shape_ranges.points_within.Statement.{statement}
 use Rattle.shapes.proofs.shape_ranges.points_within.Tie as tie
