@@ -1,26 +1,24 @@
 -- What holds of the outline that is built from a grid list: 3 to 8 grid corners, at each place the normal of the edge from its corner to
 -- the next, and every number in range where the radius is. Assumes nothing.
 use mathlib.Core.Path.{_≡_, refl, sym, ap, _∙_, subst}
-use mathlib.Core.List.{List, [], _∷_, _++_, map}
+use mathlib.Core.List.{List, map}
 use mathlib.Core.List as L
-use mathlib.Core.Bool.{Bool, true, false, cond, _&&_}
-use Prim.Native.Nat.{ℕ, zero, suc, _+_, _≤_, _<_}
+use mathlib.Core.Bool.{_&&_}
+use Prim.Native.Nat.{ℕ, _≤_, _<_}
 use native.Mathlib.Omega.{arith}
-use lib.Dec.{T, ltb, ltb→lt, lt→ltb}
-use native.Mathlib.Numerals.{add-one}
+use lib.Dec.{T}
 use lib.ListN.{length, take, drop, getD, length-map, List·getD-map, List·getD-append}
-use lib.Seq.{take-append-seam, take-at, getD-append-seam}
+use lib.Seq.{take-append-seam, take-at}
 use mir.Facts.{yes-and}
 use Rattle.algebra.specs.Plane.{Point}
 use Rattle.algebra.specs.Lists.{Once}
 use Rattle.algebra.proofs.Lists.{getD-mem, getD-within, once-place}
 use Rattle.algebra.proofs.All.{all-at}
 use Rattle.floats.specs.declared.b2_math.B2vec2.{B2vec2}
-use Rattle.floats.specs.B2Math.{b2-sub}
 use Rattle.floats.specs.Ranges.{point-in-range, radius-in-range, normal-in-range}
 use Rattle.shape_definitions.specs.declared.b2_polygon_shape.B2polygonShape.{B2polygonShape}
 use Rattle.shape_definitions.specs.declared.b2_polygon_shape.PolygonAnswer.{PolygonAnswer}
-use Rattle.shape_definitions.specs.Outline.{origin, point-at, place-after, edges, edges-from, normal-of-edge, fan, centroid-of}
+use Rattle.shape_definitions.specs.Outline.{origin, point-at, place-after, edges, normal-of-edge, fan, centroid-of}
 use Rattle.shape_definitions.specs.Polygon.{all-points, put-first, finished}
 use Rattle.shape_definitions.specs.Validate.{polygon-in-range}
 use Rattle.shape_definitions.proofs.Edges.{edges-length, edge-at, after-in, after-other}

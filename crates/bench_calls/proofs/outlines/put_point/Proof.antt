@@ -1,5 +1,5 @@
 -- Two stores at the front. Assumes nothing.
-use Rattle.bench_calls.proofs.Flat.{two-stores}
+use Rattle.algebra.proofs.Buffer.{two-stores}
 use borrow.Author.Needs.{needs}
 use Rattle.bench_calls.proofs.outlines.put_point.Statement.{statement}
 use Rattle.bench_calls.proofs.outlines.put_point.Tie as tie

@@ -1,7 +1,7 @@
 -- `put_word` leaves the word's four bytes at the front. Assumes nothing.
 use lib.ListN.{length-set}
 use native.Mathlib.Omega.{arith}
-use Rattle.test_calls.proofs.Bytes.{four-stores}
+use Rattle.algebra.proofs.Buffer.{four-stores}
 use borrow.Author.Needs.{needs}
 use Rattle.test_calls.proofs.words.put_word.Statement.{statement}
 use Rattle.test_calls.proofs.words.put_word.Tie as tie
