@@ -7,7 +7,7 @@ use mathlib.Core.Bool.{_&&_}
 use Prim.Native.Nat.{ℕ, _≤_, _<_}
 use native.Mathlib.Omega.{arith}
 use lib.Dec.{T}
-use lib.ListN.{length, take, drop, getD, length-map, List·getD-map, List·getD-append}
+use lib.ListN.{length, take, drop, getD, length-map, List·getD-map, List·getD-append, length-append}
 use lib.Seq.{take-append-seam, take-at}
 use mir.Facts.{yes-and}
 use Rattle.algebra.specs.Plane.{Point}
@@ -24,7 +24,8 @@ use Rattle.shape_definitions.specs.Validate.{polygon-in-range}
 use Rattle.shape_definitions.proofs.Edges.{edges-length, edge-at, after-in, after-other}
 use Rattle.grid.specs.Grid.{GridPoint, GridList, value-point, values}
 use Rattle.grid.specs.Demand3.{refusal-of, outline-from}
-use Rattle.grid.proofs.Normals.{EdgeNormal, edge-normal, edge-normal-in-range}
+use Rattle.grid.proofs.Normals.{edge-normal, edge-normal-in-range}
+use Rattle.grid.specs.GridOutline.{GridOutline, EdgeNormal}
 use Rattle.grid.proofs.Verdict.{Corners, all-in-range, Verdict, wrong-number, too-few, on-line, built, verdict}
 use Rattle.grid.proofs.Centroid.{centroid-in-range}
 
@@ -53,15 +54,6 @@ module _ (cs : List B2vec2) (grid : GridList cs) (once : Once (values cs)) (two 
       (edge-normal (at-grid i i-in) (at-grid (place-after (length cs) i) (after-in (length cs) i i-in)) corners-differ)
 
 -- ---- the outline made of such corners
-pub record GridOutline (shape : B2polygonShape) : Type 0 where
-  pub three : 3 ≤ shape .«m_count»
-  pub eight : shape .«m_count» ≤ 8
-  pub corner : (i : ℕ) → i < shape .«m_count» → GridPoint (point-at (shape .«m_vertices») i)
-  pub normal : (i : ℕ) → i < shape .«m_count»
-      → EdgeNormal (point-at (shape .«m_vertices») i) (point-at (shape .«m_vertices») (place-after (shape .«m_count») i))
-      (point-at (shape .«m_normals») i)
-  pub in-range : T (radius-in-range (shape .«m_radius»)) → T (polygon-in-range shape)
-
 module _ (old : B2polygonShape) (s : List Point) (cs : List B2vec2) (c : Corners s cs) where
   row-three : 3 ≤ length cs
   row-three = subst (λ (n : ℕ). 3 ≤ n) (sym (ap length (c .hull .is)) ∙ length-map cs value-point) (c .hull .hull .three)
@@ -108,6 +100,7 @@ module _ (old : B2polygonShape) (s : List Point) (cs : List B2vec2) (c : Corners
   finished-grid = record {
     three = row-three;
     eight = c .few;
+    full = omega (arith, length-append cs (drop (length cs) (old .«m_vertices»)));
     corner = λ i i-in. subst GridPoint (vertex-at i i-in) (c .grid (point-at cs i) (getD-mem cs i origin i-in));
     normal = λ i i-in. rw (
       ← vertex-at i i-in,
