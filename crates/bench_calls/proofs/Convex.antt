@@ -1,10 +1,9 @@
 -- What `direct_validate` answers, by cases: too few floats, a refusal, convex or not. Assumes nothing.
-use mathlib.Core.Path.{_≡_, sym, _∙_}
+use mathlib.Core.Path.{_≡_, sym}
 use mathlib.Core.Bool.{true, false}
 use mathlib.Core.List.{List}
 use Prim.Native.Nat.{ℕ, _+_, _-_, _≤_, _<_}
 use native.Mathlib.Nat.{le-refl}
-use native.Mathlib.Omega.{arith}
 use borrow.Author.Tests.{lt-ltb, le-ltb, eq-eqb, ne-eqb}
 use lib.ListN.{length, take, drop, length-drop}
 use lib.Seq.{take-all}
@@ -14,10 +13,6 @@ use Rattle.floats.specs.B2Common.{b2-polygon-radius}
 use Rattle.shape_definitions.specs.declared.b2_polygon_shape.ValidateAnswer.{ValidateAnswer}
 use Rattle.shape_definitions.specs.Validate.{b2-polygon-shape-validate}
 use Rattle.bench_calls.specs.Outlines.{point-of, points-of, outline-in, convex-code}
-
--- all of an array of eight
-pub all-eight : (ps qs : List B2vec2) → length ps ≡ 8 → take 8 ps ≡ qs → ps ≡ qs
-all-eight ps qs size first = sym (take-all 8 ps (omega arith)) ∙ first
 
 -- the floats from the sixteenth on, as a part of the slice
 pub rest-of : (xs : List Float) → take (length xs - 16) (drop 16 xs) ≡ drop 16 xs

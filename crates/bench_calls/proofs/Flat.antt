@@ -1,10 +1,11 @@
 -- Flat coordinates: reading a point, and writing points one after the other. Assumes nothing.
 use mathlib.Core.Path.{_≡_, refl, sym, _∙_, ap, ap₂}
-use mathlib.Core.List.{List, [], _∷_, _++_, map}
-use Prim.Native.Nat.{ℕ, zero, suc, _+_, _-_, _*_, _≤_, _<_}
+use mathlib.Core.List.{List, [], _∷_, _++_, map, map-append}
+use Prim.Native.Nat.{ℕ, _+_, _-_, _*_, _≤_, _<_}
+use native.Mathlib.Nat.{zero-add}
 use native.Mathlib.Numerals.{add-one}
 use native.Mathlib.Omega.{arith}
-use lib.ListN.{length, getD, take, drop, set}
+use lib.ListN.{length, getD, take, set}
 use lib.Seq.{take-suc, take-suc-set, length-take-le}
 use lib.Ieee.{Float}
 use borrow.Rule.Slice.PartMut.{putMid, midOf}
@@ -12,6 +13,7 @@ use Rattle.algebra.specs.Buffer.{over}
 use Rattle.algebra.specs.Loops.{places}
 use Rattle.algebra.proofs.Buffer.{over-next}
 use Rattle.algebra.proofs.Lists.{getD-within}
+use Rattle.algebra.proofs.Places.{places-next}
 use Rattle.floats.specs.declared.b2_math.B2vec2.{B2vec2}
 use Rattle.rounding.specs.Literals.{zero32}
 use Rattle.floats.specs.B2Math.{vec2}
@@ -22,31 +24,16 @@ pub point-read : (xs : List Float) (i : ℕ) (d : Float) → 2 * i + 2 ≤ lengt
 point-read xs i d room = ap₂ vec2 (getD-within xs (2 * i) d zero32 (omega arith)) (getD-within xs (2 * i + 1) d zero32 (omega arith))
 
 -- ---- one more place
-places-next : (i k : ℕ) → places i (suc k) ≡ places i k ++ ((i + k) ∷ [])
-places-next i zero = ap (λ (n : ℕ). n ∷ []) (sym (native.Mathlib.Nat.add-zero i))
-places-next i (suc k) = ap (_∷_ i) (places-next (suc i) k ∙ ap (λ (n : ℕ). places (suc i) k ++ (n ∷ [])) shift)
-  where
-    shift : suc i + k ≡ i + suc k
-    shift = omega arith
-
-map-next : (f : ℕ → B2vec2) (l : List ℕ) (i : ℕ) → map f (l ++ (i ∷ [])) ≡ map f l ++ (f i ∷ [])
-map-next f [] i = refl
-map-next f (j ∷ l) i = ap (_∷_ (f j)) (map-next f l i)
-
 pub points-next : (xs : List Float) (ps : List B2vec2) (p : B2vec2) (i : ℕ) → i < length ps → take i ps ≡ points-of xs i → p ≡ point-of xs i
     → take (i + 1) (set ps i p) ≡ points-of xs (i + 1)
 points-next xs ps p i room so-far p-is =
-    ap (λ (n : ℕ). take n (set ps i p)) (add-one i) ∙ take-suc-set ps i p room ∙ ap₂ (λ (l : List B2vec2) (q : B2vec2). l ++ (q ∷ [])) so-far p-is
+    ap (λ (n : ℕ). take n (set ps i p)) (add-one i) ∙ take-suc-set ps i p room
+    ∙ ap₂ (λ (l : List B2vec2) (q : B2vec2). l ++ (q ∷ [])) so-far p-is
     ∙ sym (ap (λ (n : ℕ). points-of xs n) (add-one i)
-    ∙ ap (map (point-of xs)) (places-next 0 i ∙ ap (λ (n : ℕ). places 0 i ++ (n ∷ [])) (native.Mathlib.Nat.zero-add i))
-    ∙ map-next (point-of xs) (places 0 i) i)
+    ∙ ap (map (point-of xs)) (places-next 0 i ∙ ap (λ (n : ℕ). places 0 i ++ (n ∷ [])) (zero-add i))
+    ∙ map-append (point-of xs) (places 0 i) (i ∷ []))
 
 -- ---- writing
-pub two-stores : (l : List Float) (x y : Float) → 2 ≤ length l → set (set l 0 x) 1 y ≡ x ∷ y ∷ drop 2 l
-two-stores [] x y room = absurd (omega arith)
-two-stores (a ∷ []) x y room = absurd (omega arith)
-two-stores (a ∷ b ∷ l) x y room = refl
-
 flat-append : (ps : List B2vec2) (p : B2vec2) → flat (ps ++ (p ∷ [])) ≡ flat ps ++ (p .x ∷ p .y ∷ [])
 unfolding flat
 flat-append [] p = refl

@@ -1,21 +1,17 @@
 -- What is answered and left, by cases: no room, a refusal, an outline. Assumes nothing.
-use mathlib.Core.Path.{_≡_, refl, _∙_, ap, subst}
+use mathlib.Core.Path.{_≡_, _∙_, ap, subst}
 use mathlib.Core.List.{List}
-use Prim.Native.Nat.{ℕ, zero, suc, _+_, _/_, _≤_, _<_}
+use Prim.Native.Nat.{ℕ, _+_, _/_, _≤_, _<_}
 use borrow.Author.Tests.{lt-ltb, le-ltb, eq-eqb, ne-eqb}
 use lib.ListN.{length, take, length-map}
 use lib.Ieee.{Float}
 use Rattle.algebra.specs.Buffer.{over}
-use Rattle.algebra.specs.Loops.{places}
+use Rattle.algebra.proofs.Places.{length-places}
 use Rattle.floats.specs.declared.b2_math.B2vec2.{B2vec2}
 use Rattle.shape_definitions.specs.declared.b2_polygon_shape.PolygonAnswer.{PolygonAnswer}
-use Rattle.shape_definitions.specs.Polygon.{b2-polygon-shape-set-counted}
+use Rattle.shape_definitions.specs.Polygon.{b2-polygon-shape-set, b2-polygon-shape-set-counted}
 use Rattle.shape_definitions.proofs.Counted.{counted-whole}
 use Rattle.bench_calls.specs.Outlines.{points-of, empty-outline, built, code-of, floats-of, left-by, code, left}
-
-length-places : (i n : ℕ) → length (places i n) ≡ n
-length-places i zero = refl
-length-places i (suc n) = ap suc (length-places (suc i) n)
 
 length-points : (xs : List Float) (n : ℕ) → length (points-of xs n) ≡ n
 length-points xs n = simp length-map (length-places 0 n)
@@ -26,7 +22,7 @@ pub built-counted : (xs : List Float) (ps : List B2vec2) (n read : ℕ) (answer 
 built-counted xs ps n read answer n-is all were-read is =
     is ∙ counted-whole empty-outline ps (points-of xs n) n (length-points xs n)
     (λ (few : n ≤ 8). subst (λ (k : ℕ). take k ps ≡ points-of xs k) (all few) were-read)
-    ∙ ap (λ (k : ℕ). Rattle.shape_definitions.specs.Polygon.b2-polygon-shape-set empty-outline (points-of xs k)) n-is
+    ∙ ap (λ (k : ℕ). b2-polygon-shape-set empty-outline (points-of xs k)) n-is
 
 module _ (answer : PolygonAnswer) (out : List Float) where
   -- an accepted outline is written

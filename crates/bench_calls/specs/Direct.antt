@@ -1,7 +1,6 @@
 -- Normalising the vector at the front of a list of floats; a shorter list stays as it is. Definitions only.
 use mathlib.Core.List.{List, [], _∷_}
 use lib.Ieee.{Float}
-use Rattle.floats.specs.declared.b2_math.Normalized.{Normalized}
 use Rattle.rounding.specs.Literals.{zero32}
 use Rattle.floats.specs.B2Math.{vec2, b2-normalize}
 

@@ -1,11 +1,12 @@
 -- Closed cases, computed by antt from the builder's definition, and witnesses that the hypotheses of the theorems can be met: a list with a
 -- repeat, a point on an edge and both zeros; the smallest triangle of the grid and the largest square; a list on one line; one with two
--- different points; too many points. Assumes nothing.
-use mathlib.Core.Path.{_≡_, refl, sym, subst}
+-- different points; too many points. And the bounds of normals as fractions. Assumes nothing.
+use mathlib.Core.Path.{_≡_, refl, sym, ap, subst}
 use mathlib.Core.List.{List, [], _∷_, List·Memᴰ, List·Memᴰ·cases-cons, List·Memᴰ·not-nil, map}
 use mathlib.Core.Bool.{Bool, true, _&&_}
 use mathlib.Core.Logic.{_⊎_, inl, inr}
-use Prim.Native.Nat.{ℕ, _*_, _/_, _^_}
+use Prim.Native.Nat.{ℕ, _+_, _*_, _/_, _^_}
+use native.Mathlib.Omega.{arith}
 use lib.Dec.{T, ltb, leb, eqb, leb→le}
 use mir.Facts.{and-yes}
 use lib.ListN.{take, replicate}
@@ -24,7 +25,9 @@ use Rattle.shape_definitions.specs.Polygon.{outline-of-corners, outline-of-weld
 use Rattle.shape_definitions.specs.Validate.{polygon-in-range}
 use Rattle.grid.specs.Grid.{grid-limit, GridNumber, GridPoint, GridList, values}
 use Rattle.grid.specs.Demand3.{ThreeToEight, HullRow, built-corners, refusal-of, outline-from}
-use Rattle.grid.proofs.Outline.{GridOutline}
+use Rattle.rounding.specs.Value.{metre, tick}
+use Rattle.rounding.proofs.Value.{metre-ticks}
+use Rattle.grid.specs.GridOutline.{normal-bound, direction-error, length-error, GridOutline}
 use Rattle.grid.proofs.Theorem.{first-sentence, built-outline, built-in-range}
 
 -- ---- lists by the bit patterns of their coordinates: 0, -0, 1/256, 1/2, 1, 2, 4 and -4
@@ -176,3 +179,13 @@ square-outline = built-outline skinned (points square) (grid-list square tt) (co
 
 square-in-range : T (polygon-in-range (outline-from skinned (points square)))
 square-in-range = built-in-range skinned (points square) (grid-list square tt) (computed skinned .square-accepted) skin-in-range
+
+-- ---- the bounds of normals as fractions: 1 + 2^-21, 2^-22 and 2^-19
+normal-bound-is : 2 ^ 21 * normal-bound ≡ (2 ^ 21 + 1) * metre
+normal-bound-is = let e = metre-ticks in omega arith
+
+direction-error-is : (l : ℕ) → 2 ^ 22 * direction-error l ≡ metre * l
+direction-error-is l = let e : metre * l ≡ 2 ^ 25 * tick * l = ap (λ (n : ℕ). n * l) metre-ticks in omega arith
+
+length-error-is : 2 ^ 19 * length-error ≡ metre
+length-error-is = let e = metre-ticks in omega arith

@@ -1,32 +1,31 @@
 -- What holds of the outline that is built from a grid list: 3 to 8 grid corners, at each place the normal of the edge from its corner to
 -- the next, and every number in range where the radius is. Assumes nothing.
 use mathlib.Core.Path.{_≡_, refl, sym, ap, _∙_, subst}
-use mathlib.Core.List.{List, [], _∷_, _++_, map}
+use mathlib.Core.List.{List, map}
 use mathlib.Core.List as L
-use mathlib.Core.Bool.{Bool, true, false, cond, _&&_}
-use Prim.Native.Nat.{ℕ, zero, suc, _+_, _≤_, _<_}
+use mathlib.Core.Bool.{_&&_}
+use Prim.Native.Nat.{ℕ, _≤_, _<_}
 use native.Mathlib.Omega.{arith}
-use lib.Dec.{T, ltb, ltb→lt, lt→ltb}
-use native.Mathlib.Numerals.{add-one}
-use lib.ListN.{length, take, drop, getD, length-map, List·getD-map, List·getD-append}
-use lib.Seq.{take-append-seam, take-at, getD-append-seam}
+use lib.Dec.{T}
+use lib.ListN.{length, take, drop, getD, length-map, List·getD-map, List·getD-append, length-append}
+use lib.Seq.{take-append-seam, take-at}
 use mir.Facts.{yes-and}
 use Rattle.algebra.specs.Plane.{Point}
 use Rattle.algebra.specs.Lists.{Once}
 use Rattle.algebra.proofs.Lists.{getD-mem, getD-within, once-place}
 use Rattle.algebra.proofs.All.{all-at}
 use Rattle.floats.specs.declared.b2_math.B2vec2.{B2vec2}
-use Rattle.floats.specs.B2Math.{b2-sub}
 use Rattle.floats.specs.Ranges.{point-in-range, radius-in-range, normal-in-range}
 use Rattle.shape_definitions.specs.declared.b2_polygon_shape.B2polygonShape.{B2polygonShape}
 use Rattle.shape_definitions.specs.declared.b2_polygon_shape.PolygonAnswer.{PolygonAnswer}
-use Rattle.shape_definitions.specs.Outline.{origin, point-at, place-after, edges, edges-from, normal-of-edge, fan, centroid-of}
+use Rattle.shape_definitions.specs.Outline.{origin, point-at, place-after, edges, normal-of-edge, fan, centroid-of}
 use Rattle.shape_definitions.specs.Polygon.{all-points, put-first, finished}
 use Rattle.shape_definitions.specs.Validate.{polygon-in-range}
 use Rattle.shape_definitions.proofs.Edges.{edges-length, edge-at, after-in, after-other}
 use Rattle.grid.specs.Grid.{GridPoint, GridList, value-point, values}
 use Rattle.grid.specs.Demand3.{refusal-of, outline-from}
-use Rattle.grid.proofs.Normals.{EdgeNormal, edge-normal, edge-normal-in-range}
+use Rattle.grid.proofs.Normals.{edge-normal, edge-normal-in-range}
+use Rattle.grid.specs.GridOutline.{GridOutline, EdgeNormal}
 use Rattle.grid.proofs.Verdict.{Corners, all-in-range, Verdict, wrong-number, too-few, on-line, built, verdict}
 use Rattle.grid.proofs.Centroid.{centroid-in-range}
 
@@ -55,15 +54,6 @@ module _ (cs : List B2vec2) (grid : GridList cs) (once : Once (values cs)) (two 
       (edge-normal (at-grid i i-in) (at-grid (place-after (length cs) i) (after-in (length cs) i i-in)) corners-differ)
 
 -- ---- the outline made of such corners
-pub record GridOutline (shape : B2polygonShape) : Type 0 where
-  pub three : 3 ≤ shape .«m_count»
-  pub eight : shape .«m_count» ≤ 8
-  pub corner : (i : ℕ) → i < shape .«m_count» → GridPoint (point-at (shape .«m_vertices») i)
-  pub normal : (i : ℕ) → i < shape .«m_count»
-      → EdgeNormal (point-at (shape .«m_vertices») i) (point-at (shape .«m_vertices») (place-after (shape .«m_count») i))
-      (point-at (shape .«m_normals») i)
-  pub in-range : T (radius-in-range (shape .«m_radius»)) → T (polygon-in-range shape)
-
 module _ (old : B2polygonShape) (s : List Point) (cs : List B2vec2) (c : Corners s cs) where
   row-three : 3 ≤ length cs
   row-three = subst (λ (n : ℕ). 3 ≤ n) (sym (ap length (c .hull .is)) ∙ length-map cs value-point) (c .hull .hull .three)
@@ -110,6 +100,7 @@ module _ (old : B2polygonShape) (s : List Point) (cs : List B2vec2) (c : Corners
   finished-grid = record {
     three = row-three;
     eight = c .few;
+    full = omega (arith, length-append cs (drop (length cs) (old .«m_vertices»)));
     corner = λ i i-in. subst GridPoint (vertex-at i i-in) (c .grid (point-at cs i) (getD-mem cs i origin i-in));
     normal = λ i i-in. rw (
       ← vertex-at i i-in,

@@ -1,2 +1,3 @@
 pub mod Grid
+pub mod GridOutline
 pub mod Demand3

@@ -19,6 +19,7 @@ use Rattle.sqrt.specs.Sqrt.{whole-root, rounded-root}
 use Rattle.rounding.proofs.Compared.{Compared, compared}
 use Rattle.sqrt.proofs.WholeRoot.{IsWholeRoot, whole-root-is, root-lt-of-square-lt}
 use Rattle.sqrt.proofs.WholeRoot.{four-pow, four-pow-add, four-pow-pos}
+use Rattle.sqrt.specs.Root.{RelativeSquare}
 
 -- r √h is at most half of √h away from √y: (2 r - 1)² h ≤ 4 y ≤ (2 r + 1)² h
 abbrev pub HalfUnit : ℕ → ℕ → ℕ → Type 0
@@ -138,10 +139,6 @@ rounded-root-is y y-low y-high =
     })
 
 -- ---- the relative law
--- (2^24 - 1)² g² ≤ 2^48 y ≤ (2^24 + 1)² g²
-abbrev pub RelativeSquare : ℕ → ℕ → Type 0
-RelativeSquare y gg = ((2 ^ 24 - 1) * (2 ^ 24 - 1) * gg ≤ 2 ^ 48 * y) × (2 ^ 48 * y ≤ (2 ^ 24 + 1) * (2 ^ 24 + 1) * gg)
-
 relative-of-half-unit : (y h t : ℕ) → HalfUnit y h (2 ^ 23 + t) → RelativeSquare y ((2 ^ 23 + t) * (2 ^ 23 + t) * h)
 relative-of-half-unit y h t near = (lower y h t (near .0), upper y h t (near .1))
   where

@@ -17,7 +17,8 @@ use Rattle.sqrt.specs.Sqrt.{sqrt, rounded-root}
 use Rattle.rounding.proofs.Value.{metre-is, metre-pos, has-value, positive-sign, mag-of-value, val-of-value}
 use Rattle.rounding.proofs.Value.{f32-of-value, val-signed, val-zero, AsFin, as-fin, f32-as-fin}
 use Rattle.rounding.proofs.Digits.{mag-high}
-use Rattle.sqrt.proofs.RoundedRoot.{RoundedRoot, RelativeSquare, rounded-root-is, rounded-root-relative}
+use Rattle.sqrt.proofs.RoundedRoot.{RoundedRoot, rounded-root-is, rounded-root-relative}
+use Rattle.sqrt.specs.Root.{RelativeSquare}
 use Rattle.sqrt.proofs.SqrtCases.{sqrt-of-units}
 use Rattle.rounding.proofs.Exact.{Is}
 

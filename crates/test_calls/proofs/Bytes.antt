@@ -1,24 +1,16 @@
--- Writing words: four stores at the front of a buffer are one `over`, and the words written so far grow by one. Assumes nothing.
+-- Writing words: the words written so far grow by one; all of them, or none. Assumes nothing.
 use Prim.Native.Nat.{ℕ, _+_, _-_, _*_, _≤_, _<_}
 use mathlib.Core.Path.{_≡_, refl, sym, _∙_, ap, subst}
 use mathlib.Core.List.{List, [], _∷_, _++_}
 use native.Mathlib.Omega.{arith}
 use native.Mathlib.Numerals.{add-one}
-use lib.ListN.{length, take, drop, set, getD}
+use lib.ListN.{length, take, getD}
 use lib.Seq.{take-suc, take-length, length-take-le}
 use borrow.Author.Tests.{le-leb, lt-leb}
 use borrow.Rule.Slice.PartMut.{putMid, midOf}
 use Rattle.algebra.specs.Buffer.{over}
 use Rattle.algebra.proofs.Buffer.{over-next}
 use Rattle.test_calls.specs.Words.{bytes-of-word, bytes-of, written, written-count, Written}
-
-pub four-stores : (l : List ℕ) (a b c d : ℕ) → 4 ≤ length l
-    → set (set (set (set l 0 a) 1 b) 2 c) 3 d ≡ a ∷ b ∷ c ∷ d ∷ drop 4 l
-four-stores [] a b c d h = absurd (omega arith)
-four-stores (x ∷ []) a b c d h = absurd (omega arith)
-four-stores (x ∷ y ∷ []) a b c d h = absurd (omega arith)
-four-stores (x ∷ y ∷ z ∷ []) a b c d h = absurd (omega arith)
-four-stores (x ∷ y ∷ z ∷ w ∷ l) a b c d h = refl
 
 pub bytes-append : (ws : List ℕ) (w : ℕ) → bytes-of (ws ++ (w ∷ [])) ≡ bytes-of ws ++ bytes-of-word w
 unfolding bytes-of

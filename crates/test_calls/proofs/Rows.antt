@@ -1,18 +1,15 @@
 -- Rows of points, read and written one after the other: one more point behind the first k. Assumes nothing.
-use Prim.Native.Nat.{ℕ, zero, suc, _+_, _*_, _≤_, _<_}
+use Prim.Native.Nat.{ℕ, zero, suc, _+_, _*_, _<_}
 use mathlib.Core.Path.{_≡_, refl, sym, _∙_, ap}
 use mathlib.Core.List.{List, [], _∷_, _++_, append-assoc}
 use native.Mathlib.Omega.{arith}
 use native.Mathlib.Numerals.{add-one}
 use lib.ListN.{length, take, set, getD, length-set}
-use lib.Seq.{take-all, take-suc, take-suc-set}
+use lib.Seq.{take-suc, take-suc-set}
 use Rattle.floats.specs.declared.b2_math.B2vec2.{B2vec2}
 use Rattle.shape_definitions.specs.declared.b2_polygon_shape.B2polygonShape.{B2polygonShape}
 use Rattle.test_calls.specs.Records.{bits, low-word, vector-at, points-at, points-words, polygon-words}
-
--- all of an array, by its first places
-pub whole-row : {A : Type 0} (n : ℕ) (l m : List A) → take n l ≡ m → length l ≡ n → l ≡ m
-whole-row n l m first size = sym (take-all n l (omega arith)) ∙ first
+use Rattle.algebra.proofs.Lists.{whole-row}
 
 -- ---- reading
 points-next : (request : List ℕ) (i k : ℕ) → points-at request i (suc k) ≡ points-at request i k ++ (vector-at request (i + 2 * k) ∷ [])
@@ -42,8 +39,8 @@ unfolding points-words
 words-next [] p = refl
 words-next (q ∷ ps) p = rw (words-next ps p)
 
-two-stores : (l : List ℕ) (at a b : ℕ) → at + 1 < length l → take (suc (suc at)) (set (set l at a) (suc at) b) ≡ take at l ++ (a ∷ b ∷ [])
-two-stores l at a b within =
+stored-two : (l : List ℕ) (at a b : ℕ) → at + 1 < length l → take (suc (suc at)) (set (set l at a) (suc at) b) ≡ take at l ++ (a ∷ b ∷ [])
+stored-two l at a b within =
     take-suc-set (set l at a) (suc at) b (simp length-set (omega arith))
     ∙ ap (λ (x : List ℕ). x ++ (b ∷ [])) (take-suc-set l at a (omega arith))
     ∙ append-assoc (take at l) (a ∷ []) (b ∷ [])
@@ -57,7 +54,7 @@ point-written i k ps d old all a b within room a-is b-is so-far =
     let at : i + 2 * (k + 1) ≡ suc (suc (i + 2 * k)) = omega arith in
     ap (λ (n : ℕ). take n (set (set all (i + 2 * k) a) (i + 2 * k + 1) b)) at
     ∙ ap (λ (n : ℕ). take (suc (suc (i + 2 * k))) (set (set all (i + 2 * k) a) n b)) (add-one (i + 2 * k))
-    ∙ two-stores all (i + 2 * k) a b room
+    ∙ stored-two all (i + 2 * k) a b room
     ∙ rw (so-far, a-is, b-is) (append-assoc (take i old) (points-words (take k ps)) (bits (p .x) ∷ bits (p .y) ∷ []))
     ∙ ap (λ (l : List ℕ). take i old ++ l) (sym (words-next (take k ps) p))
     ∙ ap (λ (l : List B2vec2). take i old ++ points-words l) (sym (take-suc ps k d within))

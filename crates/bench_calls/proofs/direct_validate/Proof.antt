@@ -2,7 +2,8 @@
 use mathlib.Core.Path.{_≡_, _∙_, ap}
 use Rattle.shape_definitions.specs.Validate.{b2-polygon-shape-validate}
 use Rattle.bench_calls.specs.Outlines.{points-of, outline-in}
-use Rattle.bench_calls.proofs.Convex.{all-eight, rest-of, of-parts, too-short, refused-test, convex-test, not-convex-test}
+use Rattle.algebra.proofs.Lists.{whole-row}
+use Rattle.bench_calls.proofs.Convex.{rest-of, of-parts, too-short, refused-test, convex-test, not-convex-test}
 use borrow.Author.Needs.{needs}
 use Rattle.bench_calls.proofs.direct_validate.Statement.{statement}
 use Rattle.bench_calls.proofs.direct_validate.Tie as tie
@@ -47,8 +48,9 @@ tested c =
     let start = vertices .before .before .before in
     c .b2-polygon-shape-validate .ensures
     ∙ of-parts (start .args .shape .now) (start .args .count) _ _ _ (c .before .point .ensures)
-    (all-eight _ _ (vertices .points .ensures .0) (vertices .points .ensures .1))
-    (all-eight _ _ (normals .points2 .ensures .0) (normals .points2 .ensures .1 ∙ ap (λ l. points-of l 8) (rest-of (start .args .shape .now))))
+    (whole-row 8 _ _ (vertices .points .ensures .1) (vertices .points .ensures .0))
+    (whole-row 8 _ _ (normals .points2 .ensures .1 ∙ ap (λ l. points-of l 8) (rest-of (start .args .shape .now)))
+    (normals .points2 .ensures .0))
 
 returns-2 : tie.Need-returns-2
 returns-2 c =

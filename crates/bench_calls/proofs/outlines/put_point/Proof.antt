@@ -1,5 +1,6 @@
 -- Two stores at the front. Assumes nothing.
-use Rattle.bench_calls.proofs.Flat.{two-stores}
+use mathlib.Core.List.{[], _∷_}
+use Rattle.algebra.proofs.Buffer.{over-stores}
 use borrow.Author.Needs.{needs}
 use Rattle.bench_calls.proofs.outlines.put_point.Statement.{statement}
 use Rattle.bench_calls.proofs.outlines.put_point.Tie as tie
@@ -14,7 +15,7 @@ same-length : tie.Need-same-length
 same-length c = search needs
 
 returns : tie.Need-returns
-returns c = two-stores (c .args .out .now) _ _ (c .pre)
+returns c = over-stores (_ ∷ _ ∷ []) (c .args .out .now) (c .pre)
 
 pub put-point-spec : {M : Type 1} → statement M
 put-point-spec = tie.close (tie.spec slice-write-out slice-write-out-2 same-length returns)

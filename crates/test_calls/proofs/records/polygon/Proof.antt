@@ -1,6 +1,6 @@
 -- An outline from thirty-six words. Assumes nothing.
 use Rattle.test_calls.specs.Records.{polygon-at}
-use Rattle.test_calls.proofs.Rows.{whole-row}
+use Rattle.algebra.proofs.Lists.{whole-row}
 use borrow.Author.Needs.{needs}
 use Rattle.test_calls.proofs.records.polygon.Statement.{statement}
 use Rattle.test_calls.proofs.records.polygon.Tie as tie

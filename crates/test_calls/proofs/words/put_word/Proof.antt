@@ -1,7 +1,8 @@
 -- `put_word` leaves the word's four bytes at the front. Assumes nothing.
+use mathlib.Core.List.{[], _∷_}
 use lib.ListN.{length-set}
 use native.Mathlib.Omega.{arith}
-use Rattle.test_calls.proofs.Bytes.{four-stores}
+use Rattle.algebra.proofs.Buffer.{over-stores}
 use borrow.Author.Needs.{needs}
 use Rattle.test_calls.proofs.words.put_word.Statement.{statement}
 use Rattle.test_calls.proofs.words.put_word.Tie as tie
@@ -34,7 +35,7 @@ same-length : tie.Need-same-length
 same-length c = search needs
 
 returns : tie.Need-returns
-returns c = four-stores (c .args .out .now) _ _ _ _ (c .pre)
+returns c = over-stores (_ ∷ _ ∷ _ ∷ _ ∷ []) (c .args .out .now) (c .pre)
 
 pub put-word-spec : {M : Type 1} → statement M
 put-word-spec =
