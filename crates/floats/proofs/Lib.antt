@@ -3,3 +3,4 @@ pub mod Ends
 pub mod Turned
 pub mod Controls
 pub mod VectorControls
+pub mod RangeControls
