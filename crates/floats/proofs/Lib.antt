@@ -6,3 +6,4 @@ pub mod Turned
 pub mod Theorem
 pub mod Controls
 pub mod VectorControls
+pub mod RangeControls
