@@ -14,13 +14,14 @@ use lib.Seq.{drop-cons, drop-length, take-suc-set}
 use borrow.Author.Tests.{ltb-true, leb-true, lt-ltb, le-ltb}
 use Rattle.lines.specs.Hex.{nibble, with-byte, unhex, largest-frame, line-limit, frame-of, Decoded}
 
--- a character between two others
-pub from-test : (low x high : ℕ) → leb low x && leb x high ≡ true → low ≤ x
-from-test low x high h = go (leb low x) refl h
+-- a character between two others, both among them
+pub between : (low x high : ℕ) → leb low x && leb x high ≡ true → (low ≤ x) × (x ≤ high)
+between low x high both = go (leb low x) (leb x high) refl refl both
   where
-    go : (t : Bool) → leb low x ≡ t → t && leb x high ≡ true → low ≤ x
-    go true is h = leb-true low x is
-    go false is h = let never : _≡_ {A = Bool} false true = h in absurd (let z : _≡_ {A = ℕ} 0 1 = cc in omega arith)
+    go : (t u : Bool) → leb low x ≡ t → leb x high ≡ u → t && u ≡ true → (low ≤ x) × (x ≤ high)
+    go true true from to both = (leb-true low x from, leb-true x high to)
+    go true false from to both = absurd (let z : _≡_ {A = ℕ} 0 1 = cc in omega arith)
+    go false u from to both = absurd (let z : _≡_ {A = ℕ} 0 1 = cc in omega arith)
 
 -- ---- what was read so far
 -- whether only digits were met, the bytes done, and what the rest of the line says

@@ -1,15 +1,15 @@
 -- By the two ranges of characters. Assumes nothing.
 use native.Mathlib.Omega.{arith}
-use Rattle.lines.proofs.Reading.{from-test}
+use Rattle.lines.proofs.Reading.{between}
 use borrow.Author.Needs.{needs}
 use Rattle.lines.proofs.hex.nibble.Statement.{statement}
 use Rattle.lines.proofs.hex.nibble.Tie as tie
 
 sub-result : tie.Need-sub-result
-sub-result c = omega (arith, from-test 48 (c .before .args .x) 57 (c .if1 .taken))
+sub-result c = omega (arith, between 48 (c .before .args .x) 57 (c .if1 .taken) .0)
 
 sub-result-2 : tie.Need-sub-result-2
-sub-result-2 c = omega (arith, from-test 97 (c .before .before .args .x) 102 (c .if2 .taken))
+sub-result-2 c = omega (arith, between 97 (c .before .before .args .x) 102 (c .if2 .taken) .0)
 
 add-result : tie.Need-add-result
 add-result c = search needs
