@@ -1,4 +1,4 @@
--- Closed cases that pin the definitions of this crate: what they give is worked out by hand on the right. Assumes nothing.
+-- Closed cases that pin the definitions of this crate; what they give is worked out by hand. Assumes nothing.
 use mathlib.Core.Path.{_≡_, refl}
 use mathlib.Core.List.{List, [], _∷_, _++_, map}
 use mathlib.Core.Option.{none, some}
@@ -13,7 +13,7 @@ use Rattle.lines.specs.Fields.{byte-at, number-at, float-at, vector-at, 
 use Rattle.lines.specs.Fields.{number-bytes, float-bytes, vector-bytes}
 use Rattle.lines.proofs.Text.{text}
 
--- ---- every character's value: the sixteen digits, and 16 for all others, NUL, CR, capitals and those from 128 on among them
+-- ---- every character's value: the sixteen digits, and 16 for all others, NUL, CR, capitals and 80 to ff among them
 digits-are : map nibble (text "0123456789abcdef") ≡ places 0 16
 digits-are = refl
 

@@ -1,5 +1,5 @@
--- Reading a line two characters at a time: the bytes read so far, and what the rest of the line says, make what the whole line says,
--- unless another character was met. Assumes nothing.
+-- Reading a line two characters at a time: the bytes read so far, and what the rest of the line says, make what the
+-- whole line says, unless another character was met. Assumes nothing.
 use Prim.Native.Nat.{ℕ, suc, _+_, _*_, _%_, _≤_, _<_}
 use mathlib.Core.Path.{_≡_, refl, sym, _∙_, ap}
 use mathlib.Core.Bool.{Bool, true, false, cond, _&&_}
@@ -46,10 +46,11 @@ pub record ReadSoFar (line old : List ℕ) (n : ℕ) (bytes : List ℕ) (digits 
   pub room : largest-frame ≤ length old
   pub read : joined digits (take i bytes) (unhex (drop (2 * i) line)) ≡ unhex line
 
-pub read-none-yet : (line old : List ℕ) (n : ℕ) → 2 * n ≡ length line → length line ≤ line-limit → largest-frame ≤ length old
-    → ReadSoFar line old n old true 0
+pub read-none-yet : (line old : List ℕ) (n : ℕ) → 2 * n ≡ length line → length line ≤ line-limit
+    → largest-frame ≤ length old → ReadSoFar line old n old true 0
 read-none-yet line old n even short room =
-    record { within = omega arith; even = even; short = short; same-length = refl; room = room; read = joined-none-yet (unhex line) }
+    let read = joined-none-yet (unhex line) in
+    record { within = omega arith; even = even; short = short; same-length = refl; room = room; read = read }
 
 -- two more characters
 joined-pair : (digits : Bool) (done : List ℕ) (high low : ℕ) (rest : Option (List ℕ))
@@ -62,7 +63,8 @@ joined-pair true done high low rest = go (ltb high 16) (ltb low 16) refl refl
         → Option·map (_++_ done) (cond (t && u) (Option·map (_∷_ (high * 16 + low)) rest) none)
         ≡ cond (t && u) (Option·map (_++_ (done ++ ((high % 16 * 16 + low % 16) ∷ []))) rest) none
     go true true high-is low-is =
-        rw (mod-eq-of-lt (ltb-true high 16 high-is), mod-eq-of-lt (ltb-true low 16 low-is)) (joined-one-more done (high * 16 + low) rest)
+        rw (mod-eq-of-lt (ltb-true high 16 high-is), mod-eq-of-lt (ltb-true low 16 low-is))
+        (joined-one-more done (high * 16 + low) rest)
     go true false high-is low-is = refl
     go false u high-is low-is = refl
 
@@ -128,7 +130,8 @@ pub odd : (line bytes : List ℕ) → length line ≤ line-limit → length line
 odd line bytes short is-odd = malformed line bytes short (unhex-odd line is-odd)
 
 -- after the last turn of the loop
-module _ (line old : List ℕ) (n : ℕ) (bytes : List ℕ) (digits : Bool) (i : ℕ) (last : n ≤ i) (so-far : ReadSoFar line old n bytes digits i) where
+module _ (line old : List ℕ) (n : ℕ) (bytes : List ℕ) (digits : Bool) (i : ℕ) (last : n ≤ i)
+    (so-far : ReadSoFar line old n bytes digits i) where
   pub other-character : digits ≡ false → Decoded line 0 bytes
   other-character met = malformed line bytes (so-far .short) (sym (rw met at (so-far .read)))
 

@@ -23,10 +23,13 @@ hex-append [] next = refl
 hex-append (b ∷ first) next = rw (hex-append first next)
 
 -- the digits of the first i bytes, and of one more
-hex-next : (bytes : List ℕ) (i : ℕ) → i < length bytes → hex (take (i + 1) bytes) ≡ hex (take i bytes) ++ byte-digits (getD bytes i 0)
+hex-next : (bytes : List ℕ) (i : ℕ) → i < length bytes
+    → hex (take (i + 1) bytes) ≡ hex (take i bytes) ++ byte-digits (getD bytes i 0)
 unfolding hex
 hex-next bytes i within =
-    ap (λ (n : ℕ). hex (take n bytes)) (add-one i) ∙ ap hex (take-suc bytes i 0 within) ∙ hex-append (take i bytes) (getD bytes i 0 ∷ [])
+    ap (λ (n : ℕ). hex (take n bytes)) (add-one i)
+    ∙ ap hex (take-suc bytes i 0 within)
+    ∙ hex-append (take i bytes) (getD bytes i 0 ∷ [])
 
 -- after i turns of the loop that writes n bytes to a line, which held old
 pub record WrittenSoFar (bytes old : List ℕ) (n : ℕ) (line : List ℕ) (i : ℕ) : Type 0 where
@@ -36,13 +39,16 @@ pub record WrittenSoFar (bytes old : List ℕ) (n : ℕ) (line : List ℕ) (i : 
   pub same-length : length line ≡ length old
   pub written : line ≡ over (hex (take i bytes)) old
 
-pub written-none-yet : (bytes old : List ℕ) → 2 * length bytes + 1 ≤ length old → WrittenSoFar bytes old (length bytes) old 0
+pub written-none-yet : (bytes old : List ℕ) → 2 * length bytes + 1 ≤ length old
+    → WrittenSoFar bytes old (length bytes) old 0
 unfolding hex
-written-none-yet bytes old room = record { within = omega arith; all = refl; room = room; same-length = refl; written = refl }
+written-none-yet bytes old room =
+    record { within = omega arith; all = refl; room = room; same-length = refl; written = refl }
 
 -- one turn of the loop: one more byte is written behind the first i
 pub byte-written : (bytes old : List ℕ) (n : ℕ) (line : List ℕ) (i : ℕ) (part : List ℕ) → i < n
-    → part ≡ over (byte-digits (getD bytes i 0)) (midOf (2 * i) (length line - 2 * i) line) → WrittenSoFar bytes old n line i
+    → part ≡ over (byte-digits (getD bytes i 0)) (midOf (2 * i) (length line - 2 * i) line)
+    → WrittenSoFar bytes old n line i
     → WrittenSoFar bytes old n (putMid (2 * i) (length line - 2 * i) line part) (i + 1)
 byte-written bytes old n line i part more part-written so-far = record {
   within = omega arith;
@@ -57,8 +63,8 @@ byte-written bytes old n line i part more part-written so-far = record {
 
     next : putMid (2 * i) (length line - 2 * i) line part ≡ over (hex (take (i + 1) bytes)) old
     next =
-        over-next (hex (take i bytes)) (byte-digits (getD bytes i 0)) old line part (2 * i) (size i (omega arith)) (so-far .written)
-        part-written
+        over-next (hex (take i bytes)) (byte-digits (getD bytes i 0)) old line part (2 * i) (size i (omega arith))
+        (so-far .written) part-written
         ∙ ap (λ (digits : List ℕ). over digits old) (sym (hex-next bytes i (omega arith)))
 
     fits : length (hex (take (i + 1) bytes)) ≤ length old
@@ -81,4 +87,5 @@ line-written bytes old n line i last so-far = record {
     size = length-hex bytes ∙ ap (λ (k : ℕ). 2 * k) (sym (so-far .all))
 
     whole : line ≡ over (hex bytes) old
-    whole = so-far .written ∙ ap (λ (l : List ℕ). over (hex l) old) (ap (λ (k : ℕ). take k bytes) all ∙ take-length bytes)
+    whole =
+        so-far .written ∙ ap (λ (l : List ℕ). over (hex l) old) (ap (λ (k : ℕ). take k bytes) all ∙ take-length bytes)

@@ -42,7 +42,8 @@ loop-less c = search needs
 loop-again : tie.Need-loop-again Inv-loop μ-loop
 loop-again c =
     let at-loop = c .before .before .before .before .before .before in
-    byte-written _ _ _ (at-loop .loop .line) (at-loop .loop .i) _ (omega arith) (c .before .before .put-byte .ensures) (at-loop .loop .inv)
+    let loop′ = at-loop .loop in
+    byte-written _ _ _ (loop′ .line) (loop′ .i) _ (omega arith) (c .before .before .put-byte .ensures) (loop′ .inv)
 
 mul-end : tie.Need-mul-end Inv-loop μ-loop
 mul-end c = search needs
