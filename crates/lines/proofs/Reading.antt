@@ -1,5 +1,5 @@
--- Reading a line two characters at a time: the bytes read so far, and what the rest of the line says, make what the whole line says,
--- unless another character was met. Assumes nothing.
+-- Reading a line two characters at a time: the bytes read so far, and what the rest of the line says, make what the
+-- whole line says, unless another character was met. Assumes nothing.
 use Prim.Native.Nat.{ℕ, suc, _+_, _*_, _%_, _≤_, _<_}
 use mathlib.Core.Path.{_≡_, refl, sym, _∙_, ap}
 use mathlib.Core.Bool.{Bool, true, false, cond, _&&_}
@@ -14,13 +14,14 @@ use lib.Seq.{drop-cons, drop-length, take-suc-set}
 use borrow.Author.Tests.{ltb-true, leb-true, lt-ltb, le-ltb}
 use Rattle.lines.specs.Hex.{nibble, with-byte, unhex, largest-frame, line-limit, frame-of, Decoded}
 
--- a character between two others
-pub from-test : (low x high : ℕ) → leb low x && leb x high ≡ true → low ≤ x
-from-test low x high h = go (leb low x) refl h
+-- a character between two others, both among them
+pub between : (low x high : ℕ) → leb low x && leb x high ≡ true → (low ≤ x) × (x ≤ high)
+between low x high both = go (leb low x) (leb x high) refl refl both
   where
-    go : (t : Bool) → leb low x ≡ t → t && leb x high ≡ true → low ≤ x
-    go true is h = leb-true low x is
-    go false is h = let never : _≡_ {A = Bool} false true = h in absurd (let z : _≡_ {A = ℕ} 0 1 = cc in omega arith)
+    go : (t u : Bool) → leb low x ≡ t → leb x high ≡ u → t && u ≡ true → (low ≤ x) × (x ≤ high)
+    go true true from to both = (leb-true low x from, leb-true x high to)
+    go true false from to both = absurd (let z : _≡_ {A = ℕ} 0 1 = cc in omega arith)
+    go false u from to both = absurd (let z : _≡_ {A = ℕ} 0 1 = cc in omega arith)
 
 -- ---- what was read so far
 -- whether only digits were met, the bytes done, and what the rest of the line says
@@ -45,10 +46,11 @@ pub record ReadSoFar (line old : List ℕ) (n : ℕ) (bytes : List ℕ) (digits 
   pub room : largest-frame ≤ length old
   pub read : joined digits (take i bytes) (unhex (drop (2 * i) line)) ≡ unhex line
 
-pub read-none-yet : (line old : List ℕ) (n : ℕ) → 2 * n ≡ length line → length line ≤ line-limit → largest-frame ≤ length old
-    → ReadSoFar line old n old true 0
+pub read-none-yet : (line old : List ℕ) (n : ℕ) → 2 * n ≡ length line → length line ≤ line-limit
+    → largest-frame ≤ length old → ReadSoFar line old n old true 0
 read-none-yet line old n even short room =
-    record { within = omega arith; even = even; short = short; same-length = refl; room = room; read = joined-none-yet (unhex line) }
+    let read = joined-none-yet (unhex line) in
+    record { within = omega arith; even = even; short = short; same-length = refl; room = room; read = read }
 
 -- two more characters
 joined-pair : (digits : Bool) (done : List ℕ) (high low : ℕ) (rest : Option (List ℕ))
@@ -61,7 +63,8 @@ joined-pair true done high low rest = go (ltb high 16) (ltb low 16) refl refl
         → Option·map (_++_ done) (cond (t && u) (Option·map (_∷_ (high * 16 + low)) rest) none)
         ≡ cond (t && u) (Option·map (_++_ (done ++ ((high % 16 * 16 + low % 16) ∷ []))) rest) none
     go true true high-is low-is =
-        rw (mod-eq-of-lt (ltb-true high 16 high-is), mod-eq-of-lt (ltb-true low 16 low-is)) (joined-one-more done (high * 16 + low) rest)
+        rw (mod-eq-of-lt (ltb-true high 16 high-is), mod-eq-of-lt (ltb-true low 16 low-is))
+        (joined-one-more done (high * 16 + low) rest)
     go true false high-is low-is = refl
     go false u high-is low-is = refl
 
@@ -127,7 +130,8 @@ pub odd : (line bytes : List ℕ) → length line ≤ line-limit → length line
 odd line bytes short is-odd = malformed line bytes short (unhex-odd line is-odd)
 
 -- after the last turn of the loop
-module _ (line old : List ℕ) (n : ℕ) (bytes : List ℕ) (digits : Bool) (i : ℕ) (last : n ≤ i) (so-far : ReadSoFar line old n bytes digits i) where
+module _ (line old : List ℕ) (n : ℕ) (bytes : List ℕ) (digits : Bool) (i : ℕ) (last : n ≤ i)
+    (so-far : ReadSoFar line old n bytes digits i) where
   pub other-character : digits ≡ false → Decoded line 0 bytes
   other-character met = malformed line bytes (so-far .short) (sym (rw met at (so-far .read)))
 

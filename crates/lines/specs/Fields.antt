@@ -1,5 +1,5 @@
--- The fields of frames and answers: a number is four bytes, highest first, and a float its bits. Read at a place, where every byte past
--- the end is 0, and written. Definitions only.
+-- The fields of frames and answers: a number is four bytes, highest first, and a float its bits. Read at a place, where
+-- every byte past the end is 0, and written. Definitions only.
 use Prim.Native.Nat.{ℕ, zero, suc, _+_, _*_, _/_, _%_, _^_}
 use mathlib.Core.List.{List, [], _∷_, _++_}
 use lib.ListN.{getD}
@@ -14,7 +14,8 @@ abbrev pub byte-at : List ℕ → ℕ → ℕ
 byte-at bytes at = getD bytes at 0
 
 abbrev pub number-at : List ℕ → ℕ → ℕ
-number-at bytes at = ((byte-at bytes at * 256 + byte-at bytes (at + 1)) * 256 + byte-at bytes (at + 2)) * 256 + byte-at bytes (at + 3)
+number-at bytes at =
+    ((byte-at bytes at * 256 + byte-at bytes (at + 1)) * 256 + byte-at bytes (at + 2)) * 256 + byte-at bytes (at + 3)
 
 abbrev pub float-at : List ℕ → ℕ → Float
 float-at bytes at = ofBits binary32 (number-at bytes at)

@@ -1,5 +1,5 @@
--- Document 01, "The touch record": lines of lowercase hexadecimal, two digits a byte, and the bytes that a line says. Characters are
--- their numbers: 0 to 9 are 48 to 57, a to f are 97 to 102. Definitions only.
+-- Document 01, "The touch record": lines of lowercase hexadecimal, two digits a byte, and the bytes that a line says.
+-- Characters are their numbers: 0 to 9 are 48 to 57, a to f are 97 to 102. Definitions only.
 use Prim.Native.Nat.{ℕ, _+_, _*_, _/_, _%_, _-_, _≤_}
 use mathlib.Core.Path.{_≡_}
 use mathlib.Core.Bool.{cond, _&&_}

@@ -1,23 +1,23 @@
 -- The first k points are read. Assumes nothing.
-use Prim.Native.Nat.{_+_, _*_, _-_, _≤_}
-use mathlib.Core.Path.{_≡_, refl}
+use Prim.Native.Nat.{_-_}
+use mathlib.Core.Path.{refl}
 use native.Mathlib.Omega.{arith}
-use lib.ListN.{length, take, length-set}
 use Rattle.lines.specs.Fields.{points-at}
-use Rattle.lines.proofs.Points.{point-read}
+use Rattle.lines.proofs.Points.{PointsSoFar, point-read, points-read}
 use borrow.Author.Needs.{needs}
 use Rattle.lines.proofs.fields.points.Statement.{statement}
 use Rattle.lines.proofs.fields.points.Tie as tie
 
 abbrev Inv-loop : tie.InvT-loop
-Inv-loop bytes at n ps₀ k₀ ps k = (k ≤ n) × (n ≤ 8) × (at + 8 * n ≤ length bytes) × (length ps ≡ 8) × (take k ps ≡ points-at bytes at k)
+Inv-loop bytes at n ps₀ k₀ ps k = PointsSoFar bytes at n ps k
 
 abbrev μ-loop : tie.MeasureT-loop
 μ-loop bytes at n ps₀ k₀ ps k = n - k
 
 loop-holds : tie.Need-loop-holds Inv-loop μ-loop
 unfolding points-at
-loop-holds c = (omega arith, omega arith, omega arith, refl, refl)
+loop-holds c =
+    record { within = omega arith; few = omega arith; room = omega arith; eight = refl; read = refl }
 
 mul-vector : tie.Need-mul-vector Inv-loop μ-loop
 mul-vector c = search needs
@@ -43,13 +43,10 @@ loop-less c = search needs
 loop-again : tie.Need-loop-again Inv-loop μ-loop
 loop-again c =
     let loop′ = c .before .before .loop in
-    (omega arith, omega arith, omega arith, simp length-set (loop′ .inv .3), point-read _ _ (loop′ .k) (loop′ .ps) _ (omega arith) (c .vector .ensures) (loop′ .inv .4))
+    point-read _ _ _ (loop′ .ps) (loop′ .k) _ (omega arith) (c .vector .ensures) (loop′ .inv)
 
 returns : tie.Need-returns Inv-loop μ-loop
-returns c =
-    let loop′ = c .before .loop in
-    let args′ = c .before .before .before .args in
-    let all : loop′ .k ≡ args′ .n = omega arith in (rw all at (loop′ .inv .4), loop′ .inv .3)
+returns c = points-read _ _ _ (c .before .loop .ps) (c .before .loop .k) (c .loop-test .left) (c .before .loop .inv)
 
 pub points-spec : {M : Type 1} → statement M
 points-spec =

@@ -29,7 +29,9 @@ returns c =
     let put-float2′ = c .before .before .put-float2 in
     let put-float′ = c .before .before .before .before .before .before .put-float in
     let args′ = c .before .before .before .before .before .before .before .before .before .args in
-    over-next (float-bytes (args′ .v .x)) (float-bytes (args′ .v .y)) (args′ .out .now) _ _ 4 refl (put-float′ .ensures) (put-float2′ .ensures)
+    let v = args′ .v in
+    over-next (float-bytes (v .x)) (float-bytes (v .y)) (args′ .out .now) _ _ 4 refl (put-float′ .ensures)
+    (put-float2′ .ensures)
 
 pub put-vector-spec : {M : Type 1} → statement M
 put-vector-spec =

@@ -1,15 +1,22 @@
 -- By the two ranges of characters. Assumes nothing.
+use Prim.Native.Nat.{_≤_}
 use native.Mathlib.Omega.{arith}
-use Rattle.lines.proofs.Reading.{from-test}
+use Rattle.lines.proofs.Reading.{between}
 use borrow.Author.Needs.{needs}
 use Rattle.lines.proofs.hex.nibble.Statement.{statement}
 use Rattle.lines.proofs.hex.nibble.Tie as tie
 
 sub-result : tie.Need-sub-result
-sub-result c = omega (arith, from-test 48 (c .before .args .x) 57 (c .if1 .taken))
+sub-result c =
+    let x = c .before .args .x in
+    let from : 48 ≤ x = between 48 x _ (c .if1 .taken) .0 in
+    omega arith
 
 sub-result-2 : tie.Need-sub-result-2
-sub-result-2 c = omega (arith, from-test 97 (c .before .before .args .x) 102 (c .if2 .taken))
+sub-result-2 c =
+    let x = c .before .before .args .x in
+    let from : 97 ≤ x = between 97 x _ (c .if2 .taken) .0 in
+    omega arith
 
 add-result : tie.Need-add-result
 add-result c = search needs

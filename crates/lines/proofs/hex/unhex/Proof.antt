@@ -1,7 +1,8 @@
 -- The loop: the bytes so far, and what the rest of the line says, make what the whole line says. Assumes nothing.
 use Prim.Native.Nat.{_-_}
 use native.Mathlib.Omega.{arith}
-use Rattle.lines.proofs.Reading.{ReadSoFar, read-none-yet, byte-read, overlong, odd, other-character, only-digits}
+use Rattle.lines.proofs.Reading.{ReadSoFar, read-none-yet, byte-read}
+use Rattle.lines.proofs.Reading.{overlong, odd, other-character, only-digits}
 use borrow.Author.Needs.{needs}
 use Rattle.lines.proofs.hex.unhex.Statement.{statement}
 use Rattle.lines.proofs.hex.unhex.Tie as tie
