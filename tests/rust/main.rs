@@ -3,13 +3,18 @@
 //! usage: differential CASES SEED               compares, for each row until CASES were asked of the references
 //!        differential store FILE CASES SEED    prints answers for tests/stored/FILE.txt, on which the references agree
 #![allow(unknown_lints, unexpected_cfgs)]
+mod bodies;
 #[cfg(box2d)]
 mod box2d_oracle;
 mod compare;
+mod contacts;
 mod floats;
 mod generators;
 mod malformed;
+mod manifolds;
 mod ranges;
+#[cfg(papers)]
+mod rust_contacts;
 #[cfg(papers)]
 mod rust_oracle;
 mod shapes;

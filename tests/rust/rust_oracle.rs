@@ -1,4 +1,5 @@
-//! The unmodified Rust behind the request numbers of `calls`, on words. A panic of the Rust is `None`.
+//! The unmodified Rust behind the request numbers of `calls`, on words. A panic of the Rust is `None`. Contacts are in rust_contacts.
+use crate::rust_contacts;
 use box2d_rs::b2_common::B2_POLYGON_RADIUS;
 use box2d_rs::b2_math::{b2_sqrt, B2vec2};
 use box2d_rs::private::collision::{b2_edge_shape, b2_polygon_shape};
@@ -102,6 +103,6 @@ pub fn answer(request: &[u32]) -> Option<Vec<u32>> {
             words.extend(vec_words(v));
             Some(words)
         }
-        entry => panic!("no entry {entry} of the Rust"),
+        entry => rust_contacts::answer(entry, from),
     }
 }

@@ -1,5 +1,7 @@
 //! The table of entries: a row for each, with its generator and what a comparison has to know of it.
+use crate::contacts::{self, MANIFOLD, TRANSFORM};
 use crate::floats::{self, KINDS};
+use crate::manifolds;
 use crate::ranges::{EDGE, POLYGON};
 use crate::shapes;
 use crate::support::{calls, Random};
@@ -103,6 +105,29 @@ const WALL: Row = Row {
     closed: &[(2, 1)],
     ..BOX
 };
+fn old_manifold(request: &[u32]) -> Vec<u32> {
+    request[1..1 + MANIFOLD].to_vec()
+}
+
+const CIRCLES: Row = Row {
+    name: "circles",
+    entry: 7,
+    stored: "contacts",
+    generate: contacts::circles,
+    refusal: contacts::refusal,
+    reachable: &[0, 2, 6],
+    refused: old_manifold,
+    length: 1 + MANIFOLD + 3 + TRANSFORM + 3 + TRANSFORM,
+    record: MANIFOLD,
+    plain: &[0, 1, 10, 15],
+    closed: &[(1, 2)],
+    kinds: contacts::kinds,
+    wanted: &["0 points", "1 point", "circles"],
+    ours: CONTACTS,
+    ..BOX
+};
+/// Ours for entries 7 to 14, not there yet.
+const CONTACTS: Option<fn(&[u32]) -> Vec<u32>> = None;
 const ROOT: Row = Row {
     name: "root",
     entry: 15,
@@ -134,6 +159,91 @@ pub const TABLE: &[Row] = &[
     VALIDATE,
     WALL,
     Row { name: "two-sided wall", entry: 6, generate: shapes::set_two_sided, length: 5 + EDGE, ..WALL },
+    CIRCLES,
+    Row {
+        name: "outline and circle",
+        entry: 8,
+        generate: contacts::outline_and_circle,
+        reachable: &[0, 2, 6, 7],
+        length: 1 + MANIFOLD + POLYGON + TRANSFORM + 3 + TRANSFORM,
+        wanted: &["0 points", "1 point", "face A"],
+        ..CIRCLES
+    },
+    Row {
+        name: "outlines",
+        entry: 9,
+        generate: contacts::outlines,
+        reachable: &[0, 2, 6, 7],
+        length: 1 + MANIFOLD + 2 * POLYGON + 2 * TRANSFORM,
+        wanted: &["0 points", "1 point", "2 points", "face A", "face B"],
+        ..CIRCLES
+    },
+    Row {
+        name: "wall and circle",
+        entry: 10,
+        generate: contacts::wall_and_circle,
+        panics: &[8],
+        reachable: &[0, 2, 6, 8],
+        length: 1 + MANIFOLD + EDGE + TRANSFORM + 3 + TRANSFORM,
+        closed: &[(1, 2), (2 + MANIFOLD, 1)],
+        wanted: &["0 points", "1 point", "circles", "face A"],
+        ..CIRCLES
+    },
+    Row {
+        name: "wall and outline",
+        entry: 11,
+        generate: contacts::wall_and_outline,
+        reachable: &[0, 2, 6, 7],
+        length: 1 + MANIFOLD + EDGE + TRANSFORM + POLYGON + TRANSFORM,
+        closed: &[(1, 2), (2 + MANIFOLD, 1)],
+        wanted: &["0 points", "1 point", "2 points", "face A", "face B"],
+        ..CIRCLES
+    },
+    Row {
+        name: "clip",
+        entry: 12,
+        generate: manifolds::clip,
+        refusal: manifolds::clip_refusal,
+        reachable: &[0, 9],
+        refused: |request| [&[0], &request[1..7]].concat(),
+        length: 17,
+        record: 7,
+        plain: &[0, 3, 6],
+        closed: &[],
+        kinds: manifolds::clip_kinds,
+        wanted: &["0 ends", "1 end", "2 ends", "cut"],
+        ..CIRCLES
+    },
+    Row {
+        name: "world points",
+        entry: 13,
+        generate: manifolds::world_points,
+        refusal: manifolds::world_refusal,
+        reachable: &[0, 6, 7, 9],
+        refused: |request| request[1..9].to_vec(),
+        length: 1 + 8 + MANIFOLD + 2 * TRANSFORM + 2,
+        record: 8,
+        plain: &[],
+        closed: &[(9, 2)],
+        kinds: manifolds::world_kinds,
+        wanted: &["0 points", "1 point", "2 points", "circles", "circles along x", "face A", "face B"],
+        ..CIRCLES
+    },
+    Row {
+        name: "point states",
+        entry: 14,
+        generate: manifolds::point_states,
+        refusal: manifolds::states_refusal,
+        reachable: &[0, 7],
+        refused: |request| request[1..5].to_vec(),
+        length: 5 + 2 * MANIFOLD,
+        record: 4,
+        plain: &[0, 1, 2, 3],
+        closed: &[(1, 3), (2, 3), (3, 3), (4, 3), (5, 2), (21, 2)],
+        kinds: manifolds::states_kinds,
+        wanted: &["null", "add", "persist", "remove"],
+        ..CIRCLES
+    },
     ROOT,
     Row {
         name: "normalise",
