@@ -1,9 +1,9 @@
-# What the suites share, and the commands beside them. Sourced; the working folder becomes the repository's root.
-# A check prints `ok: NAME` or `FAILED: NAME: why`. Status 3 of a command is "not at hand", used only where the papers' folder
-# is absent or the package registry cannot be reached; every other status but 0 is a failure.
+# What the suites share, and the commands beside them. Sourced; the working folder becomes the repository's root. A
+# check prints `ok: NAME` or `FAILED: NAME: why`. Status 3 of a command is "not at hand", used only where the papers'
+# folder is absent or the package registry cannot be reached; every other status but 0 is a failure.
 cd "$(dirname "${BASH_SOURCE[0]}")/.." || exit 1
 
-# The crates with C exports and their header: a new name is written here (and in examples/host.c, which includes the header).
+# The crates with C exports and their header: a new name is written here, and in examples/host.c, which includes it.
 calls_crate=calls
 bench_crate=direct
 header=netxurbil_calls.h
@@ -52,7 +52,8 @@ same() {
     diff "$1" "$2"
 }
 
-# counted NAME COMMAND..: a command that makes checks of its own and says how many in its last line, `N passed, M failed`
+# counted NAME COMMAND..: a command that makes checks of its own and says how many in its last line,
+# `N passed, M failed`
 counted() {
     local name=$1 log status; shift
     log=$(mktemp)
@@ -61,8 +62,8 @@ counted() {
     rm -f "$log"
 }
 
-# add_up NAME LOG STATUS WORDS: adds the counts of the log's last line, `WORDS N passed, M failed`. A failure where there is no such line,
-# where it counts nothing, and where it does not fit the status.
+# add_up NAME LOG STATUS WORDS: adds the counts of the log's last line, `WORDS N passed, M failed`. A failure where
+# there is no such line, where it counts nothing, and where it does not fit the status.
 add_up() {
     local last good bad
     last=$(tail -n 1 "$2")
@@ -87,19 +88,22 @@ summary() {
     [ $failed -eq 0 ]
 }
 
-# install PACKAGE: from Debian. Status 3 where the registry cannot be reached, 1 where the package cannot be had from it
+# install PACKAGE: from Debian. Status 3 where the registry cannot be reached, 1 where the package cannot be had
 install() {
-    apt-get update -qq -o APT::Update::Error-Mode=any > /dev/null 2>&1 || { echo "the package registry cannot be reached"; return 3; }
+    apt-get update -qq -o APT::Update::Error-Mode=any > /dev/null 2>&1 ||
+        { echo "the package registry cannot be reached"; return 3; }
     apt-get install -y -qq "$1" > /dev/null 2>&1 || { echo "$1 cannot be installed"; return 1; }
 }
 
-# tool COMMAND PACKAGE: a check that the command is there, installed where it is missing. Never "not at hand": nothing goes without it.
+# tool COMMAND PACKAGE: a check that the command is there, installed where it is missing. Never "not at hand": nothing
+# goes without it.
 tool() {
     command -v "$1" > /dev/null || install "$2"
-    if command -v "$1" > /dev/null; then ok "the tool $1"; else fail "the tool $1" "it is missing and could not be installed"; fi
+    if command -v "$1" > /dev/null; then ok "the tool $1"; else fail "the tool $1" "missing, and not installed"; fi
 }
 
-# library CRATE: a check that the crate is proved and built for C, in target/staticlib. Not built again from the same files.
+# library CRATE: a check that the crate is proved and built for C, in target/staticlib. Not built again from the same
+# files.
 library() {
     local file=target/staticlib/lib$1.a key
     key=$({ rt version; find crates crates.txt -type f -exec sha256sum {} + | sort; } | sha256sum)

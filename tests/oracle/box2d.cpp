@@ -1,7 +1,8 @@
-// Box2D 2.4.1 behind the request numbers of `calls`, on words: box2d_answer writes the refusal and the record after the call.
-// Shapes, roots and vectors here, contacts in box2d_contacts.cpp.
-// The library's asserts become refusals: this file defines __assert_fail and comes before the C library in the search order. The
-// four-argument box takes the sine and cosine that turn.c was given. Built as a shared library by build_box2d.
+// Box2D 2.4.1 behind the request numbers of `calls`, on words: box2d_answer writes the refusal and the record after
+// the call. Shapes, roots and vectors here, contacts in box2d_contacts.cpp.
+// The library's asserts become refusals: this file defines __assert_fail and comes before the C library in the search
+// order. The four-argument box takes the sine and cosine that turn.c was given. Built as a shared library by
+// build_box2d.
 #include "box2d_words.hpp"
 #include <cmath>
 
@@ -19,8 +20,8 @@ extern "C" void __assert_fail(const char *text, const char *, unsigned line, con
 
 namespace {
 
-// Document 01's number for an assert of b2PolygonShape::Set. Both "degenerate" asserts read `false`: the first in the file is the one after
-// welding, so the lower line is 3 and the higher one 4.
+// Document 01's number for an assert of b2PolygonShape::Set. Both "degenerate" asserts read `false`: the first in the
+// file is the one after welding, so the lower line is 3 and the higher one 4.
 unsigned lower_false = ~0u;
 uint32_t refusal() {
     if (std::strstr(assertion, "count")) return 1;

@@ -3,11 +3,14 @@
 
 namespace {
 
-// A contact call on the manifold that stands first in the request. The one assert that document 01 names is refusal 8; another is 255,
-// which no answer is.
+// A contact call on the manifold that stands first in the request. The one assert that document 01 names is refusal
+// 8; another is 255, which no answer is.
 template <class A, class B>
-void collide(void (*call)(b2Manifold *, const A *, const b2Transform &, const B *, const b2Transform &), const b2Manifold &old,
-             const A &a, const b2Transform &xf_a, const B &b, const b2Transform &xf_b, Writer &to, uint32_t *out) {
+using Call = void (*)(b2Manifold *, const A *, const b2Transform &, const B *, const b2Transform &);
+
+template <class A, class B>
+void collide(Call<A, B> call, const b2Manifold &old, const A &a, const b2Transform &xf_a, const B &b,
+             const b2Transform &xf_b, Writer &to, uint32_t *out) {
     static b2Manifold m;
     m = old;
     if (setjmp(back) == 0) {

@@ -110,7 +110,9 @@ struct Writer {
         vec(e.m_vertex2);
         vec(e.m_vertex3);
     }
-    void id(b2ContactID id) { word((uint32_t)id.cf.indexA << 24 | id.cf.indexB << 16 | id.cf.typeA << 8 | id.cf.typeB); }
+    void id(b2ContactID id) {
+        word((uint32_t)id.cf.indexA << 24 | id.cf.indexB << 16 | id.cf.typeA << 8 | id.cf.typeB);
+    }
     void manifold(const b2Manifold &m) {
         word((uint32_t)m.type);
         word((uint32_t)m.pointCount);

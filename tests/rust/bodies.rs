@@ -1,5 +1,6 @@
-//! Shapes for contact calls, and placements under which two of them overlap or nearly touch: a place on the one is put on a place on the
-//! other, or a little off it. Numbers of every size, grid numbers among them, and turns of every kind.
+//! Shapes for contact calls, and placements under which two of them overlap or nearly touch: a place on the one is
+//! put on a place on the other, or a little off it. Numbers of every size, grid numbers among them, and turns of
+//! every kind.
 use crate::compare;
 use crate::generators::{bits, grid, number, points, spoil, turn, unit, word};
 use crate::ranges::{NORMAL, POLYGON, SIZE, TURN};
@@ -21,7 +22,11 @@ fn scale(random: &mut Random) -> f32 {
 }
 
 fn coordinate(random: &mut Random, scale: f32) -> f32 {
-    if scale == 0.0 { grid(random, 1024) } else { unit(random) * scale }
+    if scale == 0.0 {
+        grid(random, 1024)
+    } else {
+        unit(random) * scale
+    }
 }
 
 fn radius(random: &mut Random, scale: f32) -> f32 {
@@ -63,7 +68,8 @@ fn outline(random: &mut Random, scale: f32) -> Vec<u32> {
     let mut record = match random.below(8) {
         0 | 1 => rectangle(random, scale),
         2 => {
-            let flat: Vec<f32> = (0..2 * n).map(|i| coordinate(random, scale) * if i % 2 == 0 { 1.0 } else { 1e-3 }).collect();
+            let flat: Vec<f32> =
+                (0..2 * n).map(|i| coordinate(random, scale) * if i % 2 == 0 { 1.0 } else { 1e-3 }).collect();
             built(random, scale, &flat)
         }
         3 => {
@@ -200,7 +206,16 @@ pub fn tiny_wall_and_circle(random: &mut Random) -> [Vec<u32>; 4] {
     let mut tiny = |most: u64| (random.below(2 * most + 1) as f32 - most as f32) * step;
     let (v1, side, from) = ([tiny(1), tiny(1)], [tiny(2), tiny(2)], [tiny(3), tiny(3)]);
     let mut wall = vec![radius(random, 1.0).to_bits(), random.below(2) as u32];
-    wall.extend(bits(&[number(random), number(random), v1[0], v1[1], v1[0] + side[0], v1[1] + side[1], number(random), number(random)]));
+    wall.extend(bits(&[
+        number(random),
+        number(random),
+        v1[0],
+        v1[1],
+        v1[0] + side[0],
+        v1[1] + side[1],
+        number(random),
+        number(random),
+    ]));
     let (far, radius) = (random.of(&[0.0, 0.0, 0.0, 1000.0, -3.0]), radius(random, 1.0));
     let transform = bits(&[0.0, 0.0, 0.0, 1.0]);
     [wall, transform.clone(), bits(&[radius, v1[0] + from[0], v1[1] + from[1] + far]), transform]

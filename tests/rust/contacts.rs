@@ -1,4 +1,5 @@
-//! Requests of entries 7 to 11, the contact calls: pairs of shapes that overlap or nearly touch, and the refusals by count and range.
+//! Requests of entries 7 to 11, the contact calls: pairs of shapes that overlap or nearly touch, and the refusals by
+//! count and range.
 use crate::bodies::{self, place, spoil_transform, Shape};
 use crate::generators::words;
 use crate::ranges::{self, first, within, EDGE, POLYGON, SIZE};
@@ -89,7 +90,9 @@ fn in_range(shape: Shape, record: &[u32]) -> bool {
     match shape {
         Shape::Circle => ranges::radius(record[0]) && within(&record[1..], SIZE),
         Shape::Outline => ranges::polygon(record),
-        Shape::Wall => ranges::radius(record[0]) && within(&record[4..8], SIZE) && (record[1] == 0 || within(&record[2..], SIZE)),
+        Shape::Wall => {
+            ranges::radius(record[0]) && within(&record[4..8], SIZE) && (record[1] == 0 || within(&record[2..], SIZE))
+        }
     }
 }
 
@@ -107,5 +110,9 @@ pub fn refusal(request: &[u32]) -> u32 {
 pub fn kinds(_: &[u32], answer: &[u32]) -> Vec<&'static str> {
     let points = ["0 points", "1 point", "2 points"][answer[2] as usize];
     let kind = ["circles", "face A", "face B"][answer[1] as usize];
-    if answer[2] == 0 { vec![points] } else { vec![points, kind] }
+    if answer[2] == 0 {
+        vec![points]
+    } else {
+        vec![points, kind]
+    }
 }

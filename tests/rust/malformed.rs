@@ -1,4 +1,5 @@
-//! Requests that are no request, under every entry's number and others, and outputs that are too short: 0 words, and nothing written.
+//! Requests that are no request, under every entry's number and others, and outputs that are too short: 0 words, and
+//! nothing written.
 use crate::support::{calls_bytes, to_bytes, to_words, Random, Tally};
 use crate::table::{Row, TABLE};
 
@@ -32,8 +33,13 @@ fn answer_words(bytes: &[u8]) -> Option<usize> {
 
 /// A word above `largest`, often one that a byte or a flag's lowest bit would take for another.
 fn above(random: &mut Random, largest: u32) -> u32 {
-    let word = [largest + 1, 255, 256, 257, 1 << 24, 1 << 31, u32::MAX, random.next() as u32][random.below(8) as usize];
-    if word > largest { word } else { largest + 1 }
+    let word =
+        [largest + 1, 255, 256, 257, 1 << 24, 1 << 31, u32::MAX, random.next() as u32][random.below(8) as usize];
+    if word > largest {
+        word
+    } else {
+        largest + 1
+    }
 }
 
 /// A request of the row, spoiled in the way named; `None` where it cannot be spoiled so.
@@ -44,7 +50,8 @@ fn spoiled(row: &Row, spoil: usize, random: &mut Random) -> Option<Vec<u8>> {
         3 => drop(words.pop()),
         7 => {
             let entry = words[0];
-            words[0] = [0, 17, entry << 24, entry | 1 << 8, entry | 1 << 31, random.next() as u32 | 32][random.below(6) as usize];
+            words[0] = [0, 17, entry << 24, entry | 1 << 8, entry | 1 << 31, random.next() as u32 | 32]
+                [random.below(6) as usize];
         }
         8 => {
             let (place, largest) = row.closed.get(random.below(row.closed.len().max(1) as u64) as usize)?;
@@ -75,7 +82,9 @@ fn one(tally: &mut Tally, input: &[u8], room: usize, random: &mut Random) -> boo
     let count = calls_bytes(input, &mut out) as usize;
     let words = answer_words(input).filter(|words| room >= 4 * words).unwrap_or(0);
     let right = count == words && out[4 * words..] == before[4 * words..];
-    tally.case(right, || format!("{input:02x?} with room for {room} bytes: {count} words, not {words}, or more written than they"));
+    tally.case(right, || {
+        format!("{input:02x?} with room for {room} bytes: {count} words, not {words}, or more written than they")
+    });
     words > 0
 }
 
@@ -101,7 +110,9 @@ pub fn run(cases: u64, seed: u64) -> bool {
                 let answered = one(&mut tally, &input, room, &mut random);
                 tally.met(&format!("{} {}", SPOILS[spoil], if answered { "answered" } else { "turned down" }));
                 if spoil == 0 && ours != answered || spoil > 0 && answered {
-                    tally.case(false, || format!("entry {}, {}: this harness spoils wrongly", row.entry, SPOILS[spoil]));
+                    tally.case(false, || {
+                        format!("entry {}, {}: this harness spoils wrongly", row.entry, SPOILS[spoil])
+                    });
                 }
             }
         }

@@ -65,8 +65,12 @@ pub fn clip_kinds(request: &[u32], answer: &[u32]) -> Vec<&'static str> {
     let kept = ["0 ends", "1 end", "2 ends"][answer[1] as usize];
     let second = [answer[5], answer[6], answer[7]];
     // a cut carries the given index and the types vertex and face
-    let cut = answer[1] == 2 && second != request[10..13] && second[2] & 0xffff == 1 && second[2] >> 24 == request[16] & 255;
-    if cut { vec![kept, "cut"] } else { vec![kept] }
+    let id = second[2] & 0xffff == 1 && second[2] >> 24 == request[16] & 255;
+    if id && answer[1] == 2 && second != request[10..13] {
+        vec![kept, "cut"]
+    } else {
+        vec![kept]
+    }
 }
 
 /// A manifold in range, of any kind and count.
@@ -101,7 +105,8 @@ pub fn world_points(random: &mut Random) -> Vec<u32> {
     let contact = contacts::any(random);
     let [a, xf_a, b, xf_b] = contacts::parts(&contact);
     let found = if contacts::refusal(&contact) == 0 { compare::accepted(&contact) } else { None };
-    let mut manifold = if random.once_in(2) { manifold(random) } else { found.unwrap_or_else(|| old_manifold(random)) };
+    let mut manifold =
+        if random.once_in(2) { manifold(random) } else { found.unwrap_or_else(|| old_manifold(random)) };
     let (mut xf_a, mut xf_b, mut radii) = (xf_a.to_vec(), xf_b.to_vec(), [a[0], b[0]]);
     if random.once_in(8) {
         xf_b = xf_a.clone();

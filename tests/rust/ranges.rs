@@ -1,6 +1,8 @@
-//! Document 01's ranges on words of a request, and the refusals that they give: the harness's own, which no reference has.
+//! Document 01's ranges on words of a request, and the refusals that they give: the harness's own, which no reference
+//! has.
 
-/// The limits of shape numbers, of sine and cosine, of stored normals, of numbers of clips and given manifolds, of their local normal.
+/// The limits of shape numbers, of sine and cosine, of stored normals, of numbers of clips and given manifolds, of
+/// their local normal.
 pub const SIZE: f32 = 1048576.0;
 pub const TURN: f32 = 1.0;
 pub const NORMAL: f32 = 2.0;

@@ -69,23 +69,28 @@ fn collide(mut m: B2manifold, call: impl FnOnce(&mut B2manifold)) -> Option<Vec<
 pub fn answer(entry: u32, mut from: Reader) -> Option<Vec<u32>> {
     match entry {
         7 => {
-            let (m, a, xf_a, b, xf_b) = (from.manifold(), from.circle(), from.transform(), from.circle(), from.transform());
+            let (m, a, xf_a, b, xf_b) =
+                (from.manifold(), from.circle(), from.transform(), from.circle(), from.transform());
             collide(m, |m| b2_collide_circles(m, &a, &xf_a, &b, &xf_b))
         }
         8 => {
-            let (m, a, xf_a, b, xf_b) = (from.manifold(), from.polygon(), from.transform(), from.circle(), from.transform());
+            let (m, a, xf_a, b, xf_b) =
+                (from.manifold(), from.polygon(), from.transform(), from.circle(), from.transform());
             collide(m, |m| b2_collide_polygon_and_circle(m, &a, &xf_a, &b, &xf_b))
         }
         9 => {
-            let (m, a, xf_a, b, xf_b) = (from.manifold(), from.polygon(), from.transform(), from.polygon(), from.transform());
+            let (m, a, xf_a, b, xf_b) =
+                (from.manifold(), from.polygon(), from.transform(), from.polygon(), from.transform());
             collide(m, |m| b2_collide_polygons(m, &a, &xf_a, &b, &xf_b))
         }
         10 => {
-            let (m, a, xf_a, b, xf_b) = (from.manifold(), from.edge(), from.transform(), from.circle(), from.transform());
+            let (m, a, xf_a, b, xf_b) =
+                (from.manifold(), from.edge(), from.transform(), from.circle(), from.transform());
             collide(m, |m| b2_collide_edge_and_circle(m, &a, &xf_a, &b, &xf_b))
         }
         11 => {
-            let (m, a, xf_a, b, xf_b) = (from.manifold(), from.edge(), from.transform(), from.polygon(), from.transform());
+            let (m, a, xf_a, b, xf_b) =
+                (from.manifold(), from.edge(), from.transform(), from.polygon(), from.transform());
             collide(m, |m| b2_collide_edge_and_polygon(m, &a, &xf_a, &b, &xf_b))
         }
         12 => {

@@ -1,4 +1,5 @@
-//! What the rows share: our C entries on words, words compared with one NaN, random numbers, and the count of a comparison.
+//! What the rows share: our C entries on words, words compared with one NaN, random numbers, and the count of a
+//! comparison.
 
 extern "C" {
     // A `&[u8]` of Rattle is a pointer and a length.
@@ -6,7 +7,14 @@ extern "C" {
     fn calls_raw(input: *const u8, input_len: usize, out: *mut u8, out_len: usize) -> u32;
     // Entry 1 on a lent slice: the old outline's 144 bytes, the points as floats x, y; count is the number of points.
     #[allow(dead_code)]
-    fn calls_outline_slice(old: *const u8, old_len: usize, points: *const f32, count: usize, out: *mut u8, out_len: usize) -> u32;
+    fn calls_outline_slice(
+        old: *const u8,
+        old_len: usize,
+        points: *const f32,
+        count: usize,
+        out: *mut u8,
+        out_len: usize,
+    ) -> u32;
 }
 
 pub fn to_bytes(words: &[u32]) -> Vec<u8> {

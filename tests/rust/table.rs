@@ -251,7 +251,9 @@ pub const TABLE: &[Row] = &[
         generate: floats::normalize,
         length: 3,
         record: 3,
-        kinds: |request, answer| vec![floats::kind(request[1]), if answer[1] == 0 { "kept as it was" } else { "made unit" }],
+        kinds: |request, answer| {
+            vec![floats::kind(request[1]), if answer[1] == 0 { "kept as it was" } else { "made unit" }]
+        },
         wanted: &["NaN", "infinity", "-0", "+0", "subnormal", "below 0", "normal", "kept as it was", "made unit"],
         ..ROOT
     },
