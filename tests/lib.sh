@@ -17,24 +17,34 @@ passed=0 failed=0
 ok() { passed=$((passed + 1)); echo "ok: $1"; }
 fail() { failed=$((failed + 1)); echo "FAILED: $1: $2"; }
 
-# check NAME COMMAND..: one check, passed where the command ends with status 0
+# check NAME COMMAND..: one check, passed where the command ends with status 0; otherwise its last line says why
 check() {
-    local name=$1 status; shift
-    "$@"; status=$?
-    if [ $status -eq 0 ]; then ok "$name"; else fail "$name" "status $status of '$*'"; fi
+    local name=$1; shift
+    attempt "$@"
+    if [ $status -eq 0 ]; then ok "$name"; else fail "$name" "$why"; fi
     return $status
 }
 
 # reference NAME COMMAND..: the same, but status 3 is no failure: what the command needs is not at hand
 reference() {
-    local name=$1 status; shift
-    "$@"; status=$?
+    local name=$1; shift
+    attempt "$@"
     case $status in
         0) ok "$name" ;;
-        3) echo "not at hand: $name" ;;
-        *) fail "$name" "status $status of '$*'" ;;
+        3) echo "not at hand: $name: $why" ;;
+        *) fail "$name" "$why" ;;
     esac
     return $status
+}
+
+# attempt COMMAND..: runs it and sets status and why
+attempt() {
+    local log
+    log=$(mktemp)
+    "$@" 2>&1 | tee "$log"; status=${PIPESTATUS[0]}
+    why=$(grep . "$log" | tail -n 1)
+    [ "$status" -eq 3 ] && [ -n "$why" ] || why="status $status of '$1', which says: ${why:-nothing}"
+    rm -f "$log"
 }
 
 # output FILE COMMAND..: the command ends with status 0 and writes something to FILE

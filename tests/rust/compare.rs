@@ -1,10 +1,10 @@
 //! What the references at hand say of a request, and ours held to it. `papers` and `box2d` say which were built.
 #[cfg(box2d)]
 use crate::box2d_oracle;
+use crate::row::Row;
 #[cfg(papers)]
 use crate::rust_oracle;
 use crate::support::{one_nan, Random, Tally};
-use crate::table::Row;
 
 pub const REFERENCES: usize = cfg!(papers) as usize + cfg!(box2d) as usize;
 

@@ -14,6 +14,7 @@ mod generators;
 mod malformed;
 mod manifolds;
 mod ranges;
+mod row;
 #[cfg(papers)]
 mod rust_contacts;
 #[cfg(papers)]
@@ -21,8 +22,9 @@ mod rust_oracle;
 mod shapes;
 mod support;
 mod table;
+use row::Row;
 use support::{one_nan, Random};
-use table::{Row, TABLE};
+use table::TABLE;
 
 fn store(file: &str, cases: u64, seed: u64) {
     let hex = |words: &[u32]| words.iter().map(|w| format!("{w:08x}")).collect::<Vec<_>>().join(" ");
@@ -60,6 +62,7 @@ fn main() {
     let (cases, seed) = (number(0), number(1));
     println!("seed {seed}");
     let mut results = vec![malformed::run(cases, seed)];
+    results.extend(table::SLICE.map(|call| malformed::run_slice(call, cases, seed)));
     for (i, row) in TABLE.iter().enumerate() {
         if compare::REFERENCES + row.ours.is_some() as usize >= 2 {
             results.push(compare::run(row, cases, seed + 1 + i as u64));

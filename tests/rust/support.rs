@@ -37,16 +37,17 @@ pub fn calls(request: &[u32]) -> Vec<u32> {
     to_words(&out[..4 * count])
 }
 
-/// A request of entry 1, answered through the entry that takes the points as a lent slice.
+/// The same of the entry that takes points as a lent slice: the old outline's bytes, and coordinates x, y.
 #[allow(dead_code)]
-pub fn lent_slice(request: &[u32]) -> Vec<u32> {
-    let old = to_bytes(&request[1..37]);
-    let points: Vec<f32> = request[38..].iter().map(|w| f32::from_bits(*w)).collect();
-    let mut out = [0u8; 256];
-    let count = unsafe {
+pub fn slice_bytes(old: &[u8], points: &[f32], out: &mut [u8]) -> u32 {
+    unsafe {
         calls_outline_slice(old.as_ptr(), old.len(), points.as_ptr(), points.len() / 2, out.as_mut_ptr(), out.len())
-    };
-    to_words(&out[..4 * count as usize])
+    }
+}
+
+/// The points of a request of entry 1, as coordinates.
+pub fn coordinates(request: &[u32]) -> Vec<f32> {
+    request[38..].iter().map(|w| f32::from_bits(*w)).collect()
 }
 
 /// Words for a comparison: every NaN is one value. Those at the places `plain` are no floats.

@@ -3,37 +3,21 @@ use crate::contacts::{self, MANIFOLD, TRANSFORM};
 use crate::floats::{self, KINDS};
 use crate::manifolds;
 use crate::ranges::{EDGE, POLYGON};
+use crate::row::Row;
 use crate::shapes;
-use crate::support::{calls, Random};
+use crate::support::{calls, coordinates, to_bytes, to_words};
 
-pub struct Row {
-    pub name: &'static str,
-    /// The number of the request, by which both oracles go.
-    pub entry: u32,
-    /// The file of tests/stored that has answers of it.
-    pub stored: &'static str,
-    pub generate: fn(&mut Random) -> Vec<u32>,
-    /// The refusal that document 01 adds to the references', by the harness's own test of counts and ranges.
-    pub refusal: fn(&[u32]) -> u32,
-    /// The refusals that an assert of a reference can stand for; of the Rust's panics nothing tells which.
-    #[cfg_attr(not(papers), allow(dead_code))]
-    pub panics: &'static [u32],
-    /// What a run has to meet: 0 for accepted, and the refusals that can be reached.
-    pub reachable: &'static [u32],
-    /// What a refused call answers after the refusal.
-    pub refused: fn(&[u32]) -> Vec<u32>,
-    /// Words of a request, for entry 1 without its points, and of the record in the answer.
-    pub length: usize,
-    pub record: usize,
-    /// Words of the record that are no floats.
-    pub plain: &'static [usize],
-    /// Words of the request that hold at most a number, or it is malformed.
-    pub closed: &'static [(usize, u32)],
-    /// What is counted of a request and its answer, and what of it must be met.
-    pub kinds: fn(&[u32], &[u32]) -> Vec<&'static str>,
-    pub wanted: &'static [&'static str],
-    /// Ours; without it only the references are compared with each other.
-    pub ours: Option<fn(&[u32]) -> Vec<u32>>,
+/// What we do not have yet: entries 7 to 14, `Some(calls)` when they are there, and the outline builder on a lent slice,
+/// `Some(support::slice_bytes)`.
+const CONTACTS: Option<fn(&[u32]) -> Vec<u32>> = None;
+pub const SLICE: Option<fn(&[u8], &[f32], &mut [u8]) -> u32> = None;
+
+/// A request of entry 1, answered through the lent slice.
+fn lent_slice(request: &[u32]) -> Vec<u32> {
+    let mut out = [0u8; 256];
+    let call = SLICE.expect("the entry on a lent slice");
+    let count = call(&to_bytes(&request[1..37]), &coordinates(request), &mut out) as usize;
+    to_words(&out[..4 * count])
 }
 
 fn none(_: &[u32]) -> u32 {
@@ -126,8 +110,6 @@ const CIRCLES: Row = Row {
     ours: CONTACTS,
     ..BOX
 };
-/// Ours for entries 7 to 14, not there yet.
-const CONTACTS: Option<fn(&[u32]) -> Vec<u32>> = None;
 const ROOT: Row = Row {
     name: "root",
     entry: 15,
@@ -146,7 +128,12 @@ const ROOT: Row = Row {
 
 pub const TABLE: &[Row] = &[
     OUTLINE,
-    Row { name: "outline builder, lent slice", generate: shapes::set_any_count, ours: None, ..OUTLINE },
+    Row {
+        name: "outline builder, lent slice",
+        generate: shapes::set_any_count,
+        ours: if SLICE.is_some() { Some(lent_slice) } else { None },
+        ..OUTLINE
+    },
     BOX,
     Row {
         name: "box with sine and cosine",
