@@ -56,7 +56,8 @@ static void show(const char *name, uint32_t entry, const float *operands, int co
     printf("\n");
 }
 
-/* Entry 1: an outline of zeros, a list of points; prints the corners that were built, each with the normal of its edge, and the centroid. */
+/* Entry 1: an outline of zeros, a list of points; prints the corners that were built, each with the normal of its
+   edge, and the centroid. */
 static void outline(const float *coordinates, int count) {
     uint8_t input[4 * (2 + POLY + 2 * MOST_POINTS)] = {0}, out[4 * (1 + POLY)];
     put(input, 1);
@@ -92,7 +93,8 @@ int main(int argc, char **argv) {
     for (int i = 0; i < count && i < 2 * MOST_POINTS; i++) given[i] = number(argv[i + 2]);
     if (argc == 3 && strcmp(argv[1], "root") == 0) return show("root", 15, given, 1), 0;
     if (argc == 4 && strcmp(argv[1], "normalize") == 0) return show("normalize", 16, given, 2), 0;
-    if (argc >= 2 && strcmp(argv[1], "outline") == 0 && count % 2 == 0 && count <= 2 * MOST_POINTS) return outline(given, count), 0;
+    if (argc >= 2 && strcmp(argv[1], "outline") == 0 && count % 2 == 0 && count <= 2 * MOST_POINTS)
+        return outline(given, count), 0;
     if (argc != 1) {
         fprintf(stderr, "usage: host | host root X | host normalize X Y | host outline X Y X Y ..\n");
         return 2;
@@ -101,7 +103,8 @@ int main(int argc, char **argv) {
     for (int i = 0; i < 3; i++) show("root", 15, numbers[i], 1);
     for (int i = 3; i < 6; i++) show("normalize", 16, numbers[i], 2);
     const float square[] = {0, 0, 1, 0, 1, 1, 0, 1, 0.5f, 0}, line[] = {0, 0, 1, 0, 2, 0}, two[] = {0, 0, 1, 0};
-    const float wide[] = {0, 0, 2e6f, 0, 0, 1}, welded[] = {0, 0, 0.0024f, 0, 0, 1}, flat[] = {0, 0, 1, 0, 0.5f, 1e-7f};
+    const float wide[] = {0, 0, 2e6f, 0, 0, 1}, welded[] = {0, 0, 0.0024f, 0, 0, 1};
+    const float flat[] = {0, 0, 1, 0, 0.5f, 1e-7f};
     outline(square, 10);
     outline(two, 4);
     outline(wide, 6);

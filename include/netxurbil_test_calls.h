@@ -8,14 +8,14 @@
 enum netxurbil_refusal {
     NETXURBIL_ACCEPTED = 0,
     NETXURBIL_WRONG_NUMBER_OF_POINTS = 1, /* an outline without 3 to 8 points */
-    NETXURBIL_SHAPE_OUT_OF_RANGE = 2,     /* a number of a shape is no number, beyond its limit, or a negative radius */
+    NETXURBIL_SHAPE_OUT_OF_RANGE = 2,     /* a shape's number is none, beyond its limit, or a negative radius */
     NETXURBIL_TOO_FEW_AFTER_WELDING = 3,  /* fewer than three points stay after welding */
-    NETXURBIL_WALK_NOT_CLOSED = 4,        /* the walk round is not back after eight corners, or back with fewer than three */
+    NETXURBIL_WALK_NOT_CLOSED = 4,        /* the walk is not back after eight corners, or with fewer than three */
     NETXURBIL_EDGE_OR_AREA_TOO_SMALL = 5, /* an edge or the area is too small */
     NETXURBIL_PLACEMENT_OUT_OF_RANGE = 6, /* a placement, or a box's sine or cosine, is out of range */
     NETXURBIL_COUNT_OUT_OF_RANGE = 7,     /* a record's count is out of range */
     NETXURBIL_WALL_TOO_SHORT = 8,         /* wall against circle: the wall's squared length is not above 0 */
-    NETXURBIL_CONTACT_OUT_OF_RANGE = 9,   /* a number of a clip or of world points is out of range, or an output is too short */
+    NETXURBIL_CONTACT_OUT_OF_RANGE = 9,   /* a clip's or world points' number out of range; too short an output */
     NETXURBIL_MALFORMED_FRAME = 10,       /* a line of the record is no frame */
     NETXURBIL_UNKNOWN_ID = 11,            /* an id above 7 */
     NETXURBIL_NO_SHAPE = 12,              /* no shape under the id */
@@ -23,11 +23,13 @@ enum netxurbil_refusal {
 };
 
 /* Runs the entry that the request's first word names. All words are four bytes, highest first; a float is its bits.
-   Returns the number of words written to the front of out: the refusal (0 for accepted), then the complete record after the call.
-   Returns 0 and writes nothing where the request is malformed or out is too short. Never reads or writes outside the two slices.
+   Returns the number of words written to the front of out: the refusal (0 for accepted), then the complete record
+   after the call. Returns 0 and writes nothing where the request is malformed or out is too short. Never reads or
+   writes outside the two slices.
 
-   POLY is 36 words: radius, centroid x y, count, 8 vertices, 8 normals. EDGE is 10 words: radius, flag (1 for one-sided, 0 for two-sided),
-   v0, v1, v2, v3. Points are x then y. A refused call answers the record that it was given.
+   POLY is 36 words: radius, centroid x y, count, 8 vertices, 8 normals. EDGE is 10 words: radius, flag (1 for
+   one-sided, 0 for two-sided), v0, v1, v2, v3. Points are x then y. A refused call answers the record that it was
+   given.
 
       1, POLY, n, n points                     the outline builder: refusal, POLY
       2, POLY, hx, hy                          a box: refusal, POLY
@@ -36,8 +38,8 @@ enum netxurbil_refusal {
       5, EDGE, v0, v1, v2, v3                  a one-sided wall: refusal, EDGE
       6, EDGE, v1, v2                          a two-sided wall: refusal, EDGE
      15, x                                     the square root of x: refusal, root
-     16, x, y                                  the vector (x, y) made unit: refusal, length, x, y; a length below 2^-23 is given as 0
-                                               and changes nothing */
+     16, x, y                                  the vector (x, y) made unit: refusal, length, x, y; a length
+                                               below 2^-23 is given as 0 and changes nothing */
 uint32_t calls(const uint8_t *input, size_t input_length, uint8_t *out, size_t out_length);
 
 #endif

@@ -1,5 +1,6 @@
-"""Reads the declarations of an .antt file: signatures, records with their fields, data types with their constructors, also inside
-`module _ (..) where` and broken over several lines. Equations, `use`, `infixl` and `unfolding` are no declarations."""
+"""Reads the declarations of an .antt file: signatures, records with their fields, data types with their
+constructors, also inside `module _ (..) where` and broken over several lines. Equations, `use`, `infixl` and
+`unfolding` are none."""
 import collections
 
 Declaration = collections.namedtuple("Declaration", "line marks kind name owner")

@@ -1,9 +1,9 @@
-# What the suites share, and the commands beside them. Sourced; the working folder becomes the repository's root.
-# A check prints `ok: NAME` or `FAILED: NAME: why`. Status 3 of a command is "not at hand", used only where the papers' folder
-# is absent or the package registry cannot be reached; every other status but 0 is a failure.
+# What the suites share, and the commands beside them. Sourced; the working folder becomes the repository's root. A
+# check prints `ok: NAME` or `FAILED: NAME: why`. Status 3 of a command is "not at hand", used only where the papers'
+# folder is absent or the package registry cannot be reached; every other status but 0 is a failure.
 cd "$(dirname "${BASH_SOURCE[0]}")/.." || exit 1
 
-# The crates with C exports and their header: a new name is written here (and in examples/host.c, which includes the header).
+# The crates with C exports and their header: a new name is written here, and in examples/host.c, which includes it.
 calls_crate=test_calls
 bench_crate=bench_calls
 header=netxurbil_test_calls.h
@@ -17,24 +17,34 @@ passed=0 failed=0
 ok() { passed=$((passed + 1)); echo "ok: $1"; }
 fail() { failed=$((failed + 1)); echo "FAILED: $1: $2"; }
 
-# check NAME COMMAND..: one check, passed where the command ends with status 0
+# check NAME COMMAND..: one check, passed where the command ends with status 0; otherwise its last line says why
 check() {
-    local name=$1 status; shift
-    "$@"; status=$?
-    if [ $status -eq 0 ]; then ok "$name"; else fail "$name" "status $status of '$*'"; fi
+    local name=$1; shift
+    attempt "$@"
+    if [ $status -eq 0 ]; then ok "$name"; else fail "$name" "$why"; fi
     return $status
 }
 
 # reference NAME COMMAND..: the same, but status 3 is no failure: what the command needs is not at hand
 reference() {
-    local name=$1 status; shift
-    "$@"; status=$?
+    local name=$1; shift
+    attempt "$@"
     case $status in
         0) ok "$name" ;;
-        3) echo "not at hand: $name" ;;
-        *) fail "$name" "status $status of '$*'" ;;
+        3) echo "not at hand: $name: $why" ;;
+        *) fail "$name" "$why" ;;
     esac
     return $status
+}
+
+# attempt COMMAND..: runs it and sets status and why
+attempt() {
+    local log
+    log=$(mktemp)
+    "$@" 2>&1 | tee "$log"; status=${PIPESTATUS[0]}
+    why=$(grep . "$log" | tail -n 1)
+    [ "$status" -eq 3 ] && [ -n "$why" ] || why="status $status of '$1', which says: ${why:-nothing}"
+    rm -f "$log"
 }
 
 # output FILE COMMAND..: the command ends with status 0 and writes something to FILE
@@ -52,7 +62,8 @@ same() {
     diff "$1" "$2"
 }
 
-# counted NAME COMMAND..: a command that makes checks of its own and says how many in its last line, `N passed, M failed`
+# counted NAME COMMAND..: a command that makes checks of its own and says how many in its last line,
+# `N passed, M failed`
 counted() {
     local name=$1 log status; shift
     log=$(mktemp)
@@ -61,8 +72,8 @@ counted() {
     rm -f "$log"
 }
 
-# add_up NAME LOG STATUS WORDS: adds the counts of the log's last line, `WORDS N passed, M failed`. A failure where there is no such line,
-# where it counts nothing, and where it does not fit the status.
+# add_up NAME LOG STATUS WORDS: adds the counts of the log's last line, `WORDS N passed, M failed`. A failure where
+# there is no such line, where it counts nothing, and where it does not fit the status.
 add_up() {
     local last good bad
     last=$(tail -n 1 "$2")
@@ -87,19 +98,22 @@ summary() {
     [ $failed -eq 0 ]
 }
 
-# install PACKAGE: from Debian. Status 3 where the registry cannot be reached, 1 where the package cannot be had from it
+# install PACKAGE: from Debian. Status 3 where the registry cannot be reached, 1 where the package cannot be had
 install() {
-    apt-get update -qq -o APT::Update::Error-Mode=any > /dev/null 2>&1 || { echo "the package registry cannot be reached"; return 3; }
+    apt-get update -qq -o APT::Update::Error-Mode=any > /dev/null 2>&1 ||
+        { echo "the package registry cannot be reached"; return 3; }
     apt-get install -y -qq "$1" > /dev/null 2>&1 || { echo "$1 cannot be installed"; return 1; }
 }
 
-# tool COMMAND PACKAGE: a check that the command is there, installed where it is missing. Never "not at hand": nothing goes without it.
+# tool COMMAND PACKAGE: a check that the command is there, installed where it is missing. Never "not at hand": nothing
+# goes without it.
 tool() {
     command -v "$1" > /dev/null || install "$2"
-    if command -v "$1" > /dev/null; then ok "the tool $1"; else fail "the tool $1" "it is missing and could not be installed"; fi
+    if command -v "$1" > /dev/null; then ok "the tool $1"; else fail "the tool $1" "missing, and not installed"; fi
 }
 
-# library CRATE: a check that the crate is proved and built for C, in target/staticlib. Not built again from the same files.
+# library CRATE: a check that the crate is proved and built for C, in target/staticlib. Not built again from the same
+# files.
 library() {
     local file=target/staticlib/lib$1.a key
     key=$({ rt version; find crates crates.txt -type f -exec sha256sum {} + | sort; } | sha256sum)

@@ -1,5 +1,6 @@
-// The second program for the papers' outline cases: reads the lines of the program `cases`, "count points : ..", as bits, and writes them
-// with what Box2D 2.4.1 answers: the refusal, and for an accepted outline its corners' count, the corners and the centroid.
+// The second program for the papers' outline cases: reads the lines of the program `cases`, "count points : ..", as
+// bits, and writes them with what Box2D 2.4.1 answers: the refusal, and for an accepted outline its corners' count,
+// the corners and the centroid.
 #include <cinttypes>
 #include <cmath>
 #include <cstdint>
@@ -25,7 +26,8 @@ int main() {
         int used = 0;
         if (std::sscanf(at, "%" SCNx32 "%n", n, &used) != 1) continue;
         std::printf("%02" PRIx32, *n);
-        for (at += used; std::sscanf(at, " %8" SCNx32 "%n", point, &used) == 1; at += used, point++) std::printf(" %08" PRIx32, *point);
+        for (at += used; std::sscanf(at, " %8" SCNx32 "%n", point, &used) == 1; at += used, point++)
+            std::printf(" %08" PRIx32, *point);
         bool wide = false;
         for (uint32_t *word = request + 38; word < point; word++) wide = wide || out_of_range(*word);
         if (wide) out[0] = 2; else box2d_answer(request, out);

@@ -1,7 +1,8 @@
-/* Replays stored answers: replay FILE COUNT. A line of the file is a request and its answer, words of eight hexadecimal digits with ' : '
-   between the two; lines that begin with '#' are comments, and a line of another form is an error. The file must hold COUNT answers.
-   Every answer is asked for with an output of just its length, a longer one and one a byte short; what is not written must keep its bytes.
-   An empty answer is that of a malformed request: asked with full room. */
+/* Replays stored answers: replay FILE COUNT. A line of the file is a request and its answer, words of eight
+   hexadecimal digits with ' : ' between the two; lines that begin with '#' are comments, and a line of another form
+   is an error. The file must hold COUNT answers. Every answer is asked for with an output of just its length, a
+   longer one and one a byte short; what is not written must keep its bytes. An empty answer is that of a malformed
+   request: asked with full room. */
 #include <ctype.h>
 #include <stdio.h>
 #include <stdlib.h>
@@ -46,7 +47,7 @@ static const char *wrong(const uint8_t *input, size_t asked, const uint8_t *want
         if (ask(input, 4 * asked, out, rooms[i]) != (long)answered) return "another number of words";
         if (memcmp(out, wanted, 4 * answered) != 0) return "another answer";
     }
-    if (answered > 0 && ask(input, 4 * asked, out, 4 * answered - 1) != 0) return "answered with a byte too little room";
+    if (answered > 0 && ask(input, 4 * asked, out, 4 * answered - 1) != 0) return "too little room, and answered";
     return NULL;
 }
 
@@ -64,7 +65,8 @@ int main(int argc, char **argv) {
         if (asked > 0 && strncmp(at, " :", 2) == 0) {
             at += 2;
             size_t answered = words_of(&at, 1, wanted);
-            if (strcmp(at, "\n") == 0 || (answered == 0 && strcmp(at, " \n") == 0)) answers++, why = wrong(input, asked, wanted, answered);
+            if (answered == 0 && *at == ' ') at++;
+            if (strcmp(at, "\n") == 0) answers++, why = wrong(input, asked, wanted, answered);
         }
         if (why && ++differences <= 5) printf("  %s:%lu: %s\n", argv[1], number, why);
     }

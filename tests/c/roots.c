@@ -1,4 +1,5 @@
-/* The second program for the published square-root vectors: reads lines "operand root", as bits, and writes them with the C library's root. */
+/* The second program for the published square-root vectors: reads lines "operand root", as bits, and writes them with
+   the C library's root. */
 #include <inttypes.h>
 #include <math.h>
 #include <stdio.h>

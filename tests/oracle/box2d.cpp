@@ -1,15 +1,14 @@
-// Box2D 2.4.1 behind the request numbers of `calls`, on words: box2d_answer writes the refusal and the record after the call.
-// The library's asserts become refusals: this file defines __assert_fail and comes before the C library in the search order. The
-// four-argument box takes the sine and cosine that turn.c was given. Built as a shared library by build_box2d.
-#include <box2d/box2d.h>
+// Box2D 2.4.1 behind the request numbers of `calls`, on words: box2d_answer writes the refusal and the record after
+// the call. Shapes, roots and vectors here, contacts in box2d_contacts.cpp.
+// The library's asserts become refusals: this file defines __assert_fail and comes before the C library in the search
+// order. The four-argument box takes the sine and cosine that turn.c was given. Built as a shared library by
+// build_box2d.
+#include "box2d_words.hpp"
 #include <cmath>
-#include <csetjmp>
-#include <cstdint>
-#include <cstring>
 
-static jmp_buf back;
+jmp_buf back;
+const char *assertion;
 static bool asserting = false;
-static const char *assertion;
 static unsigned assertion_line;
 
 extern "C" void __assert_fail(const char *text, const char *, unsigned line, const char *) noexcept {
@@ -21,70 +20,8 @@ extern "C" void __assert_fail(const char *text, const char *, unsigned line, con
 
 namespace {
 
-struct Reader {
-    const uint32_t *at;
-    uint32_t word() { return *at++; }
-    float number() {
-        float x;
-        std::memcpy(&x, at++, 4);
-        return x;
-    }
-    b2Vec2 vec() {
-        float x = number();
-        return b2Vec2(x, number());
-    }
-    b2PolygonShape polygon() {
-        b2PolygonShape p;
-        p.m_radius = number();
-        p.m_centroid = vec();
-        p.m_count = (int32)word();
-        for (auto &v : p.m_vertices) v = vec();
-        for (auto &v : p.m_normals) v = vec();
-        return p;
-    }
-    b2EdgeShape edge() {
-        b2EdgeShape e;
-        e.m_radius = number();
-        e.m_oneSided = word() != 0;
-        e.m_vertex0 = vec();
-        e.m_vertex1 = vec();
-        e.m_vertex2 = vec();
-        e.m_vertex3 = vec();
-        return e;
-    }
-};
-
-struct Writer {
-    uint32_t *at;
-    void word(uint32_t w) { *at++ = w; }
-    void number(float x) {
-        uint32_t w;
-        std::memcpy(&w, &x, 4);
-        word(w);
-    }
-    void vec(b2Vec2 v) {
-        number(v.x);
-        number(v.y);
-    }
-    void polygon(const b2PolygonShape &p) {
-        number(p.m_radius);
-        vec(p.m_centroid);
-        word((uint32_t)p.m_count);
-        for (auto &v : p.m_vertices) vec(v);
-        for (auto &v : p.m_normals) vec(v);
-    }
-    void edge(const b2EdgeShape &e) {
-        number(e.m_radius);
-        word(e.m_oneSided);
-        vec(e.m_vertex0);
-        vec(e.m_vertex1);
-        vec(e.m_vertex2);
-        vec(e.m_vertex3);
-    }
-};
-
-// Document 01's number for an assert of b2PolygonShape::Set. Both "degenerate" asserts read `false`: the first in the file is the one after
-// welding, so the lower line is 3 and the higher one 4.
+// Document 01's number for an assert of b2PolygonShape::Set. Both "degenerate" asserts read `false`: the first in the
+// file is the one after welding, so the lower line is 3 and the higher one 4.
 unsigned lower_false = ~0u;
 uint32_t refusal() {
     if (std::strstr(assertion, "count")) return 1;
@@ -172,7 +109,8 @@ extern "C" size_t box2d_answer(const uint32_t *request, uint32_t *out) {
         to.vec(v);
         break;
     }
-    default: return 0;
+    default:
+        if (!contact_answer(in, to, out)) return 0;
     }
     asserting = false;
     return (size_t)(to.at - out);

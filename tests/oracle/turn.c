@@ -1,5 +1,5 @@
-/* Sine and cosine for a whole process: what set_turn was last given. Built as a shared library that comes before the mathematical one, so
-   that the references' turned box takes any sine and cosine. */
+/* Sine and cosine for a whole process: what set_turn was last given. Built as a shared library that comes before the
+   mathematical one, so that the references' turned box takes any sine and cosine. */
 static float given_sine, given_cosine;
 
 void set_turn(float sine, float cosine) {

@@ -1,10 +1,10 @@
 //! What the references at hand say of a request, and ours held to it. `papers` and `box2d` say which were built.
 #[cfg(box2d)]
 use crate::box2d_oracle;
+use crate::row::Row;
 #[cfg(papers)]
 use crate::rust_oracle;
 use crate::support::{one_nan, Random, Tally};
-use crate::table::Row;
 
 pub const REFERENCES: usize = cfg!(papers) as usize + cfg!(box2d) as usize;
 
@@ -21,7 +21,8 @@ impl Answer {
     }
 
     fn agrees(&self, other: &Answer, plain: &[usize]) -> bool {
-        self.refusals.iter().any(|r| other.refusals.contains(r)) && one_nan(&self.record, plain) == one_nan(&other.record, plain)
+        self.refusals.iter().any(|r| other.refusals.contains(r))
+            && one_nan(&self.record, plain) == one_nan(&other.record, plain)
     }
 }
 
@@ -30,7 +31,10 @@ pub fn accepted(request: &[u32]) -> Option<Vec<u32>> {
     #[cfg(papers)]
     return rust_oracle::answer(request);
     #[cfg(all(box2d, not(papers)))]
-    return box2d_oracle::answer(request).split_first().filter(|(refusal, _)| **refusal == 0).map(|(_, record)| record.to_vec());
+    return box2d_oracle::answer(request)
+        .split_first()
+        .filter(|(refusal, _)| **refusal == 0)
+        .map(|(_, record)| record.to_vec());
     #[cfg(not(any(box2d, papers)))]
     return request.get(usize::MAX).map(|_| Vec::new());
 }
@@ -70,7 +74,11 @@ pub fn expected(row: &Row, request: &[u32]) -> (Answer, bool, bool) {
 }
 
 fn refusal_name(number: u32) -> String {
-    if number == 0 { "accepted".to_string() } else { format!("refusal {number}") }
+    if number == 0 {
+        "accepted".to_string()
+    } else {
+        format!("refusal {number}")
+    }
 }
 
 /// One row, until `cases` were asked of the references.
@@ -85,13 +93,19 @@ pub fn run(row: &Row, cases: u64, seed: u64) -> bool {
         let (answer, agree, of_references) = expected(row, &request);
         asked += of_references as u64;
         let ours = row.ours.map(|ours| ours(&request));
-        let right = ours.as_ref().map_or(true, |words| !words.is_empty() && Answer::of(words).agrees(&answer, row.plain));
+        let right =
+            ours.as_ref().map_or(true, |words| !words.is_empty() && Answer::of(words).agrees(&answer, row.plain));
         tally.case(agree && right, || {
-            let references = if agree { format!("the references {answer:08x?}") } else { "the references do not agree".to_string() };
+            let references = if agree {
+                format!("the references {answer:08x?}")
+            } else {
+                "the references do not agree".to_string()
+            };
             format!("{request:08x?} gives {ours:08x?}; {references}")
         });
         // where nothing else tells the number of a refusal, ours does
-        let number = if answer.refusals.len() == 1 { answer.refusals[0] } else { ours.as_ref().map_or(0, |words| words[0]) };
+        let number =
+            if answer.refusals.len() == 1 { answer.refusals[0] } else { ours.as_ref().map_or(0, |words| words[0]) };
         tally.met(&refusal_name(number));
         if number == 0 {
             let mut words = vec![0];

@@ -11,7 +11,11 @@ pub fn kind(word: u32) -> &'static str {
     } else if x.is_infinite() {
         KINDS[1]
     } else if x == 0.0 {
-        if x.is_sign_negative() { KINDS[2] } else { KINDS[3] }
+        if x.is_sign_negative() {
+            KINDS[2]
+        } else {
+            KINDS[3]
+        }
     } else if x.is_subnormal() {
         KINDS[4]
     } else if x < 0.0 {

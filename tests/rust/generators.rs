@@ -1,14 +1,26 @@
-//! Generators of numbers and points that find something: grid numbers, subnormals, sizes up to 2^20, slivers, nearly collinear points,
-//! quarter and arbitrary turns, and numbers spoiled to be out of range.
+//! Generators of numbers and points that find something: grid numbers, subnormals, sizes up to 2^20, slivers, nearly
+//! collinear points, quarter and arbitrary turns, and numbers spoiled to be out of range.
 use crate::ranges::{SIZE, TURN};
 use crate::support::Random;
 
-/// A float of one of the kinds that matter: any bits, specials, subnormals, tiny, grid numbers, ordinary sizes, neighbours of
-/// powers of two, squares.
+/// A float of one of the kinds that matter: any bits, specials, subnormals, tiny, grid numbers, ordinary sizes,
+/// neighbours of powers of two, squares.
 pub fn float(random: &mut Random) -> f32 {
     const SPECIAL: [u32; 14] = [
-        0x0000_0000, 0x8000_0000, 0x7f80_0000, 0xff80_0000, 0x7fc0_0000, 0xffc0_0001, 0x0000_0001, 0x807f_ffff, 0x0080_0000,
-        0x7f7f_ffff, 0xff7f_ffff, 0x3f80_0000, 0x3400_0000, 0x33ff_ffff,
+        0x0000_0000,
+        0x8000_0000,
+        0x7f80_0000,
+        0xff80_0000,
+        0x7fc0_0000,
+        0xffc0_0001,
+        0x0000_0001,
+        0x807f_ffff,
+        0x0080_0000,
+        0x7f7f_ffff,
+        0xff7f_ffff,
+        0x3f80_0000,
+        0x3400_0000,
+        0x33ff_ffff,
     ];
     let any = random.next() as u32;
     let sign = any & 0x8000_0000;
@@ -30,7 +42,11 @@ pub fn float(random: &mut Random) -> f32 {
 
 /// Any word, for what a call only overwrites or keeps.
 pub fn word(random: &mut Random) -> u32 {
-    if random.once_in(3) { random.next() as u32 } else { float(random).to_bits() }
+    if random.once_in(3) {
+        random.next() as u32
+    } else {
+        float(random).to_bits()
+    }
 }
 
 pub fn words(random: &mut Random, n: usize) -> Vec<u32> {
@@ -44,7 +60,11 @@ pub fn bits(list: &[f32]) -> Vec<u32> {
 /// A whole multiple of 1/256, of either zero.
 pub fn grid(random: &mut Random, steps: u64) -> f32 {
     let x = (random.below(2 * steps + 1) as f32 - steps as f32) / 256.0;
-    if x == 0.0 && random.once_in(2) { -0.0 } else { x }
+    if x == 0.0 && random.once_in(2) {
+        -0.0
+    } else {
+        x
+    }
 }
 
 /// From -1 to 1.
@@ -77,8 +97,8 @@ pub fn turn(random: &mut Random, limit: f32) -> u32 {
     x.to_bits()
 }
 
-/// Points of one of the kinds that matter: grid lists wide and narrow, slivers, nearly collinear and huge ones, subnormals, pairs at the
-/// weld limit, ordinary ones.
+/// Points of one of the kinds that matter: grid lists wide and narrow, slivers, nearly collinear and huge ones,
+/// subnormals, pairs at the weld limit, ordinary ones.
 pub fn points(random: &mut Random, n: usize) -> Vec<f32> {
     let kind = random.below(11);
     let scale = random.of(&[1.0f32, 4.0, 1000.0, SIZE]);

@@ -1,22 +1,30 @@
-//! The differential runs: every row of the table, ours against the unmodified Rust and Box2D 2.4.1, every field, refusals included; and
-//! malformed requests. Built with `--cfg papers` where the Rust is at hand and `--cfg box2d` where Box2D is.
+//! The differential runs: every row of the table, ours against the unmodified Rust and Box2D 2.4.1, every field,
+//! refusals included; and malformed requests. Built with `--cfg papers` where the Rust is at hand and `--cfg box2d`
+//! where Box2D is.
 //! usage: differential CASES SEED               compares, for each row until CASES were asked of the references
-//!        differential store FILE CASES SEED    prints answers for tests/stored/FILE.txt, on which the references agree
+//!        differential store FILE CASES SEED    prints answers for tests/stored/FILE.txt, which the references share
 #![allow(unknown_lints, unexpected_cfgs)]
+mod bodies;
 #[cfg(box2d)]
 mod box2d_oracle;
 mod compare;
+mod contacts;
 mod floats;
 mod generators;
 mod malformed;
+mod manifolds;
 mod ranges;
+mod row;
+#[cfg(papers)]
+mod rust_contacts;
 #[cfg(papers)]
 mod rust_oracle;
 mod shapes;
 mod support;
 mod table;
+use row::Row;
 use support::{one_nan, Random};
-use table::{Row, TABLE};
+use table::TABLE;
 
 fn store(file: &str, cases: u64, seed: u64) {
     let hex = |words: &[u32]| words.iter().map(|w| format!("{w:08x}")).collect::<Vec<_>>().join(" ");
@@ -54,6 +62,7 @@ fn main() {
     let (cases, seed) = (number(0), number(1));
     println!("seed {seed}");
     let mut results = vec![malformed::run(cases, seed)];
+    results.extend(table::SLICE.map(|call| malformed::run_slice(call, cases, seed)));
     for (i, row) in TABLE.iter().enumerate() {
         if compare::REFERENCES + row.ours.is_some() as usize >= 2 {
             results.push(compare::run(row, cases, seed + 1 + i as u64));

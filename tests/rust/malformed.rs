@@ -1,6 +1,8 @@
-//! Requests that are no request, under every entry's number and others, and outputs that are too short: 0 words, and nothing written.
-use crate::support::{calls_bytes, to_bytes, to_words, Random, Tally};
-use crate::table::{Row, TABLE};
+//! Requests that are no request, under every entry's number and others, and outputs that are too short: 0 words, and
+//! nothing written.
+use crate::row::Row;
+use crate::support::{calls_bytes, coordinates, to_bytes, to_words, Random, Tally};
+use crate::table::TABLE;
 
 const SPOILS: [&str; 10] = [
     "whole",
@@ -32,8 +34,13 @@ fn answer_words(bytes: &[u8]) -> Option<usize> {
 
 /// A word above `largest`, often one that a byte or a flag's lowest bit would take for another.
 fn above(random: &mut Random, largest: u32) -> u32 {
-    let word = [largest + 1, 255, 256, 257, 1 << 24, 1 << 31, u32::MAX, random.next() as u32][random.below(8) as usize];
-    if word > largest { word } else { largest + 1 }
+    let word =
+        [largest + 1, 255, 256, 257, 1 << 24, 1 << 31, u32::MAX, random.next() as u32][random.below(8) as usize];
+    if word > largest {
+        word
+    } else {
+        largest + 1
+    }
 }
 
 /// A request of the row, spoiled in the way named; `None` where it cannot be spoiled so.
@@ -44,7 +51,8 @@ fn spoiled(row: &Row, spoil: usize, random: &mut Random) -> Option<Vec<u8>> {
         3 => drop(words.pop()),
         7 => {
             let entry = words[0];
-            words[0] = [0, 17, entry << 24, entry | 1 << 8, entry | 1 << 31, random.next() as u32 | 32][random.below(6) as usize];
+            words[0] = [0, 17, entry << 24, entry | 1 << 8, entry | 1 << 31, random.next() as u32 | 32]
+                [random.below(6) as usize];
         }
         8 => {
             let (place, largest) = row.closed.get(random.below(row.closed.len().max(1) as u64) as usize)?;
@@ -75,7 +83,9 @@ fn one(tally: &mut Tally, input: &[u8], room: usize, random: &mut Random) -> boo
     let count = calls_bytes(input, &mut out) as usize;
     let words = answer_words(input).filter(|words| room >= 4 * words).unwrap_or(0);
     let right = count == words && out[4 * words..] == before[4 * words..];
-    tally.case(right, || format!("{input:02x?} with room for {room} bytes: {count} words, not {words}, or more written than they"));
+    tally.case(right, || {
+        format!("{input:02x?} with room for {room} bytes: {count} words, not {words}, or more written than they")
+    });
     words > 0
 }
 
@@ -101,7 +111,9 @@ pub fn run(cases: u64, seed: u64) -> bool {
                 let answered = one(&mut tally, &input, room, &mut random);
                 tally.met(&format!("{} {}", SPOILS[spoil], if answered { "answered" } else { "turned down" }));
                 if spoil == 0 && ours != answered || spoil > 0 && answered {
-                    tally.case(false, || format!("entry {}, {}: this harness spoils wrongly", row.entry, SPOILS[spoil]));
+                    tally.case(false, || {
+                        format!("entry {}, {}: this harness spoils wrongly", row.entry, SPOILS[spoil])
+                    });
                 }
             }
         }
@@ -116,6 +128,30 @@ pub fn run(cases: u64, seed: u64) -> bool {
         tally.met("any bytes");
     }
     tally.report(&wanted)
+}
+
+/// The lent slice: an old outline that is not 144 bytes, and outputs around the 148 that an answer takes.
+pub fn run_slice(call: fn(&[u8], &[f32], &mut [u8]) -> u32, cases: u64, seed: u64) -> bool {
+    let mut random = Random::new(seed);
+    let mut tally = Tally::new("malformed requests and short outputs, lent slice");
+    for _ in 0..cases {
+        let request = crate::shapes::set_any_count(&mut random);
+        let mut old = to_bytes(&request[1..37]);
+        let (mut room, whole) = (148 + random.below(9) as usize, random.below(3));
+        match whole {
+            1 => old.resize([0, 1, 140, 143, 145, 148, 288][random.below(7) as usize], 7),
+            2 => room = [0, 4, 144, 147][random.below(4) as usize],
+            _ => {}
+        }
+        let mut out: Vec<u8> = (0..room).map(|_| random.next() as u8).collect();
+        let before = out.clone();
+        let count = call(&old, &coordinates(&request), &mut out) as usize;
+        let words = if whole == 0 { 37 } else { 0 };
+        let right = count == words && out[4 * words..] == before[4 * words..];
+        tally.case(right, || format!("{} old bytes, room for {room}: {count} words, not {words}", old.len()));
+        tally.met(["answered", "an old outline of another length", "too short an output"][whole as usize]);
+    }
+    tally.report(&["answered", "an old outline of another length", "too short an output"].map(String::from))
 }
 
 /// Malformed requests in whole words, for tests/stored.

@@ -1,9 +1,13 @@
-//! Document 01's ranges on words of a request, and the refusals that they give: the harness's own, which no reference has.
+//! Document 01's ranges on words of a request, and the refusals that they give: the harness's own, which no reference
+//! has.
 
-/// The limits of shape numbers, of sine and cosine, of stored normals.
+/// The limits of shape numbers, of sine and cosine, of stored normals, of numbers of clips and given manifolds, of
+/// their local normal.
 pub const SIZE: f32 = 1048576.0;
 pub const TURN: f32 = 1.0;
 pub const NORMAL: f32 = 2.0;
+pub const CONTACT: f32 = 1073741824.0;
+pub const LOCAL_NORMAL: f32 = 8.0;
 
 pub const POLYGON: usize = 36;
 pub const EDGE: usize = 10;
@@ -16,6 +20,11 @@ pub fn within(words: &[u32], limit: f32) -> bool {
 /// 0 to the limit; -0 is 0.
 pub fn radius(word: u32) -> bool {
     f32::from_bits(word) >= 0.0 && within(&[word], SIZE)
+}
+
+/// A placement: position, sine and cosine.
+pub fn transform(record: &[u32]) -> bool {
+    within(&record[..2], SIZE) && within(&record[2..4], TURN)
 }
 
 /// An outline's numbers: radius, centroid, and the vertices and normals that a count of at most 8 takes in.

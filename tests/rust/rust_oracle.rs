@@ -1,4 +1,6 @@
-//! The unmodified Rust behind the request numbers of `calls`, on words. A panic of the Rust is `None`.
+//! The unmodified Rust behind the request numbers of `calls`, on words. A panic of the Rust is `None`. Contacts are
+//! in rust_contacts.
+use crate::rust_contacts;
 use box2d_rs::b2_common::B2_POLYGON_RADIUS;
 use box2d_rs::b2_math::{b2_sqrt, B2vec2};
 use box2d_rs::private::collision::{b2_edge_shape, b2_polygon_shape};
@@ -59,7 +61,8 @@ pub fn edge_words(e: &B2edgeShape) -> Vec<u32> {
     words
 }
 
-/// The record after the call, without a refusal; `None` where the Rust panics. Sine and cosine are those set for the process.
+/// The record after the call, without a refusal; `None` where the Rust panics. Sine and cosine are those set for the
+/// process.
 pub fn answer(request: &[u32]) -> Option<Vec<u32>> {
     let mut from = Reader(request.iter());
     match from.word() {
@@ -102,6 +105,6 @@ pub fn answer(request: &[u32]) -> Option<Vec<u32>> {
             words.extend(vec_words(v));
             Some(words)
         }
-        entry => panic!("no entry {entry} of the Rust"),
+        entry => rust_contacts::answer(entry, from),
     }
 }

@@ -1,4 +1,5 @@
-//! Requests of entries 1 to 6, outlines, boxes, validate and walls, and the refusals by range or count. Old records are full of random bits.
+//! Requests of entries 1 to 6, outlines, boxes, validate and walls, and the refusals by range or count. Old records
+//! are full of random bits.
 use crate::compare;
 use crate::generators::{bits, box_turn, number, points, spoil, turn, word, words};
 use crate::ranges::{self, first, within, EDGE, NORMAL, POLYGON, SIZE, TURN};
@@ -64,8 +65,8 @@ pub fn box_refusal(request: &[u32]) -> u32 {
     first(&[(2, within(sizes, SIZE)), (6, within(turns, TURN))])
 }
 
-/// An outline: mostly one that a reference builds, which mostly is convex; past the count, any bits. None of its numbers is out of range,
-/// but the centroid of a built one may be.
+/// An outline: mostly one that a reference builds, which mostly is convex; past the count, any bits. None of its
+/// numbers is out of range, but the centroid of a built one may be.
 pub fn outline(random: &mut Random) -> Vec<u32> {
     let built = if random.below(3) > 0 { build(random) } else { None };
     let mut record = built.unwrap_or_else(|| {

@@ -1,4 +1,5 @@
-//! What the rows share: our C entries on words, words compared with one NaN, random numbers, and the count of a comparison.
+//! What the rows share: our C entries on words, words compared with one NaN, random numbers, and the count of a
+//! comparison.
 
 extern "C" {
     // A `&[u8]` of Rattle is a pointer and a length.
@@ -6,7 +7,14 @@ extern "C" {
     fn calls_raw(input: *const u8, input_len: usize, out: *mut u8, out_len: usize) -> u32;
     // Entry 1 on a lent slice: the old outline's 144 bytes, the points as floats x, y; count is the number of points.
     #[allow(dead_code)]
-    fn calls_outline_slice(old: *const u8, old_len: usize, points: *const f32, count: usize, out: *mut u8, out_len: usize) -> u32;
+    fn calls_outline_slice(
+        old: *const u8,
+        old_len: usize,
+        points: *const f32,
+        count: usize,
+        out: *mut u8,
+        out_len: usize,
+    ) -> u32;
 }
 
 pub fn to_bytes(words: &[u32]) -> Vec<u8> {
@@ -29,16 +37,17 @@ pub fn calls(request: &[u32]) -> Vec<u32> {
     to_words(&out[..4 * count])
 }
 
-/// A request of entry 1, answered through the entry that takes the points as a lent slice.
+/// The same of the entry that takes points as a lent slice: the old outline's bytes, and coordinates x, y.
 #[allow(dead_code)]
-pub fn lent_slice(request: &[u32]) -> Vec<u32> {
-    let old = to_bytes(&request[1..37]);
-    let points: Vec<f32> = request[38..].iter().map(|w| f32::from_bits(*w)).collect();
-    let mut out = [0u8; 256];
-    let count = unsafe {
+pub fn slice_bytes(old: &[u8], points: &[f32], out: &mut [u8]) -> u32 {
+    unsafe {
         calls_outline_slice(old.as_ptr(), old.len(), points.as_ptr(), points.len() / 2, out.as_mut_ptr(), out.len())
-    };
-    to_words(&out[..4 * count as usize])
+    }
+}
+
+/// The points of a request of entry 1, as coordinates.
+pub fn coordinates(request: &[u32]) -> Vec<f32> {
+    request[38..].iter().map(|w| f32::from_bits(*w)).collect()
 }
 
 /// Words for a comparison: every NaN is one value. Those at the places `plain` are no floats.

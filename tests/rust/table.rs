@@ -1,37 +1,23 @@
 //! The table of entries: a row for each, with its generator and what a comparison has to know of it.
+use crate::contacts::{self, MANIFOLD, TRANSFORM};
 use crate::floats::{self, KINDS};
+use crate::manifolds;
 use crate::ranges::{EDGE, POLYGON};
+use crate::row::Row;
 use crate::shapes;
-use crate::support::{calls, Random};
+use crate::support::{calls, coordinates, to_bytes, to_words};
 
-pub struct Row {
-    pub name: &'static str,
-    /// The number of the request, by which both oracles go.
-    pub entry: u32,
-    /// The file of tests/stored that has answers of it.
-    pub stored: &'static str,
-    pub generate: fn(&mut Random) -> Vec<u32>,
-    /// The refusal that document 01 adds to the references', by the harness's own test of counts and ranges.
-    pub refusal: fn(&[u32]) -> u32,
-    /// The refusals that an assert of a reference can stand for; of the Rust's panics nothing tells which.
-    #[cfg_attr(not(papers), allow(dead_code))]
-    pub panics: &'static [u32],
-    /// What a run has to meet: 0 for accepted, and the refusals that can be reached.
-    pub reachable: &'static [u32],
-    /// What a refused call answers after the refusal.
-    pub refused: fn(&[u32]) -> Vec<u32>,
-    /// Words of a request, for entry 1 without its points, and of the record in the answer.
-    pub length: usize,
-    pub record: usize,
-    /// Words of the record that are no floats.
-    pub plain: &'static [usize],
-    /// Words of the request that hold at most a number, or it is malformed.
-    pub closed: &'static [(usize, u32)],
-    /// What is counted of a request and its answer, and what of it must be met.
-    pub kinds: fn(&[u32], &[u32]) -> Vec<&'static str>,
-    pub wanted: &'static [&'static str],
-    /// Ours; without it only the references are compared with each other.
-    pub ours: Option<fn(&[u32]) -> Vec<u32>>,
+/// What we do not have yet: entries 7 to 14, `Some(calls)` when they are there, and the outline builder on a lent slice,
+/// `Some(support::slice_bytes)`.
+const CONTACTS: Option<fn(&[u32]) -> Vec<u32>> = None;
+pub const SLICE: Option<fn(&[u8], &[f32], &mut [u8]) -> u32> = None;
+
+/// A request of entry 1, answered through the lent slice.
+fn lent_slice(request: &[u32]) -> Vec<u32> {
+    let mut out = [0u8; 256];
+    let call = SLICE.expect("the entry on a lent slice");
+    let count = call(&to_bytes(&request[1..37]), &coordinates(request), &mut out) as usize;
+    to_words(&out[..4 * count])
 }
 
 fn none(_: &[u32]) -> u32 {
@@ -103,6 +89,27 @@ const WALL: Row = Row {
     closed: &[(2, 1)],
     ..BOX
 };
+fn old_manifold(request: &[u32]) -> Vec<u32> {
+    request[1..1 + MANIFOLD].to_vec()
+}
+
+const CIRCLES: Row = Row {
+    name: "circles",
+    entry: 7,
+    stored: "contacts",
+    generate: contacts::circles,
+    refusal: contacts::refusal,
+    reachable: &[0, 2, 6],
+    refused: old_manifold,
+    length: 1 + MANIFOLD + 3 + TRANSFORM + 3 + TRANSFORM,
+    record: MANIFOLD,
+    plain: &[0, 1, 10, 15],
+    closed: &[(1, 2)],
+    kinds: contacts::kinds,
+    wanted: &["0 points", "1 point", "circles"],
+    ours: CONTACTS,
+    ..BOX
+};
 const ROOT: Row = Row {
     name: "root",
     entry: 15,
@@ -121,7 +128,12 @@ const ROOT: Row = Row {
 
 pub const TABLE: &[Row] = &[
     OUTLINE,
-    Row { name: "outline builder, lent slice", generate: shapes::set_any_count, ours: None, ..OUTLINE },
+    Row {
+        name: "outline builder, lent slice",
+        generate: shapes::set_any_count,
+        ours: if SLICE.is_some() { Some(lent_slice) } else { None },
+        ..OUTLINE
+    },
     BOX,
     Row {
         name: "box with sine and cosine",
@@ -134,6 +146,91 @@ pub const TABLE: &[Row] = &[
     VALIDATE,
     WALL,
     Row { name: "two-sided wall", entry: 6, generate: shapes::set_two_sided, length: 5 + EDGE, ..WALL },
+    CIRCLES,
+    Row {
+        name: "outline and circle",
+        entry: 8,
+        generate: contacts::outline_and_circle,
+        reachable: &[0, 2, 6, 7],
+        length: 1 + MANIFOLD + POLYGON + TRANSFORM + 3 + TRANSFORM,
+        wanted: &["0 points", "1 point", "face A"],
+        ..CIRCLES
+    },
+    Row {
+        name: "outlines",
+        entry: 9,
+        generate: contacts::outlines,
+        reachable: &[0, 2, 6, 7],
+        length: 1 + MANIFOLD + 2 * POLYGON + 2 * TRANSFORM,
+        wanted: &["0 points", "1 point", "2 points", "face A", "face B"],
+        ..CIRCLES
+    },
+    Row {
+        name: "wall and circle",
+        entry: 10,
+        generate: contacts::wall_and_circle,
+        panics: &[8],
+        reachable: &[0, 2, 6, 8],
+        length: 1 + MANIFOLD + EDGE + TRANSFORM + 3 + TRANSFORM,
+        closed: &[(1, 2), (2 + MANIFOLD, 1)],
+        wanted: &["0 points", "1 point", "circles", "face A"],
+        ..CIRCLES
+    },
+    Row {
+        name: "wall and outline",
+        entry: 11,
+        generate: contacts::wall_and_outline,
+        reachable: &[0, 2, 6, 7],
+        length: 1 + MANIFOLD + EDGE + TRANSFORM + POLYGON + TRANSFORM,
+        closed: &[(1, 2), (2 + MANIFOLD, 1)],
+        wanted: &["0 points", "1 point", "2 points", "face A", "face B"],
+        ..CIRCLES
+    },
+    Row {
+        name: "clip",
+        entry: 12,
+        generate: manifolds::clip,
+        refusal: manifolds::clip_refusal,
+        reachable: &[0, 9],
+        refused: |request| [&[0], &request[1..7]].concat(),
+        length: 17,
+        record: 7,
+        plain: &[0, 3, 6],
+        closed: &[],
+        kinds: manifolds::clip_kinds,
+        wanted: &["0 ends", "1 end", "2 ends", "cut"],
+        ..CIRCLES
+    },
+    Row {
+        name: "world points",
+        entry: 13,
+        generate: manifolds::world_points,
+        refusal: manifolds::world_refusal,
+        reachable: &[0, 6, 7, 9],
+        refused: |request| request[1..9].to_vec(),
+        length: 1 + 8 + MANIFOLD + 2 * TRANSFORM + 2,
+        record: 8,
+        plain: &[],
+        closed: &[(9, 2)],
+        kinds: manifolds::world_kinds,
+        wanted: &["0 points", "1 point", "2 points", "circles", "circles along x", "face A", "face B"],
+        ..CIRCLES
+    },
+    Row {
+        name: "point states",
+        entry: 14,
+        generate: manifolds::point_states,
+        refusal: manifolds::states_refusal,
+        reachable: &[0, 7],
+        refused: |request| request[1..5].to_vec(),
+        length: 5 + 2 * MANIFOLD,
+        record: 4,
+        plain: &[0, 1, 2, 3],
+        closed: &[(1, 3), (2, 3), (3, 3), (4, 3), (5, 2), (21, 2)],
+        kinds: manifolds::states_kinds,
+        wanted: &["null", "add", "persist", "remove"],
+        ..CIRCLES
+    },
     ROOT,
     Row {
         name: "normalise",
@@ -141,7 +238,9 @@ pub const TABLE: &[Row] = &[
         generate: floats::normalize,
         length: 3,
         record: 3,
-        kinds: |request, answer| vec![floats::kind(request[1]), if answer[1] == 0 { "kept as it was" } else { "made unit" }],
+        kinds: |request, answer| {
+            vec![floats::kind(request[1]), if answer[1] == 0 { "kept as it was" } else { "made unit" }]
+        },
         wanted: &["NaN", "infinity", "-0", "+0", "subnormal", "below 0", "normal", "kept as it was", "made unit"],
         ..ROOT
     },

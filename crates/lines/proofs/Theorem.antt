@@ -13,7 +13,7 @@ use native.Mathlib.Omega.{arith}
 use lib.Dec.{leb, ltb}
 use lib.ListN.{length}
 use borrow.Author.Tests.{ltb-true, lt-ltb, le-ltb, le-leb, lt-leb}
-use Rattle.algebra.proofs.Loops.{less-or-not}
+use Rattle.algebra.proofs.Booleans.{less-or-not}
 use Rattle.lines.specs.Hex.{nibble, with-byte, unhex, largest-frame, line-limit, frame-of, digit, hex}
 use Rattle.lines.specs.Fields.{number-at, number-bytes}
 use Rattle.lines.proofs.Reading.{between}
