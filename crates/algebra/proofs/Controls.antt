@@ -8,6 +8,7 @@ use Rattle.algebra.specs.Integer.{whole, signed, _⊞_, _⊟_, _⊠_, op
 use Rattle.algebra.specs.Squares.{OverRootLe}
 use Rattle.algebra.specs.Polynomial.{var, num, _:+_, _:*_, SamePolynomial}
 use Rattle.algebra.specs.Plane.{Point, orient}
+use Rattle.algebra.proofs.Squares.{over-root-same}
 
 three-less-five : whole 3 ⊟ whole 5 ≐ signed true 2
 three-less-five = refl
@@ -39,6 +40,10 @@ size-above-two h = omega arith
 -- 3 / √4 ≤ 3 / 2, with equality
 root-of-four : OverRootLe (whole 3) 4 (whole 3) 2
 root-of-four = lit≤ tt
+
+-- the same with 3 as 5 - 2
+root-of-four-again : OverRootLe (5, 2) 4 (whole 3) 2
+root-of-four-again = over-root-same (whole 3) (5, 2) (whole 3) (whole 3) 4 2 refl refl root-of-four
 
 -- 2 / √1 is above 3 / 2
 two-over-one : ¬ OverRootLe (whole 2) 1 (whole 3) 2

@@ -1,4 +1,3 @@
-pub mod Controls
 pub mod Integer
 pub mod Signs
 pub mod Magnitude
@@ -15,3 +14,4 @@ pub mod Scan
 pub mod Weld
 pub mod Naming
 pub mod Places
+pub mod Controls

@@ -60,13 +60,6 @@ module _ {z : Float} {num : Z} {den : ℕ} (r : Rounds z num den) where
       by-sign true w g e p h = let w-pos = p (omega arith) in omega arith
       by-sign false w g e p h = absurd (omega arith)
 
-  pub rounds-positive : whole 0 ≺ val z → whole 0 ≺ num
-  rounds-positive h = by-sign (r .negative) (r .size) (mag z) (r .exact) (size-pos r) (rw (rounds-sign r) at h)
-    where
-      by-sign : (s : Bool) (w g : ℕ) → signed s w ≐ num → (0 < g → 0 < w) → whole 0 ≺ signed s g → whole 0 ≺ num
-      by-sign false w g e p h = let w-pos = p (omega arith) in omega arith
-      by-sign true w g e p h = absurd (omega arith)
-
 module _ {z : Float} {num : Z} {den : ℕ} (r : Rounds z num den) where
   pub rounds-not-negative : whole 0 ≼ num → whole 0 ≼ val z
   rounds-not-negative h = elim (order-cases (whole 0) (val z)) [
