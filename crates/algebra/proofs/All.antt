@@ -1,5 +1,5 @@
--- A test of all elements of a list: passed where every place passes; a place at a time, up to the first that fails; and over every
--- place, with those past a count left out. Assumes nothing.
+-- A test of all elements of a list: passed where every place passes; a place at a time, up to the first that fails;
+-- and over every place, with those past a count left out. Assumes nothing.
 use mathlib.Core.Path.{_≡_, sym, _∙_, ap, ap₂}
 use mathlib.Core.Bool.{Bool, true, false, _&&_, _||_, and-true, or-true, or-false, and-assoc}
 use mathlib.Core.List.{List, [], _∷_, _++_}
@@ -34,7 +34,8 @@ module _ {A : Type 0} where
   all-ended test l i end so-far = ap (all-of test) (sym (drop-length l) ∙ ap (λ (k : ℕ). drop k l) (sym end)) ∙ so-far
 
   -- ---- every place
-  pub all-at : (test : A → Bool) (l : List A) (d : A) → ((i : ℕ) → i < length l → T (test (getD l i d))) → T (all-of test l)
+  pub all-at : (test : A → Bool) (l : List A) (d : A) → ((i : ℕ) → i < length l → T (test (getD l i d)))
+      → T (all-of test l)
   all-at test [] d at = tt
   all-at test (a ∷ l) d at =
       yes-and (test a) (all-of test l) (at 0 (omega arith)) (all-at test l d (λ i h. at (suc i) (omega arith)))

@@ -1,6 +1,6 @@
--- The one law of all field writers: a part written into `&mut buffer[at..]`, after the at elements that were written before, leaves the
--- buffer with both at its front (`over-next`); and stores element by element, in the first places or at the first that is not yet
--- written (`over-store`). Assumes nothing.
+-- The one law of all field writers: a part written into `&mut buffer[at..]`, after the at elements that were written
+-- before, leaves the buffer with both at its front (`over-next`); and stores element by element, in the first places
+-- or at the first that is not yet written (`over-store`). Assumes nothing.
 use Prim.Native.Nat.{ℕ, suc, _+_, _-_, _≤_, _<_}
 use mathlib.Core.Path.{_≡_, refl, sym, _∙_, ap}
 use mathlib.Core.List.{List, [], _∷_, _++_, append-assoc, append-nil}
@@ -30,9 +30,11 @@ module _ {A : Type 0} where
       → putMid at (length buffer - at) buffer part ≡ over (first ++ next) old
   over-next first next old buffer part at first-length written next-written =
       let rest : drop at buffer ≡ drop at old =
-      ap (drop at) written ∙ drop-at first (drop (length first) old) at first-length ∙ ap (λ (k : ℕ). drop k old) first-length in
+      ap (drop at) written ∙ drop-at first (drop (length first) old) at first-length
+      ∙ ap (λ (k : ℕ). drop k old) first-length in
       let new-part : part ≡ next ++ drop (at + length next) old =
-      next-written ∙ ap (over next) (tail-lent at buffer ∙ rest) ∙ ap (λ (l : List A). next ++ l) (drop-drop (length next) at old) in
+      next-written ∙ ap (over next) (tail-lent at buffer ∙ rest)
+      ∙ ap (λ (l : List A). next ++ l) (drop-drop (length next) at old) in
       let total : at + length next ≡ length (first ++ next) = omega (arith, length-append first next, first-length) in
       tail-back at buffer part
       ∙ ap (λ (l : List A). l ++ part) (ap (take at) written ∙ take-at first (drop (length first) old) at first-length)
@@ -49,7 +51,8 @@ module _ {A : Type 0} where
   two-stores (w ∷ []) a b room = absurd (omega arith)
   two-stores (w ∷ x ∷ l) a b room = refl
 
-  pub four-stores : (l : List A) (a b c d : A) → 4 ≤ length l → set (set (set (set l 0 a) 1 b) 2 c) 3 d ≡ over (a ∷ b ∷ c ∷ d ∷ []) l
+  pub four-stores : (l : List A) (a b c d : A) → 4 ≤ length l
+      → set (set (set (set l 0 a) 1 b) 2 c) 3 d ≡ over (a ∷ b ∷ c ∷ d ∷ []) l
   four-stores [] a b c d room = absurd (omega arith)
   four-stores (w ∷ []) a b c d room = absurd (omega arith)
   four-stores (w ∷ x ∷ []) a b c d room = absurd (omega arith)
@@ -57,12 +60,14 @@ module _ {A : Type 0} where
   four-stores (w ∷ x ∷ y ∷ z ∷ l) a b c d room = refl
 
   -- a store at the first place that is not yet written
-  store-one-more : (new old : List A) (a : A) → length new < length old → set (over new old) (length new) a ≡ over (new ++ (a ∷ [])) old
+  store-one-more : (new old : List A) (a : A) → length new < length old
+      → set (over new old) (length new) a ≡ over (new ++ (a ∷ [])) old
   store-one-more new old a room =
       ap (λ (l : List A). set (new ++ l) (length new) a) (drop-cons old (length new) a room)
       ∙ set-append-seam new (getD old (length new) a) (drop (suc (length new)) old) a
       ∙ sym (append-assoc new (a ∷ []) (drop (suc (length new)) old))
-      ∙ ap (λ (k : ℕ). (new ++ (a ∷ [])) ++ drop k old) (sym (length-one-more new a (length new) refl ∙ add-one (length new)))
+      ∙ ap (λ (k : ℕ). (new ++ (a ∷ [])) ++ drop k old)
+      (sym (length-one-more new a (length new) refl ∙ add-one (length new)))
 
   pub over-store : (array new old : List A) (a : A) (n : ℕ) → array ≡ over new old → length new ≡ n → n < length old
       → set array n a ≡ over (new ++ (a ∷ [])) old

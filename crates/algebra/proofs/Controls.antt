@@ -1,4 +1,5 @@
--- Closed cases that pin the definitions of this crate: what they give is worked out by hand on the right. Assumes nothing.
+-- Closed cases that pin the definitions of this crate: what they give is worked out by hand on the right. Assumes
+-- nothing.
 use mathlib.Core.Path.{refl}
 use mathlib.Core.Bool.{true}
 use Prim.Native.Nat.{ℕ}
@@ -67,7 +68,8 @@ clockwise : orient (at 0 0) (at 0 1) (at 1 0) ≐ signed true 1
 clockwise = refl
 
 -- (a + b)(a + b) = a a + 2 a b + b b, and not a a + b b
-square-of-sum : SamePolynomial ((var 0 :+ var 1) :* (var 0 :+ var 1)) (var 0 :* var 0 :+ num 2 :* var 0 :* var 1 :+ var 1 :* var 1)
+square-of-sum : SamePolynomial ((var 0 :+ var 1) :* (var 0 :+ var 1))
+    (var 0 :* var 0 :+ num 2 :* var 0 :* var 1 :+ var 1 :* var 1)
 square-of-sum = tt
 
 not-without-middle : ¬ SamePolynomial ((var 0 :+ var 1) :* (var 0 :+ var 1)) (var 0 :* var 0 :+ var 1 :* var 1)

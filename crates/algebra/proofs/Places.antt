@@ -1,5 +1,5 @@
--- Places of an array: which ones `places` lists, a list as what stands at its places, and the place that a scan from place 0 finds.
--- Assumes nothing.
+-- Places of an array: which ones `places` lists, a list as what stands at its places, and the place that a scan from
+-- place 0 finds. Assumes nothing.
 use mathlib.Core.Path.{_≡_, refl, ap, ap₂, _∙_}
 use mathlib.Core.List.{List, [], _∷_, List·Memᴰ, List·Memᴰ·cases-cons, List·Memᴰ·not-nil, map}
 use mathlib.Core.Logic.{_⊎_, inl, inr}
@@ -22,7 +22,8 @@ places-bound i (suc n) j m = go (places-bound (suc i) n j) (List·Memᴰ·cases-
 pub places-map : {A : Type 0} (f : ℕ → A) (l : List A) (d : A) (i : ℕ) → ((j : ℕ) → f (i + j) ≡ getD l j d)
     → map f (places i (length l)) ≡ l
 places-map f [] d i at = refl
-places-map f (a ∷ l) d i at = ap₂ _∷_ (ap f i-is ∙ at zero) (places-map f l d (suc i) (λ j. ap f (moved j) ∙ at (suc j)))
+places-map f (a ∷ l) d i at =
+    ap₂ _∷_ (ap f i-is ∙ at zero) (places-map f l d (suc i) (λ j. ap f (moved j) ∙ at (suc j)))
   where
     i-is : i ≡ i + zero
     i-is = omega arith

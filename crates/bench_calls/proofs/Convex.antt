@@ -20,7 +20,8 @@ rest-of xs = take-all (length xs - 16) (drop 16 xs) (rw (length-drop 16 xs) (le-
 
 module _ (xs : List Float) (count : ℕ) where
   -- the outline of the parts that were read
-  pub of-parts : (centroid : B2vec2) (vertices normals : List B2vec2) → centroid ≡ point-of xs 16 → vertices ≡ points-of xs 8
+  pub of-parts : (centroid : B2vec2) (vertices normals : List B2vec2) → centroid ≡ point-of xs 16
+      → vertices ≡ points-of xs 8
       → normals ≡ points-of (drop 16 xs) 8
       → b2-polygon-shape-validate (record {
         «m_radius» = b2-polygon-radius;
@@ -30,7 +31,8 @@ module _ (xs : List Float) (count : ℕ) where
         «m_count» = count;
       })
       ≡ b2-polygon-shape-validate (outline-in xs count)
-  of-parts centroid vertices normals centroid-is vertices-are normals-are = simp (centroid-is, vertices-are, normals-are)
+  of-parts centroid vertices normals centroid-is vertices-are normals-are =
+      simp (centroid-is, vertices-are, normals-are)
 
   pub too-short : length xs < 34 → 2 ≡ convex-code xs count
   unfolding convex-code

@@ -20,12 +20,14 @@ use Rattle.bench_calls.specs.Outlines.{point-of, points-of, flat}
 
 pub point-read : (xs : List Float) (i : ℕ) (d : Float) → 2 * i + 2 ≤ length xs
     → vec2 (getD xs (2 * i) d) (getD xs (2 * i + 1) d) ≡ point-of xs i
-point-read xs i d room = ap₂ vec2 (getD-within xs (2 * i) d zero32 (omega arith)) (getD-within xs (2 * i + 1) d zero32 (omega arith))
+point-read xs i d room =
+    ap₂ vec2 (getD-within xs (2 * i) d zero32 (omega arith)) (getD-within xs (2 * i + 1) d zero32 (omega arith))
 
 -- one more point is read
 pub points-next : (xs : List Float) (ps : List B2vec2) (p : B2vec2) (i : ℕ) → i < length ps → take i ps ≡ points-of xs i
     → p ≡ point-of xs i → take (i + 1) (set ps i p) ≡ points-of xs (i + 1)
-points-next xs ps p i room so-far p-is = read-next (λ k. getD xs k zero32) 0 i ps p room (rw (zero-add (2 * i)) p-is) so-far
+points-next xs ps p i room so-far p-is =
+    read-next (λ k. getD xs k zero32) 0 i ps p room (rw (zero-add (2 * i)) p-is) so-far
 
 -- ---- writing
 flat-append : (ps : List B2vec2) (p : B2vec2) → flat (ps ++ (p ∷ [])) ≡ flat ps ++ (p .x ∷ p .y ∷ [])
@@ -37,12 +39,14 @@ unfolding flat
 length-flat ps = length-coordinates ps
 
 -- one more point is written behind the first i
-pub point-written : (ps : List B2vec2) (old buffer part : List Float) (p d : B2vec2) (i : ℕ) → i < length ps → p ≡ getD ps i d
+pub point-written : (ps : List B2vec2) (old buffer part : List Float) (p d : B2vec2) (i : ℕ) → i < length ps
+    → p ≡ getD ps i d
     → buffer ≡ over (flat (take i ps)) old
     → part ≡ over (p .x ∷ p .y ∷ []) (midOf (2 * i) (length buffer - 2 * i) buffer)
     → putMid (2 * i) (length buffer - 2 * i) buffer part ≡ over (flat (take (i + 1) ps)) old
 point-written ps old buffer part p d i within p-is before-written part-written =
-    let so-far : length (flat (take i ps)) ≡ 2 * i = length-flat (take i ps) ∙ ap (λ (n : ℕ). 2 * n) (length-take-le i ps (omega arith)) in
+    let so-far : length (flat (take i ps)) ≡ 2 * i = length-flat (take i ps)
+    ∙ ap (λ (n : ℕ). 2 * n) (length-take-le i ps (omega arith)) in
     let one-more : flat (take (i + 1) ps) ≡ flat (take i ps) ++ (p .x ∷ p .y ∷ []) =
     ap (λ (n : ℕ). flat (take n ps)) (add-one i) ∙ ap flat (take-suc ps i d within)
     ∙ ap (λ (q : B2vec2). flat (take i ps ++ (q ∷ []))) (sym p-is) ∙ flat-append (take i ps) p in

@@ -15,7 +15,8 @@ use Rattle.shape_definitions.proofs.Counted.{counted-whole}
 use Rattle.bench_calls.specs.Outlines.{points-of, empty-outline, built, code-of, floats-of, left-by, code, left}
 
 -- the core on the points that were read, all of them where there are at most eight
-pub built-counted : (xs : List Float) (ps : List B2vec2) (n read : ℕ) (answer : PolygonAnswer) → n ≡ length xs / 2 → (n ≤ 8 → read ≡ n)
+pub built-counted : (xs : List Float) (ps : List B2vec2) (n read : ℕ) (answer : PolygonAnswer) → n ≡ length xs / 2
+    → (n ≤ 8 → read ≡ n)
     → take read ps ≡ points-of xs read → answer ≡ b2-polygon-shape-set-counted empty-outline ps n → answer ≡ built xs
 built-counted xs ps n read answer n-is all were-read is =
     is ∙ counted-whole empty-outline ps (points-of xs n) n (length-points-from (λ k. getD xs k zero32) 0 n)

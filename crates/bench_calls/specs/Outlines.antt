@@ -1,4 +1,5 @@
--- Building an outline from flat coordinates, x then y: the corners, the normals and the centroid go to the front of an output. Definitions only.
+-- Building an outline from flat coordinates, x then y: the corners, the normals and the centroid go to the front of
+-- an output. Definitions only.
 use mathlib.Core.Bool.{cond}
 use mathlib.Core.List.{List, [], _∷_, _++_}
 use Prim.Native.Nat.{ℕ, _+_, _*_, _/_}
@@ -58,7 +59,8 @@ code answer out = cond (ltb (length out) 34) 0 (code-of answer)
 
 -- what is left in the output: the corners, the normals and the centroid of an accepted outline at its front
 abbrev pub floats-of : B2polygonShape → List Float
-floats-of shape = flat (shape .«m_vertices») ++ flat (shape .«m_normals») ++ (shape .«m_centroid» .x ∷ shape .«m_centroid» .y ∷ [])
+floats-of shape =
+    flat (shape .«m_vertices») ++ flat (shape .«m_normals») ++ (shape .«m_centroid» .x ∷ shape .«m_centroid» .y ∷ [])
 
 abbrev pub left-by : PolygonAnswer → List Float → List Float
 left-by answer out = cond (eqb (answer .refusal) 0) (over (floats-of (answer .shape)) out) out
@@ -66,7 +68,8 @@ left-by answer out = cond (eqb (answer .refusal) 0) (over (floats-of (answer .sh
 unfoldable pub left : PolygonAnswer → List Float → List Float
 left answer out = cond (ltb (length out) 34) out (left-by answer out)
 
--- ---- the convexity test: an outline in the same floats, with its count; 1 for convex, 0 for not, 256 and the refusal; 2 for fewer floats
+-- ---- the convexity test: an outline in the same floats, with its count
+-- 1 for convex, 0 for not, 256 and the refusal; 2 for fewer floats
 abbrev pub outline-in : List Float → ℕ → B2polygonShape
 outline-in xs count = record {
   «m_radius» = b2-polygon-radius;

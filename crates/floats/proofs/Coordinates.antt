@@ -1,5 +1,5 @@
--- Points as coordinates: a point read from a row of coordinates and one stored there; points read one after the other from numbered
--- coordinates; and one more point at the end of a row. Assumes nothing.
+-- Points as coordinates: a point read from a row of coordinates and one stored there; points read one after the other
+-- from numbered coordinates; and one more point at the end of a row. Assumes nothing.
 use mathlib.Core.Path.{_≡_, refl, sym, _∙_, ap, ap₂}
 use mathlib.Core.List.{List, [], _∷_, _++_}
 use Prim.Native.Nat.{ℕ, zero, suc, _+_, _*_, _≤_, _<_}
@@ -89,7 +89,8 @@ module _ (coordinate : ℕ → Float) where
       ∙ ap (λ (p : B2vec2). points-from coordinate i k ++ (p ∷ [])) v-is ∙ sym (points-from-next i k))
 
 -- ---- to coordinates
-pub coordinates-append : (ps : List B2vec2) (p : B2vec2) → coordinates-of (ps ++ (p ∷ [])) ≡ coordinates-of ps ++ (p .x ∷ p .y ∷ [])
+pub coordinates-append : (ps : List B2vec2) (p : B2vec2)
+    → coordinates-of (ps ++ (p ∷ [])) ≡ coordinates-of ps ++ (p .x ∷ p .y ∷ [])
 coordinates-append [] p = refl
 coordinates-append (q ∷ ps) p = ap (λ (xs : List Float). q .x ∷ q .y ∷ xs) (coordinates-append ps p)
 

@@ -1,5 +1,5 @@
--- Points as coordinates, x before y: the points of a row of coordinates, the points that are read from numbered coordinates, and the
--- coordinates of points. Definitions only.
+-- Points as coordinates, x before y: the points of a row of coordinates, the points that are read from numbered
+-- coordinates, and the coordinates of points. Definitions only.
 use mathlib.Core.List.{List, [], _∷_}
 use Prim.Native.Nat.{ℕ, zero, suc, _+_}
 use lib.Ieee.{Float}

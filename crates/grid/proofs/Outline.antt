@@ -1,5 +1,5 @@
--- What holds of the outline that is built from a grid list: 3 to 8 grid corners, at each place the normal of the edge from its corner to
--- the next, and every number in range where the radius is. Assumes nothing.
+-- What holds of the outline that is built from a grid list: 3 to 8 grid corners, at each place the normal of the edge
+-- from its corner to the next, and every number in range where the radius is. Assumes nothing.
 use mathlib.Core.Path.{_≡_, refl, sym, ap, _∙_, subst}
 use mathlib.Core.List.{List, map}
 use mathlib.Core.List as L
@@ -33,7 +33,8 @@ use Rattle.grid.proofs.Centroid.{centroid-in-range}
 values-at : (cs : List B2vec2) (i : ℕ) → getD (values cs) i (value-point origin) ≡ value-point (point-at cs i)
 values-at cs i = List·getD-map value-point cs i origin
 
-module _ (cs : List B2vec2) (grid : GridList cs) (once : Once (values cs)) (two : 2 ≤ length cs) (i : ℕ) (i-in : i < length cs) where
+module _ (cs : List B2vec2) (grid : GridList cs) (once : Once (values cs)) (two : 2 ≤ length cs) (i : ℕ)
+    (i-in : i < length cs) where
   corners-differ : ¬ (value-point (point-at cs (place-after (length cs) i)) ≡ value-point (point-at cs i))
   corners-differ e =
       after-other (length cs) i two i-in
@@ -45,7 +46,8 @@ module _ (cs : List B2vec2) (grid : GridList cs) (once : Once (values cs)) (two 
   at-grid j j-in = grid (point-at cs j) (getD-mem cs j origin j-in)
 
   -- the normal at a place
-  pub normal-at : EdgeNormal (point-at cs i) (point-at cs (place-after (length cs) i)) (point-at (map normal-of-edge (edges cs)) i)
+  pub normal-at : EdgeNormal (point-at cs i) (point-at cs (place-after (length cs) i))
+      (point-at (map normal-of-edge (edges cs)) i)
   normal-at =
       subst (EdgeNormal (point-at cs i) (point-at cs (place-after (length cs) i)))
       (sym (getD-within (map normal-of-edge (edges cs)) i origin (normal-of-edge origin)
@@ -56,13 +58,15 @@ module _ (cs : List B2vec2) (grid : GridList cs) (once : Once (values cs)) (two 
 -- ---- the outline made of such corners
 module _ (old : B2polygonShape) (s : List Point) (cs : List B2vec2) (c : Corners s cs) where
   row-three : 3 ≤ length cs
-  row-three = subst (λ (n : ℕ). 3 ≤ n) (sym (ap length (c .hull .is)) ∙ length-map cs value-point) (c .hull .hull .three)
+  row-three =
+      subst (λ (n : ℕ). 3 ≤ n) (sym (ap length (c .hull .is)) ∙ length-map cs value-point) (c .hull .hull .three)
 
   row-once : Once (values cs)
   row-once = subst Once (sym (c .hull .is)) (c .hull .hull .once)
 
   row-normal : (i : ℕ) → i < length cs
-      → EdgeNormal (point-at cs i) (point-at cs (place-after (length cs) i)) (point-at (map normal-of-edge (edges cs)) i)
+      → EdgeNormal (point-at cs i) (point-at cs (place-after (length cs) i))
+      (point-at (map normal-of-edge (edges cs)) i)
   row-normal i i-in = normal-at cs (c .grid) row-once (let h = row-three in omega arith) i i-in
 
   normals-length : length (map normal-of-edge (edges cs)) ≡ length cs
@@ -73,23 +77,28 @@ module _ (old : B2polygonShape) (s : List Point) (cs : List B2vec2) (c : Corners
   vertex-at i i-in = sym (List·getD-append cs (drop (length cs) (old .«m_vertices»)) origin i i-in)
 
   stored-normal-at : (i : ℕ) → i < length cs
-      → point-at (map normal-of-edge (edges cs)) i ≡ point-at (put-first (map normal-of-edge (edges cs)) (old .«m_normals»)) i
+      → point-at (map normal-of-edge (edges cs)) i
+      ≡ point-at (put-first (map normal-of-edge (edges cs)) (old .«m_normals»)) i
   stored-normal-at i i-in =
-      sym (List·getD-append (map normal-of-edge (edges cs)) (drop (length (map normal-of-edge (edges cs))) (old .«m_normals»)) origin i
+      sym (List·getD-append (map normal-of-edge (edges cs))
+      (drop (length (map normal-of-edge (edges cs))) (old .«m_normals»)) origin i
       (rw normals-length i-in))
 
   vertices-in-range : T (all-points point-in-range (take (length cs) (put-first cs (old .«m_vertices»))))
   vertices-in-range = rw (take-append-seam cs (drop (length cs) (old .«m_vertices»))) (all-in-range cs (c .grid))
 
-  normals-in-range : T (all-points normal-in-range (take (length cs) (put-first (map normal-of-edge (edges cs)) (old .«m_normals»))))
+  normals-in-range : T (all-points normal-in-range
+      (take (length cs) (put-first (map normal-of-edge (edges cs)) (old .«m_normals»))))
   normals-in-range =
       rw (take-at (map normal-of-edge (edges cs)) (drop (length (map normal-of-edge (edges cs))) (old .«m_normals»))
       (length cs) normals-length)
       (all-at normal-in-range (map normal-of-edge (edges cs)) origin one)
     where
-      one : (i : ℕ) → i < length (map normal-of-edge (edges cs)) → T (normal-in-range (point-at (map normal-of-edge (edges cs)) i))
+      one : (i : ℕ) → i < length (map normal-of-edge (edges cs))
+          → T (normal-in-range (point-at (map normal-of-edge (edges cs)) i))
       one i i-in =
-          edge-normal-in-range (point-at cs i) (point-at cs (place-after (length cs) i)) (point-at (map normal-of-edge (edges cs)) i)
+          edge-normal-in-range (point-at cs i) (point-at cs (place-after (length cs) i))
+          (point-at (map normal-of-edge (edges cs)) i)
           (row-normal i (rw normals-length at i-in))
 
   first-grid : GridPoint (point-at cs 0)
@@ -109,9 +118,11 @@ module _ (old : B2polygonShape) (s : List Point) (cs : List B2vec2) (c : Corners
       ← stored-normal-at i i-in,
     ) (row-normal i i-in);
     in-range = λ radius.
-        yes-and (radius-in-range (old .«m_radius») && point-in-range centroid && all-points point-in-range (take (length cs) vertices))
+        yes-and (radius-in-range (old .«m_radius») && point-in-range centroid && all-points point-in-range
+        (take (length cs) vertices))
         (all-points normal-in-range (take (length cs) normals))
-        (yes-and (radius-in-range (old .«m_radius») && point-in-range centroid) (all-points point-in-range (take (length cs) vertices))
+        (yes-and (radius-in-range (old .«m_radius») && point-in-range centroid)
+        (all-points point-in-range (take (length cs) vertices))
         (yes-and (radius-in-range (old .«m_radius»)) (point-in-range centroid) radius
         (centroid-in-range (c .sums) first-grid)) vertices-in-range)
         normals-in-range;
@@ -135,10 +146,12 @@ built-outline-of : {old : B2polygonShape} {l : List B2vec2} {b : PolygonAnswer} 
     → BuiltOutline old (b .shape)
 built-outline-of (wrong-number count e) r = absurd (let h = ap (λ (a : PolygonAnswer). a .refusal) e in omega arith)
 built-outline-of (too-few count few line e) r = absurd (let h = ap (λ (a : PolygonAnswer). a .refusal) e in omega arith)
-built-outline-of (on-line count three line e) r = absurd (let h = ap (λ (a : PolygonAnswer). a .refusal) e in omega arith)
+built-outline-of (on-line count three line e) r =
+    absurd (let h = ap (λ (a : PolygonAnswer). a .refusal) e in omega arith)
 built-outline-of {old} {l} (built count off cs c e) r =
     subst (λ (a : PolygonAnswer). BuiltOutline old (a .shape)) (sym e)
     (record { outline = finished-grid old (values l) cs c; radius = refl })
 
-pub accepted-outline : (old : B2polygonShape) (l : List B2vec2) → GridList l → refusal-of old l ≡ 0 → BuiltOutline old (outline-from old l)
+pub accepted-outline : (old : B2polygonShape) (l : List B2vec2) → GridList l → refusal-of old l ≡ 0
+    → BuiltOutline old (outline-from old l)
 accepted-outline old l grid r = built-outline-of (verdict old l grid) r

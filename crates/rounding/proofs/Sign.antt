@@ -1,5 +1,6 @@
--- Signs: a result has the sign of the exact one, and one that is not 0 comes from an exact result that is not 0. So an exact result
--- that is not negative gives a value that is not negative; F7: a product below 0 has factors of opposite signs. Assumes nothing.
+-- Signs: a result has the sign of the exact one, and one that is not 0 comes from an exact result that is not 0. So
+-- an exact result that is not negative gives a value that is not negative; F7: a product below 0 has factors of
+-- opposite signs. Assumes nothing.
 use mathlib.Core.Path.{_≡_, refl, ap, _∙_, subst}
 use mathlib.Core.Logic.{_⊎_, inl, inr}
 use Prim.Native.Nat.{ℕ, zero, suc, _*_, _^_, _≤_, _<_}

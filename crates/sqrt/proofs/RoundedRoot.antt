@@ -1,10 +1,11 @@
--- `rounded-root binary32 y`, for 2^48 ≤ y < 2^426, is r * 2^k of the smallest units with 2^23 ≤ r ≤ 2^24, in the format and at
--- most half a unit of r away from √y; and so within a relative 2^-24 of it, squared. Assumes nothing.
+-- `rounded-root binary32 y`, for 2^48 ≤ y < 2^426, is r * 2^k of the smallest units with 2^23 ≤ r ≤ 2^24, in the
+-- format and at most half a unit of r away from √y; and so within a relative 2^-24 of it, squared. Assumes nothing.
 use mathlib.Core.Path.{_≡_, refl, sym, ap, _∙_, subst}
 use mathlib.Core.Bool.{Bool, true, false, cond}
 use Prim.Native.Nat.{ℕ, zero, suc, _+_, _-_, _*_, _/_, _%_, _^_, _≤_, _<_}
 use Prim.Native.Nat.{compare, Ordering, Ordering·lt, Ordering·eq, Ordering·gt}
-use native.Mathlib.Nat.{add-zero, le-trans, le-of-eq, le-of-lt, le-dest, lt-of-lt-of-le, lt-of-le-of-lt, lt-of-not-le, not-le-of-lt}
+use native.Mathlib.Nat.{add-zero, le-trans, le-of-eq, le-of-lt, le-dest, lt-of-lt-of-le, lt-of-le-of-lt, lt-of-not-le}
+use native.Mathlib.Nat.{not-le-of-lt}
 use native.Mathlib.Nat.{mul-le-mul-right, mul-mul-mul-comm, div-lt-iff-lt-mul, le-div-iff-mul-le}
 use native.Mathlib.Numerals.{add-one}
 use native.Mathlib.Omega.{arith}
@@ -58,7 +59,8 @@ module _ (y h q : ℕ) (q-pos : 0 < q) (lower : q * q * h ≤ y) (upper : y < (q
   -- the definition's choice: q where q² h is y, else the nearest
   chosen-half-unit : (exact : Bool) (o : Ordering) → (T exact → q * q * h ≡ y)
       → Compared o (4 * y) ((2 * q + 1) * (2 * q + 1) * h) → HalfUnit y h (cond exact q (nearest q o))
-  chosen-half-unit true o is-exact by = let e : q * q * h ≡ y = is-exact tt in down-half-unit y h q q-pos lower (omega arith)
+  chosen-half-unit true o is-exact by =
+      let e : q * q * h ≡ y = is-exact tt in down-half-unit y h q q-pos lower (omega arith)
   chosen-half-unit false o is-exact by = nearest-half-unit o by
 
 chosen-low : (exact : Bool) (q : ℕ) (o : Ordering) → q ≤ cond exact q (nearest q o)
