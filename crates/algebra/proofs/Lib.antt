@@ -6,6 +6,7 @@ pub mod Squares
 pub mod Ring
 pub mod Plane
 pub mod Booleans
+pub mod Compared
 pub mod Lists
 pub mod All
 pub mod Buffer

@@ -1,6 +1,7 @@
--- Lists without repeats and their places: a list without repeats whose elements all lie in another is no longer than
--- it (the pigeonhole), an element that is not there may be added at the end, and each place holds an element of its
--- own; places of the first n elements, one more at the end, and a copy made a place at a time. Assumes nothing.
+-- Lists without repeats and their places: a list without repeats whose elements all lie in another is no longer than it
+-- (the pigeonhole), an element that is not there may be added at the end, and each place holds an element of its own;
+-- places of the first n elements, one more at the end, and a copy, or f of each element, made a place at a time.
+-- Assumes nothing.
 use mathlib.Core.Path.{_≡_, refl, sym, ap, ap₂, _∙_}
 use mathlib.Core.List.{
   List,
@@ -13,6 +14,8 @@ use mathlib.Core.List.{
   List·Memᴰ·append-cases,
   List·Memᴰ·eq-of-singleton,
   Memᴰ·cast,
+  map,
+  map-append,
 }
 use mathlib.Core.List as L
 use mathlib.Core.Logic.{_⊎_, inl, inr}
@@ -116,3 +119,15 @@ module _ {A : Type 0} where
 
     pub copied : length new ≡ i → length l ≡ i → new ≡ l
     copied new-length l-length = whole-row i new l (so-far ∙ take-all i l (omega arith)) new-length
+
+-- ---- f of each element, a place at a time
+module _ {A B : Type 0} (f : A → B) (l : List A) (new : List B) (i : ℕ) (so-far : take i new ≡ map f (take i l)) where
+  pub mapped-next : (d : A) → i < length l → i < length new
+      → take (i + 1) (set new i (f (getD l i d))) ≡ map f (take (i + 1) l)
+  mapped-next d within room =
+      rw add-one
+      (take-suc-set new i (f (getD l i d)) room ∙ ap (λ (m : List B). m ++ (f (getD l i d) ∷ [])) so-far
+      ∙ sym (ap (map f) (take-suc l i d within) ∙ map-append f (take i l) (getD l i d ∷ [])))
+
+  pub mapped : length l ≡ i → length new ≡ i → new ≡ map f l
+  mapped l-length new-length = whole-row i new (map f l) (so-far ∙ ap (map f) (take-all i l (omega arith))) new-length

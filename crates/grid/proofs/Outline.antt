@@ -12,7 +12,7 @@ use lib.Seq.{take-append-seam, take-at}
 use mir.Facts.{yes-and}
 use Rattle.algebra.specs.Plane.{Point}
 use Rattle.algebra.specs.Lists.{Once}
-use Rattle.algebra.proofs.Lists.{getD-mem, getD-within, once-place}
+use Rattle.algebra.proofs.Lists.{getD-within, once-place}
 use Rattle.algebra.proofs.All.{all-at}
 use Rattle.floats.specs.declared.b2_math.B2vec2.{B2vec2}
 use Rattle.floats.specs.Ranges.{point-in-range, radius-in-range, normal-in-range}
@@ -24,6 +24,7 @@ use Rattle.shape_definitions.specs.Validate.{polygon-in-range}
 use Rattle.shape_definitions.proofs.Edges.{edges-length, edge-at, after-in, after-other}
 use Rattle.grid.specs.Grid.{GridPoint, GridList, value-point, values}
 use Rattle.grid.specs.Demand3.{refusal-of, outline-from}
+use Rattle.grid.proofs.Places.{grid-at}
 use Rattle.grid.proofs.Normals.{edge-normal, edge-normal-in-range}
 use Rattle.grid.specs.GridOutline.{GridOutline, EdgeNormal}
 use Rattle.grid.proofs.Verdict.{Corners, all-in-range, Verdict, wrong-number, too-few, on-line, built, verdict}
@@ -42,9 +43,6 @@ module _ (cs : List B2vec2) (grid : GridList cs) (once : Once (values cs)) (two 
       (rw (length-map cs value-point) (after-in (length cs) i i-in))
       (rw (length-map cs value-point) i-in) (values-at cs (place-after (length cs) i) ∙ e ∙ sym (values-at cs i)))
 
-  at-grid : (j : ℕ) → j < length cs → GridPoint (point-at cs j)
-  at-grid j j-in = grid (point-at cs j) (getD-mem cs j origin j-in)
-
   -- the normal at a place
   pub normal-at : EdgeNormal (point-at cs i) (point-at cs (place-after (length cs) i))
       (point-at (map normal-of-edge (edges cs)) i)
@@ -53,7 +51,7 @@ module _ (cs : List B2vec2) (grid : GridList cs) (once : Once (values cs)) (two 
       (sym (getD-within (map normal-of-edge (edges cs)) i origin (normal-of-edge origin)
       (rw (length-map (edges cs) normal-of-edge, edges-length cs) i-in)
       ∙ List·getD-map normal-of-edge (edges cs) i origin ∙ ap normal-of-edge (edge-at cs i i-in)))
-      (edge-normal (at-grid i i-in) (at-grid (place-after (length cs) i) (after-in (length cs) i i-in)) corners-differ)
+      (edge-normal (grid-at cs grid i i-in) (grid-at cs grid (place-after (length cs) i) (after-in (length cs) i i-in)) corners-differ)
 
 -- ---- the outline made of such corners
 module _ (old : B2polygonShape) (s : List Point) (cs : List B2vec2) (c : Corners s cs) where
@@ -102,7 +100,7 @@ module _ (old : B2polygonShape) (s : List Point) (cs : List B2vec2) (c : Corners
           (row-normal i (rw normals-length at i-in))
 
   first-grid : GridPoint (point-at cs 0)
-  first-grid = c .grid (point-at cs 0) (getD-mem cs 0 origin (let h = row-three in omega arith))
+  first-grid = grid-at cs (c .grid) 0 (let h = row-three in omega arith)
 
   pub finished-grid : GridOutline (finished old cs (fan cs) .shape)
   unfolding polygon-in-range
@@ -110,7 +108,7 @@ module _ (old : B2polygonShape) (s : List Point) (cs : List B2vec2) (c : Corners
     three = row-three;
     eight = c .few;
     full = omega (arith, length-append cs (drop (length cs) (old .«m_vertices»)));
-    corner = λ i i-in. subst GridPoint (vertex-at i i-in) (c .grid (point-at cs i) (getD-mem cs i origin i-in));
+    corner = λ i i-in. subst GridPoint (vertex-at i i-in) (grid-at cs (c .grid) i i-in);
     normal = λ i i-in. rw (
       ← vertex-at i i-in,
       ← vertex-at (place-after (length cs) i)

@@ -38,9 +38,9 @@ module _ (vs : List B2vec2) (m i : ℕ) (within : i < m) (few : m ≤ length vs)
     pub from-following : (q p s : B2vec2) → q ≡ point-at vs a → p ≡ b2-sub q s → p ≡ b2-sub (following (take m vs) i) s
     from-following q p s q-is p-is = p-is ∙ ap (λ (x : B2vec2). b2-sub x s) (q-is ∙ following-at)
 
-    pub edge-at : (q s e : B2vec2) → q ≡ point-at vs a → s ≡ point-at vs i → e ≡ b2-sub q s
+    pub edge-of-corners : (q s e : B2vec2) → q ≡ point-at vs a → s ≡ point-at vs i → e ≡ b2-sub q s
         → e ≡ b2-sub (following (take m vs) i) (point-at (take m vs) i)
-    edge-at q s e q-is s-is e-is =
+    edge-of-corners q s e q-is s-is e-is =
         from-following q e s q-is e-is
         ∙ ap (b2-sub (following (take m vs) i)) (s-is ∙ sym (at-first-place vs m i within))
 

@@ -2,15 +2,14 @@
 -- ends of a face out; they are not right of it, so a test of every corner answers the same. Assumes nothing.
 use mathlib.Core.Path.{_≡_, refl, sym, _∙_, ap}
 use mathlib.Core.Bool.{Bool, true, false, not, _&&_, _||_, and-false}
-use mathlib.Core.List.{List, [], _∷_, _++_, map, map-append, zipWith}
+use mathlib.Core.List.{List, [], _∷_, map, zipWith}
 use mathlib.Core.Logic.{inl, inr}
 use Prim.Native.Nat.{ℕ, zero, suc, _+_, _<_, min}
 use native.Mathlib.Nat.{min-eq-left, min-eq-right}
 use native.Mathlib.Numerals.{add-one}
 use native.Mathlib.Omega.{arith}
 use lib.Dec.{ltb, eqb}
-use lib.ListN.{length, take, getD, set}
-use lib.Seq.{take-all, take-suc, take-suc-set}
+use lib.ListN.{length, getD}
 use lib.Ieee.{Float, lt}
 use borrow.Author.Tests.{eqb-true, lt-ltb, le-ltb, not-false}
 use Rattle.algebra.proofs.Booleans.{less-or-not}
@@ -22,20 +21,6 @@ use Rattle.shape_definitions.specs.Validate.{not-right-of, corners-not-right, f
 use Rattle.floats.proofs.Ends.{first-end-not-right, second-end-not-right}
 
 -- ---- coordinates
-pub coordinate-next : (f : B2vec2 → Float) (vs : List B2vec2) (xs : List Float) (j : ℕ) (d : B2vec2) → j < length vs
-    → j < length xs
-    → take j xs ≡ map f (take j vs) → take (j + 1) (set xs j (f (getD vs j d))) ≡ map f (take (j + 1) vs)
-coordinate-next f vs xs j d in-vs in-xs so-far =
-    rw add-one
-    (take-suc-set xs j (f (getD vs j d)) in-xs ∙ ap (λ (l : List Float). l ++ (f (getD vs j d) ∷ [])) so-far
-    ∙ sym (ap (map f) (take-suc vs j d in-vs) ∙ map-append f (take j vs) (getD vs j d ∷ [])))
-
-pub coordinates-ended : (f : B2vec2 → Float) (vs : List B2vec2) (xs : List Float) (j : ℕ) → length vs ≡ j
-    → length xs ≡ j
-    → take j xs ≡ map f (take j vs) → xs ≡ map f vs
-coordinates-ended f vs xs j vs-length xs-length so-far =
-    sym (take-all j xs (omega arith)) ∙ so-far ∙ ap (map f) (take-all j vs (omega arith))
-
 joined-coordinates : (vs : List B2vec2) → zipWith vec2 (map (λ v. v .x) vs) (map (λ v. v .y) vs) ≡ vs
 unfolding zipWith
 joined-coordinates [] = refl

@@ -1,7 +1,7 @@
 -- The records of requests and answers as words: floats are their bits, a point is x then y. POLY is radius, centroid,
 -- count, eight vertices and eight normals (36 words); EDGE is radius, flag and four vertices (10 words). Decoded at
 -- place i, and encoded. Definitions only.
-use Prim.Native.Nat.{ℕ, _+_, _%_}
+use Prim.Native.Nat.{ℕ, _+_, _%_, _^_}
 use mathlib.Core.Bool.{Bool, cond}
 use mathlib.Core.List.{List, [], _∷_, _++_, map}
 use lib.Dec.{eqb}
@@ -57,7 +57,7 @@ flag b = cond b 1 0
 
 -- the low word of a count: all of it, where it came from a word
 abbrev pub low-word : ℕ → ℕ
-low-word n = n % 4294967296
+low-word n = n % 2 ^ 32
 
 unfoldable pub points-words : List B2vec2 → List ℕ
 points-words ps = map bits (coordinates-of ps)
