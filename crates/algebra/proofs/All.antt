@@ -1,8 +1,9 @@
--- A test of all elements of a list: passed where every place passes; a place at a time, up to the first that fails; and over every
--- place, with those past a count left out. Assumes nothing.
-use mathlib.Core.Path.{_≡_, sym, _∙_, ap, ap₂}
+-- A test of all elements of a list: passed where every element, or what stands at every place, passes; a place at a
+-- time, up to the first that fails; and over every place, with those past a count left out. Assumes nothing.
+use mathlib.Core.Path.{_≡_, refl, sym, _∙_, ap, ap₂}
 use mathlib.Core.Bool.{Bool, true, false, _&&_, _||_, and-true, or-true, or-false, and-assoc}
-use mathlib.Core.List.{List, [], _∷_, _++_}
+use mathlib.Core.List.{List, [], _∷_, _++_, List·Memᴰ}
+use mathlib.Core.List as L
 use mathlib.Core.Logic.{_⊎_, inl, inr}
 use Prim.Native.Nat.{ℕ, suc, _+_, _≤_, _<_}
 use native.Mathlib.Nat.{le-min}
@@ -33,8 +34,14 @@ module _ {A : Type 0} where
       → true ≡ all-of test l
   all-ended test l i end so-far = ap (all-of test) (sym (drop-length l) ∙ ap (λ (k : ℕ). drop k l) (sym end)) ∙ so-far
 
-  -- ---- every place
-  pub all-at : (test : A → Bool) (l : List A) (d : A) → ((i : ℕ) → i < length l → T (test (getD l i d))) → T (all-of test l)
+  -- ---- every element, every place
+  pub all-mem : (test : A → Bool) (l : List A) → ((a : A) → List·Memᴰ a l → T (test a)) → T (all-of test l)
+  all-mem test [] of = tt
+  all-mem test (a ∷ l) of =
+      yes-and (test a) (all-of test l) (of a (L.List·Memᴰ·head refl)) (all-mem test l (λ b m. of b (L.List·Memᴰ·tail m)))
+
+  pub all-at : (test : A → Bool) (l : List A) (d : A) → ((i : ℕ) → i < length l → T (test (getD l i d)))
+      → T (all-of test l)
   all-at test [] d at = tt
   all-at test (a ∷ l) d at =
       yes-and (test a) (all-of test l) (at 0 (omega arith)) (all-at test l d (λ i h. at (suc i) (omega arith)))

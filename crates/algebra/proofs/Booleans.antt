@@ -1,5 +1,5 @@
--- Booleans as tests: two tests that hold of the same are one, a disjunction, the two ways of `cond`, and the two cases of a Boolean;
--- and of two naturals the one is below the other or is not. Assumes nothing.
+-- Booleans as tests: two tests that hold of the same are one, a disjunction, the two ways of `cond`, and the two
+-- cases of a Boolean; and of two naturals the one is below the other or is not. Assumes nothing.
 use mathlib.Core.Path.{_≡_, refl, sym, ap, _∙_}
 use mathlib.Core.Bool.{Bool, true, false, cond, _||_}
 use mathlib.Core.Logic.{_⊎_, inl, inr}

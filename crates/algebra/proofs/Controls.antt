@@ -1,4 +1,5 @@
--- Closed cases that pin the definitions of this crate: what they give is worked out by hand on the right. Assumes nothing.
+-- Closed cases that pin the definitions of this crate: what they give is worked out by hand on the right. Assumes
+-- nothing.
 use mathlib.Core.Path.{refl}
 use mathlib.Core.Bool.{true}
 use Prim.Native.Nat.{ℕ}
@@ -8,6 +9,7 @@ use Rattle.algebra.specs.Integer.{whole, signed, _⊞_, _⊟_, _⊠_, op
 use Rattle.algebra.specs.Squares.{OverRootLe}
 use Rattle.algebra.specs.Polynomial.{var, num, _:+_, _:*_, SamePolynomial}
 use Rattle.algebra.specs.Plane.{Point, orient}
+use Rattle.algebra.proofs.Squares.{over-root-same}
 
 three-less-five : whole 3 ⊟ whole 5 ≐ signed true 2
 three-less-five = refl
@@ -40,6 +42,10 @@ size-above-two h = omega arith
 root-of-four : OverRootLe (whole 3) 4 (whole 3) 2
 root-of-four = lit≤ tt
 
+-- the same with 3 as 5 - 2
+root-of-four-again : OverRootLe (5, 2) 4 (whole 3) 2
+root-of-four-again = over-root-same (whole 3) (5, 2) (whole 3) (whole 3) 4 2 refl refl root-of-four
+
 -- 2 / √1 is above 3 / 2
 two-over-one : ¬ OverRootLe (whole 2) 1 (whole 3) 2
 two-over-one h = omega arith
@@ -62,7 +68,8 @@ clockwise : orient (at 0 0) (at 0 1) (at 1 0) ≐ signed true 1
 clockwise = refl
 
 -- (a + b)(a + b) = a a + 2 a b + b b, and not a a + b b
-square-of-sum : SamePolynomial ((var 0 :+ var 1) :* (var 0 :+ var 1)) (var 0 :* var 0 :+ num 2 :* var 0 :* var 1 :+ var 1 :* var 1)
+square-of-sum : SamePolynomial ((var 0 :+ var 1) :* (var 0 :+ var 1))
+    (var 0 :* var 0 :+ num 2 :* var 0 :* var 1 :+ var 1 :* var 1)
 square-of-sum = tt
 
 not-without-middle : ¬ SamePolynomial ((var 0 :+ var 1) :* (var 0 :+ var 1)) (var 0 :* var 0 :+ var 1 :* var 1)

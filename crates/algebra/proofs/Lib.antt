@@ -1,4 +1,3 @@
-pub mod Controls
 pub mod Integer
 pub mod Signs
 pub mod Magnitude
@@ -7,6 +6,7 @@ pub mod Squares
 pub mod Ring
 pub mod Plane
 pub mod Booleans
+pub mod Compared
 pub mod Lists
 pub mod All
 pub mod Buffer
@@ -15,3 +15,4 @@ pub mod Scan
 pub mod Weld
 pub mod Naming
 pub mod Places
+pub mod Controls

@@ -1,6 +1,7 @@
--- Lists without repeats and their places: a list without repeats whose elements all lie in another is no longer than it (the
--- pigeonhole), an element that is not there may be added at the end, and each place holds an element of its own; places of the first n
--- elements, one more at the end, and a copy made a place at a time. Assumes nothing.
+-- Lists without repeats and their places: a list without repeats whose elements all lie in another is no longer than it
+-- (the pigeonhole), an element that is not there may be added at the end, and each place holds an element of its own;
+-- places of the first n elements, one more at the end, and a copy, or f of each element, made a place at a time.
+-- Assumes nothing.
 use mathlib.Core.Path.{_≡_, refl, sym, ap, ap₂, _∙_}
 use mathlib.Core.List.{
   List,
@@ -13,6 +14,8 @@ use mathlib.Core.List.{
   List·Memᴰ·append-cases,
   List·Memᴰ·eq-of-singleton,
   Memᴰ·cast,
+  map,
+  map-append,
 }
 use mathlib.Core.List as L
 use mathlib.Core.Logic.{_⊎_, inl, inr}
@@ -42,7 +45,12 @@ module _ {A : Type 0} where
           this b n (inl k) = absurd (n (k ∙ sym e))
           this b n (inr k) = k
       go ih (inr k) =
-          record { rest = c ∷ ih k .rest; shorter = ap suc (ih k .shorter); others = λ b n i. that b n (List·Memᴰ·cases-cons i) }
+          record {
+            rest = c ∷ ih k .rest;
+            shorter = ap suc (ih k .shorter);
+            others = λ b n i. that b n
+                (List·Memᴰ·cases-cons i);
+          }
         where
           that : (b : A) → ¬ (b ≡ a) → (b ≡ c) ⊎ List·Memᴰ b l → List·Memᴰ b (c ∷ ih k .rest)
           that b n (inl i) = L.List·Memᴰ·head i
@@ -53,13 +61,15 @@ module _ {A : Type 0} where
   pigeonhole (a ∷ l) m once within =
       let w = without a m (within a (L.List·Memᴰ·head refl)) in
       let shorter = w .shorter in
-      let fits = pigeonhole l (w .rest) (once .1) (λ b k. w .others b (λ e. once .0 (Memᴰ·cast (sym e) k)) (within b (L.List·Memᴰ·tail k))) in
+      let fits = pigeonhole l (w .rest) (once .1)
+      (λ b k. w .others b (λ e. once .0 (Memᴰ·cast (sym e) k)) (within b (L.List·Memᴰ·tail k))) in
       omega arith
 
   -- ---- one more, at the end
   pub once-snoc : (l : List A) (a : A) → Once l → ¬ List·Memᴰ a l → Once (l ++ (a ∷ []))
   once-snoc [] a once new = (List·Memᴰ·not-nil, tt)
-  once-snoc (b ∷ l) a once new = (λ m. not-later (List·Memᴰ·append-cases l m), once-snoc l a (once .1) (λ m. new (L.List·Memᴰ·tail m)))
+  once-snoc (b ∷ l) a once new =
+      (λ m. not-later (List·Memᴰ·append-cases l m), once-snoc l a (once .1) (λ m. new (L.List·Memᴰ·tail m)))
     where
       not-later : List·Memᴰ b l ⊎ List·Memᴰ b (a ∷ []) → ⊥
       not-later (inl m) = once .0 m
@@ -71,12 +81,14 @@ module _ {A : Type 0} where
   getD-mem (a ∷ l) zero d h = L.List·Memᴰ·head refl
   getD-mem (a ∷ l) (suc i) d h = L.List·Memᴰ·tail (getD-mem l i d (omega arith))
 
-  pub once-place : (l : List A) (d : A) → Once l → (i j : ℕ) → i < length l → j < length l → getD l i d ≡ getD l j d → i ≡ j
+  pub once-place : (l : List A) (d : A) → Once l → (i j : ℕ) → i < length l → j < length l → getD l i d ≡ getD l j d
+      → i ≡ j
   once-place [] d once i j i<n j<n e = absurd (omega arith)
   once-place (a ∷ l) d once zero zero i<n j<n e = refl
   once-place (a ∷ l) d once zero (suc j) i<n j<n e = absurd (once .0 (Memᴰ·cast e (getD-mem l j d (omega arith))))
   once-place (a ∷ l) d once (suc i) zero i<n j<n e = absurd (once .0 (Memᴰ·cast (sym e) (getD-mem l i d (omega arith))))
-  once-place (a ∷ l) d once (suc i) (suc j) i<n j<n e = ap suc (once-place l d (once .1) i j (omega arith) (omega arith) e)
+  once-place (a ∷ l) d once (suc i) (suc j) i<n j<n e =
+      ap suc (once-place l d (once .1) i j (omega arith) (omega arith) e)
 
   -- within a list it does not matter what is said to stand past its end
   pub getD-within : (l : List A) (i : ℕ) (d e : A) → i < length l → getD l i d ≡ getD l i e
@@ -98,7 +110,8 @@ module _ {A : Type 0} where
 
   -- ---- a copy, a place at a time: the first i places are those of l
   module _ (l new : List A) (i : ℕ) (so-far : take i new ≡ take i l) where
-    pub copied-next : (v d : A) → i < length l → i < length new → v ≡ getD l i d → take (i + 1) (set new i v) ≡ take (i + 1) l
+    pub copied-next : (v d : A) → i < length l → i < length new → v ≡ getD l i d
+        → take (i + 1) (set new i v) ≡ take (i + 1) l
     copied-next v d within room v-is =
         ap (λ (k : ℕ). take k (set new i v)) (add-one i) ∙ take-suc-set new i v room
         ∙ ap₂ (λ (a : List A) (q : A). a ++ (q ∷ [])) so-far v-is ∙ sym (take-suc l i d within)
@@ -106,3 +119,15 @@ module _ {A : Type 0} where
 
     pub copied : length new ≡ i → length l ≡ i → new ≡ l
     copied new-length l-length = whole-row i new l (so-far ∙ take-all i l (omega arith)) new-length
+
+-- ---- f of each element, a place at a time
+module _ {A B : Type 0} (f : A → B) (l : List A) (new : List B) (i : ℕ) (so-far : take i new ≡ map f (take i l)) where
+  pub mapped-next : (d : A) → i < length l → i < length new
+      → take (i + 1) (set new i (f (getD l i d))) ≡ map f (take (i + 1) l)
+  mapped-next d within room =
+      rw add-one
+      (take-suc-set new i (f (getD l i d)) room ∙ ap (λ (m : List B). m ++ (f (getD l i d) ∷ [])) so-far
+      ∙ sym (ap (map f) (take-suc l i d within) ∙ map-append f (take i l) (getD l i d ∷ [])))
+
+  pub mapped : length l ≡ i → length new ≡ i → new ≡ map f l
+  mapped l-length new-length = whole-row i new (map f l) (so-far ∙ ap (map f) (take-all i l (omega arith))) new-length

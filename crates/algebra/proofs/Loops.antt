@@ -23,50 +23,63 @@ module _ {A : Type 0} where
     pub near-next : near v a ≡ false → near-any near v (drop (j + 1) l) ≡ near-any near v l
     near-next not-found = sym (sym so-far ∙ here ∙ ap (λ (t : Bool). t || near-any near v (drop (j + 1) l)) not-found)
 
-  pub near-none : (near : A → A → Bool) (v : A) (l : List A) (j : ℕ) → j ≡ length l → near-any near v (drop j l) ≡ near-any near v l
+  pub near-none : (near : A → A → Bool) (v : A) (l : List A) (j : ℕ) → j ≡ length l
+      → near-any near v (drop j l) ≡ near-any near v l
       → false ≡ near-any near v l
-  near-none near v l j end so-far = ap (near-any near v) (sym (drop-length l) ∙ ap (λ (k : ℕ). drop k l) (sym end)) ∙ so-far
+  near-none near v l j end so-far =
+      ap (near-any near v) (sym (drop-length l) ∙ ap (λ (k : ℕ). drop k l) (sym end)) ∙ so-far
 
   -- ---- welding: the kept points stand in the first n places of an array
-  module _ (near : A → A → Bool) (kept l whole : List A) (n i : ℕ) (a d : A) (within : i < length l) (a-is : a ≡ getD l i d)
+  module _ (near : A → A → Bool) (kept l whole : List A) (n i : ℕ) (a d : A) (within : i < length l)
+      (a-is : a ≡ getD l i d)
       (so-far : weld near (take n kept) (drop i l) ≡ whole) where
     weld-here : weld near (keep-unless (near-any near a (take n kept)) (take n kept) a) (drop (i + 1) l) ≡ whole
     weld-here = rw (add-one, a-is) (rw (drop-cons l i d) at so-far)
 
     -- the point is dropped
     pub weld-dropped : near-any near a (take n kept) ≡ true → weld near (take n kept) (drop (i + 1) l) ≡ whole
-    weld-dropped found = ap (λ (t : Bool). weld near (keep-unless t (take n kept) a) (drop (i + 1) l)) (sym found) ∙ weld-here
+    weld-dropped found =
+        ap (λ (t : Bool). weld near (keep-unless t (take n kept) a) (drop (i + 1) l)) (sym found) ∙ weld-here
 
     -- it is kept
-    pub weld-kept : n < length kept → near-any near a (take n kept) ≡ false → weld near (take (n + 1) (set kept n a)) (drop (i + 1) l) ≡ whole
+    pub weld-kept : n < length kept → near-any near a (take n kept) ≡ false
+        → weld near (take (n + 1) (set kept n a)) (drop (i + 1) l) ≡ whole
     weld-kept room not-found =
-        ap (λ (k : List A). weld near k (drop (i + 1) l)) (ap (λ (k : ℕ). take k (set kept n a)) (add-one n) ∙ take-suc-set kept n a room)
+        ap (λ (k : List A). weld near k (drop (i + 1) l)) (ap (λ (k : ℕ). take k (set kept n a)) (add-one n)
+        ∙ take-suc-set kept n a room)
         ∙ ap (λ (t : Bool). weld near (keep-unless t (take n kept) a) (drop (i + 1) l)) (sym not-found) ∙ weld-here
 
-  pub weld-ended : (near : A → A → Bool) (kept l whole : List A) (i : ℕ) → i ≡ length l → weld near kept (drop i l) ≡ whole → kept ≡ whole
-  weld-ended near kept l whole i end so-far = ap (weld near kept) (sym (drop-length l) ∙ ap (λ (k : ℕ). drop k l) (sym end)) ∙ so-far
+  pub weld-ended : (near : A → A → Bool) (kept l whole : List A) (i : ℕ) → i ≡ length l
+      → weld near kept (drop i l) ≡ whole → kept ≡ whole
+  weld-ended near kept l whole i end so-far =
+      ap (weld near kept) (sym (drop-length l) ∙ ap (λ (k : ℕ). drop k l) (sym end)) ∙ so-far
 
   -- ---- the walk: the corners done, and those to come from p on
   pub walk-starts : (o : Option (List A)) → Option·map (_++_ []) o ≡ o
   walk-starts none = refl
   walk-starts (some l) = refl
 
-  map-one-more : (done : List A) (p : A) (o : Option (List A)) → Option·map (_++_ (done ++ (p ∷ []))) o ≡ Option·map (_++_ done) (Option·map (_∷_ p) o)
+  map-one-more : (done : List A) (p : A) (o : Option (List A))
+      → Option·map (_++_ (done ++ (p ∷ []))) o ≡ Option·map (_++_ done) (Option·map (_∷_ p) o)
   map-one-more done p none = refl
   map-one-more done p (some l) = ap some (append-assoc done (p ∷ []) l)
 
   module _ (same : A → A → Bool) (next : A → A) (start p : A) (fuel : ℕ) (done : List A) (whole : Option (List A))
       (so-far : Option·map (_++_ done) (walk same next start (suc fuel) p) ≡ whole) where
     pub walk-back : same (next p) start ≡ true → some (done ++ (p ∷ [])) ≡ whole
-    walk-back back = ap (λ (t : Bool). Option·map (_++_ done) (stop-or t p (walk same next start fuel (next p)))) (sym back) ∙ so-far
+    walk-back back =
+        ap (λ (t : Bool). Option·map (_++_ done) (stop-or t p (walk same next start fuel (next p)))) (sym back) ∙ so-far
 
-    pub walk-next : same (next p) start ≡ false → Option·map (_++_ (done ++ (p ∷ []))) (walk same next start fuel (next p)) ≡ whole
+    pub walk-next : same (next p) start ≡ false
+        → Option·map (_++_ (done ++ (p ∷ []))) (walk same next start fuel (next p)) ≡ whole
     walk-next not-back =
         map-one-more done p (walk same next start fuel (next p))
-        ∙ ap (λ (t : Bool). Option·map (_++_ done) (stop-or t p (walk same next start fuel (next p)))) (sym not-back) ∙ so-far
+        ∙ ap (λ (t : Bool). Option·map (_++_ done) (stop-or t p (walk same next start fuel (next p)))) (sym not-back)
+        ∙ so-far
 
 -- ---- a scan over the places from j on, n - j of them
-module _ (test : ℕ → ℕ → Bool) (candidate j n answer : ℕ) (within : j < n) (so-far : scan test candidate (places j (n - j)) ≡ answer) where
+module _ (test : ℕ → ℕ → Bool) (candidate j n answer : ℕ) (within : j < n)
+    (so-far : scan test candidate (places j (n - j)) ≡ answer) where
   one-place : places j (n - j) ≡ j ∷ places (j + 1) (n - (j + 1))
   one-place = ap (places j) count ∙ ap (λ (k : ℕ). j ∷ places k (n - (j + 1))) (sym (add-one j))
     where
@@ -77,8 +90,10 @@ module _ (test : ℕ → ℕ → Bool) (candidate j n answer : ℕ) (within : j 
   pub scan-next : scan test (cond (test candidate j) j candidate) (places (j + 1) (n - (j + 1))) ≡ answer
   scan-next = ap (scan test candidate) (sym one-place) ∙ so-far
 
-pub scan-ended : (test : ℕ → ℕ → Bool) (candidate j n answer : ℕ) → n ≤ j → scan test candidate (places j (n - j)) ≡ answer → candidate ≡ answer
-scan-ended test candidate j n answer past so-far = ap (λ (k : ℕ). scan test candidate (places j k)) (sym none-left) ∙ so-far
+pub scan-ended : (test : ℕ → ℕ → Bool) (candidate j n answer : ℕ) → n ≤ j
+    → scan test candidate (places j (n - j)) ≡ answer → candidate ≡ answer
+scan-ended test candidate j n answer past so-far =
+    ap (λ (k : ℕ). scan test candidate (places j k)) (sym none-left) ∙ so-far
   where
     none-left : n - j ≡ 0
     none-left = omega arith

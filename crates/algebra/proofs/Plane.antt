@@ -1,6 +1,7 @@
--- Identities of cross and dot products, each by `ring`: Lagrange's, the one that orders directions in a half plane (three-crosses),
--- and those that move an orientation from one corner of a triangle to another. Cross and dot products respect equality by value, and
--- a squared length is not negative, and 0 of no vector but 0. Assumes nothing.
+-- Identities of cross and dot products, each by `ring`: Lagrange's, the one that orders directions in a half plane
+-- (three-crosses), and those that move an orientation from one corner of a triangle to another. Cross and dot
+-- products respect equality by value, and a squared length is not negative, and 0 of no vector but 0. Assumes
+-- nothing.
 use mathlib.Core.List.{List, [], _∷_}
 use native.Mathlib.Omega.{arith}
 use Rattle.algebra.specs.Integer.{Z, whole, _⊞_, _⊠_, opp, _≐_, _≼_}
@@ -119,7 +120,8 @@ length-not-negative u =
 pub zero-of-length : (u : Point) → dot u u ≐ whole 0 → (u .x ≐ whole 0) × (u .y ≐ whole 0)
 zero-of-length u h = (
   square-zero (u .x) (below (u .x ⊠ u .x) (u .y ⊠ u .y) (square-not-negative (u .y)) h),
-  square-zero (u .y) (below (u .y ⊠ u .y) (u .x ⊠ u .x) (square-not-negative (u .x)) (swap (u .x ⊠ u .x) (u .y ⊠ u .y) h)),
+  square-zero (u .y) (below (u .y ⊠ u .y) (u .x ⊠ u .x) (square-not-negative (u .x))
+      (swap (u .x ⊠ u .x) (u .y ⊠ u .y) h)),
 )
   where
     below : (a b : Z) → whole 0 ≼ b → a ⊞ b ≐ whole 0 → a ≼ whole 0
@@ -130,4 +132,5 @@ zero-of-length u h = (
 
 pub length-of-zero : (u : Point) → u .x ≐ whole 0 → u .y ≐ whole 0 → dot u u ≐ whole 0
 length-of-zero u x-zero y-zero =
-    sum-same (u .x ⊠ u .x) (whole 0) (u .y ⊠ u .y) (whole 0) (product-zero (u .x) (u .x) x-zero) (product-zero (u .y) (u .y) y-zero)
+    sum-same (u .x ⊠ u .x) (whole 0) (u .y ⊠ u .y) (whole 0) (product-zero (u .x) (u .x) x-zero)
+    (product-zero (u .y) (u .y) y-zero)

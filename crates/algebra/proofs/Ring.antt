@@ -1,5 +1,5 @@
--- The normal form of a polynomial expression has the expression's value, so two expressions whose difference has only zero
--- coefficients are the same number in every environment: `ring x y env tt`. Assumes nothing.
+-- The normal form of a polynomial expression has the expression's value, so two expressions whose difference has only
+-- zero coefficients are the same number in every environment: `ring x y env tt`. Assumes nothing.
 use mathlib.Core.Path.{_≡_, refl, sym, ap₂, subst}
 use mathlib.Core.List.{List, [], _∷_}
 use Prim.Native.Nat.{ℕ, compare, Ordering, Ordering·lt, Ordering·eq, Ordering·gt}
@@ -38,7 +38,8 @@ use Rattle.algebra.proofs.Products.{product-same, product-zero}
 
 -- ---- laws of the ring, over numbers that stay shut
 product-swap-in : (a b m m' : Z) → m' ≐ b ⊠ m → a ⊠ m' ≐ b ⊠ (a ⊠ m)
-product-swap-in a b m m' e = same-trans (a ⊠ m') (a ⊠ (b ⊠ m)) (b ⊠ (a ⊠ m)) (product-same a a m' (b ⊠ m) (same-refl a) e) (omega arith)
+product-swap-in a b m m' e =
+    same-trans (a ⊠ m') (a ⊠ (b ⊠ m)) (b ⊠ (a ⊠ m)) (product-same a a m' (b ⊠ m) (same-refl a) e) (omega arith)
 
 product-assoc-in : (a b c l l' : Z) → l ≐ a ⊠ l' → l' ≐ b ⊠ c → l ≐ a ⊠ b ⊠ c
 product-assoc-in a b c l l' e f =
@@ -58,7 +59,8 @@ product-regroup : (a b m n : Z) → a ⊠ b ⊠ (m ⊠ n) ≐ a ⊠ m ⊠ (b ⊠
 product-regroup a b m n =
     same-trans (a ⊠ b ⊠ (m ⊠ n)) (a ⊠ (b ⊠ (m ⊠ n))) (a ⊠ m ⊠ (b ⊠ n)) (product-assoc a b (m ⊠ n))
     (same-trans (a ⊠ (b ⊠ (m ⊠ n))) (a ⊠ (m ⊠ (b ⊠ n))) (a ⊠ m ⊠ (b ⊠ n))
-    (product-same a a (b ⊠ (m ⊠ n)) (m ⊠ (b ⊠ n)) (same-refl a) (product-left-comm b m n)) (product-assoc-back a m (b ⊠ n)))
+    (product-same a a (b ⊠ (m ⊠ n)) (m ⊠ (b ⊠ n)) (same-refl a) (product-left-comm b m n))
+    (product-assoc-back a m (b ⊠ n)))
 
 one-product : (a : Z) → a ≐ whole 1 ⊠ a
 one-product a = omega arith
@@ -156,7 +158,8 @@ module _ (env : List Z) where
       → total q ≐ c ⊠ product m ⊞ total p → total (place o c m d n p q) ≐ c ⊠ product m ⊞ (d ⊠ product n ⊞ total p)
   total-place Ordering·lt c m d n p q equal h = same-refl (c ⊠ product m ⊞ (d ⊠ product n ⊞ total p))
   total-place Ordering·eq c m d n p q equal h =
-      subst (λ (l : Monomial). (c ⊞ d) ⊠ product n ⊞ total p ≐ c ⊠ product l ⊞ (d ⊠ product n ⊞ total p)) (sym (equal tt))
+      subst (λ (l : Monomial). (c ⊞ d) ⊠ product n ⊞ total p ≐ c ⊠ product l ⊞ (d ⊠ product n ⊞ total p))
+      (sym (equal tt))
       (terms-joined c d (product n) (total p))
   total-place Ordering·gt c m d n p q equal h = term-later (total q) (d ⊠ product n) (c ⊠ product m) (total p) h
 
@@ -167,7 +170,8 @@ module _ (env : List Z) where
   total-plus : (p q : Polynomial) → total (plus p q) ≐ total p ⊞ total q
   total-plus none q = zero-sum (total q)
   total-plus (term c m p) q =
-      sum-step (total (put c m (plus p q))) (total (plus p q)) (c ⊠ product m) (total p) (total q) (total-put c m (plus p q)) (total-plus p q)
+      sum-step (total (put c m (plus p q))) (total (plus p q)) (c ⊠ product m) (total p) (total q)
+      (total-put c m (plus p q)) (total-plus p q)
 
   total-minus : (p q : Polynomial) → total (minus p q) ≐ total p ⊟ total q
   total-minus p none = zero-difference (total p)
@@ -175,7 +179,8 @@ module _ (env : List Z) where
       difference-step (total (put (opp c) m (minus p q))) (total (minus p q)) c (product m) (total p) (total q)
       (total-put (opp c) m (minus p q)) (total-minus p q)
 
-  total-scaled-plus : (c : Z) (m : Monomial) (p q : Polynomial) → total (scaled-plus c m p q) ≐ c ⊠ product m ⊠ total p ⊞ total q
+  total-scaled-plus : (c : Z) (m : Monomial) (p q : Polynomial)
+      → total (scaled-plus c m p q) ≐ c ⊠ product m ⊠ total p ⊞ total q
   total-scaled-plus c m none q = product-zero-sum (c ⊠ product m) (total q)
   total-scaled-plus c m (term d n p) q =
       let rest = scaled-plus c m p q in
@@ -202,19 +207,26 @@ module _ (env : List Z) where
   normal-form-value (var i) = one-term (value (var i) env)
   normal-form-value (num n) = one-constant (whole n)
   normal-form-value (neg x) =
-      zero-minus (total (minus none (normal-form x))) (total (normal-form x)) (value x env) (total-minus none (normal-form x)) (normal-form-value x)
+      zero-minus (total (minus none (normal-form x))) (total (normal-form x)) (value x env)
+      (total-minus none (normal-form x)) (normal-form-value x)
   normal-form-value (x :+ y) =
-      same-trans (total (plus (normal-form x) (normal-form y))) (total (normal-form x) ⊞ total (normal-form y)) (value x env ⊞ value y env)
+      same-trans (total (plus (normal-form x) (normal-form y))) (total (normal-form x) ⊞ total (normal-form y))
+      (value x env ⊞ value y env)
       (total-plus (normal-form x) (normal-form y))
-      (sum-same (total (normal-form x)) (value x env) (total (normal-form y)) (value y env) (normal-form-value x) (normal-form-value y))
+      (sum-same (total (normal-form x)) (value x env) (total (normal-form y)) (value y env) (normal-form-value x)
+      (normal-form-value y))
   normal-form-value (x :- y) =
-      same-trans (total (minus (normal-form x) (normal-form y))) (total (normal-form x) ⊟ total (normal-form y)) (value x env ⊟ value y env)
+      same-trans (total (minus (normal-form x) (normal-form y))) (total (normal-form x) ⊟ total (normal-form y))
+      (value x env ⊟ value y env)
       (total-minus (normal-form x) (normal-form y))
-      (difference-same (total (normal-form x)) (value x env) (total (normal-form y)) (value y env) (normal-form-value x) (normal-form-value y))
+      (difference-same (total (normal-form x)) (value x env) (total (normal-form y)) (value y env)
+      (normal-form-value x) (normal-form-value y))
   normal-form-value (x :* y) =
-      same-trans (total (times (normal-form x) (normal-form y))) (total (normal-form x) ⊠ total (normal-form y)) (value x env ⊠ value y env)
+      same-trans (total (times (normal-form x) (normal-form y))) (total (normal-form x) ⊠ total (normal-form y))
+      (value x env ⊠ value y env)
       (total-times (normal-form x) (normal-form y))
-      (product-same (total (normal-form x)) (value x env) (total (normal-form y)) (value y env) (normal-form-value x) (normal-form-value y))
+      (product-same (total (normal-form x)) (value x env) (total (normal-form y)) (value y env) (normal-form-value x)
+      (normal-form-value y))
 
   all-zero-total : (p : Polynomial) → T (all-zero p) → total p ≐ whole 0
   all-zero-total none t = refl
@@ -227,4 +239,5 @@ module _ (env : List Z) where
 pub ring : (x y : Expr) (env : List Z) → SamePolynomial x y → value x env ≐ value y env
 ring x y env t =
     let difference = normal-form (x :- y) in
-    same-of-difference (total env difference) (value x env) (value y env) (normal-form-value env (x :- y)) (all-zero-total env difference t)
+    same-of-difference (total env difference) (value x env) (value y env) (normal-form-value env (x :- y))
+    (all-zero-total env difference t)

@@ -1,5 +1,5 @@
--- The scan through all places: what it finds is one of them, and is best among them for every relation that the test keeps up.
--- Assumes nothing.
+-- The scan through all places: what it finds is one of them, and is best among them for every relation that the test
+-- keeps up. Assumes nothing.
 use mathlib.Core.Path.{_≡_, refl, sym, subst}
 use mathlib.Core.List.{List, [], _∷_, List·Memᴰ, List·Memᴰ·cases-cons, List·Memᴰ·not-nil}
 use mathlib.Core.List as L
@@ -18,17 +18,20 @@ module _ {A : Type 0} (replaces : A → A → Bool) where
       go false (inl h) = L.List·Memᴰ·head h
       go t (inr h) = L.List·Memᴰ·tail (L.List·Memᴰ·tail h)
 
-  -- where the test fails the candidate is better than the new one; where it passes the new one is better than all that the candidate was
+  -- where the test fails the candidate is better than the new one; where it passes the new one is better than all
+  -- that the candidate was
   module _ (Good : A → Type 0) (Better : A → A → Type 0)
       (own : (a : A) → Better a a)
       (kept : (e j : A) → Good e → Good j → T (not (replaces e j)) → Better e j)
       (replaced : (e j r : A) → Good e → Good j → Good r → T (replaces e j) → Better e r → Better j r) where
-    pub scan-best : (js : List A) (e r : A) → Good e → ((j : A) → List·Memᴰ j js → Good j) → Good r → Better e r ⊎ List·Memᴰ r js
+    pub scan-best : (js : List A) (e r : A) → Good e → ((j : A) → List·Memᴰ j js → Good j) → Good r
+        → Better e r ⊎ List·Memᴰ r js
         → Better (scan replaces e js) r
     scan-best [] e r e-good js-good r-good (inl h) = h
     scan-best [] e r e-good js-good r-good (inr m) = absurd (List·Memᴰ·not-nil m)
     scan-best (j ∷ js) e r e-good js-good r-good h =
-        scan-best js (cond (replaces e j) j e) r (good (replaces e j)) (λ i m. js-good i (L.List·Memᴰ·tail m)) r-good (seen h)
+        scan-best js (cond (replaces e j) j e) r (good (replaces e j)) (λ i m. js-good i (L.List·Memᴰ·tail m)) r-good
+        (seen h)
       where
         j-good : Good j
         j-good = js-good j (L.List·Memᴰ·head refl)

@@ -1,5 +1,6 @@
--- Signs and comparisons carried along `≐`, opposites, sums and differences. Each is one step of linear arithmetic: it is named so that
--- proofs over long expressions hand those over whole, and `omega` meets only the names here. Assumes nothing.
+-- Signs and comparisons carried along `≐`, opposites, sums and differences. Each is one step of linear arithmetic: it
+-- is named so that proofs over long expressions hand those over whole, and `omega` meets only the names here. Assumes
+-- nothing.
 use native.Mathlib.Omega.{arith}
 use Rattle.algebra.specs.Integer.{Z, whole, _⊞_, _⊟_, opp, _≐_, _≼_, _≺_}
 

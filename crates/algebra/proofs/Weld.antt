@@ -40,7 +40,8 @@ module _ {A : Type 0} (near : A → A → Bool) where
     pub weld-once : (l kept : List A) → Once kept → Once (weld near kept l)
     weld-once [] kept once = once
     weld-once (a ∷ l) kept once =
-        weld-once l (keep-unless (near-any near a kept) kept a) (go (near-any near a kept) (λ t m. T-not (near-any near a kept) t (mem-near a kept m)))
+        weld-once l (keep-unless (near-any near a kept) kept a)
+        (go (near-any near a kept) (λ t m. T-not (near-any near a kept) t (mem-near a kept m)))
       where
         go : (t : Bool) → (T (not t) → ¬ List·Memᴰ a kept) → Once (keep-unless t kept a)
         go true new = once
@@ -48,7 +49,8 @@ module _ {A : Type 0} (near : A → A → Bool) where
 
   pub weld-length : (l kept : List A) → length (weld near kept l) ≤ length kept + length l
   weld-length [] kept = omega arith
-  weld-length (a ∷ l) kept = omega (arith, weld-length l (keep-unless (near-any near a kept) kept a), one-more (near-any near a kept))
+  weld-length (a ∷ l) kept =
+      omega (arith, weld-length l (keep-unless (near-any near a kept) kept a), one-more (near-any near a kept))
     where
       one-more : (t : Bool) → length (keep-unless t kept a) ≤ length kept + 1
       one-more true = omega arith
@@ -67,23 +69,28 @@ module _ {A : Type 0} (near : A → A → Bool) where
       back true k = inl k
       back false k = last (List·Memᴰ·append-cases kept k)
 
-      go : List·Memᴰ a (keep-unless (near-any near b kept) kept b) ⊎ List·Memᴰ a l → List·Memᴰ a kept ⊎ List·Memᴰ a (b ∷ l)
+      go : List·Memᴰ a (keep-unless (near-any near b kept) kept b) ⊎ List·Memᴰ a l
+          → List·Memᴰ a kept ⊎ List·Memᴰ a (b ∷ l)
       go (inl k) = back (near-any near b kept) k
       go (inr k) = inr (L.List·Memᴰ·tail k)
 
   -- ---- all of them: points near another are equal to it
   module _ (Good : A → Type 0) (near-eq : (a b : A) → Good a → Good b → T (near a b) → a ≡ b) where
-    near-mem : (a : A) (kept : List A) → Good a → ((k : A) → List·Memᴰ k kept → Good k) → T (near-any near a kept) → List·Memᴰ a kept
+    near-mem : (a : A) (kept : List A) → Good a → ((k : A) → List·Memᴰ k kept → Good k) → T (near-any near a kept)
+        → List·Memᴰ a kept
     near-mem a [] a-good kept-good t = absurd t
     near-mem a (k ∷ kept) a-good kept-good t =
-        go (near-mem a kept a-good (λ b m. kept-good b (L.List·Memᴰ·tail m))) (or-yes (near a k) (near-any near a kept) t)
+        go (near-mem a kept a-good (λ b m. kept-good b (L.List·Memᴰ·tail m)))
+        (or-yes (near a k) (near-any near a kept) t)
       where
-        go : (T (near-any near a kept) → List·Memᴰ a kept) → T (near a k) ⊎ T (near-any near a kept) → List·Memᴰ a (k ∷ kept)
+        go : (T (near-any near a kept) → List·Memᴰ a kept) → T (near a k) ⊎ T (near-any near a kept)
+            → List·Memᴰ a (k ∷ kept)
         go later (inl h) = L.List·Memᴰ·head (near-eq a k a-good (kept-good k (L.List·Memᴰ·head refl)) h)
         go later (inr h) = L.List·Memᴰ·tail (later h)
 
     -- the points kept so far stay good
-    keep-good : (t : Bool) (a : A) (kept : List A) → Good a → ((k : A) → List·Memᴰ k kept → Good k) → (k : A) → List·Memᴰ k (keep-unless t kept a) → Good k
+    keep-good : (t : Bool) (a : A) (kept : List A) → Good a → ((k : A) → List·Memᴰ k kept → Good k) → (k : A)
+        → List·Memᴰ k (keep-unless t kept a) → Good k
     keep-good true a kept a-good kept-good k m = kept-good k m
     keep-good false a kept a-good kept-good k m = go (List·Memᴰ·append-cases kept m)
       where
@@ -91,12 +98,14 @@ module _ {A : Type 0} (near : A → A → Bool) where
         go (inl h) = kept-good k h
         go (inr h) = subst Good (sym (List·Memᴰ·eq-of-singleton h)) a-good
 
-    pub weld-all : (l kept : List A) (a : A) → ((k : A) → List·Memᴰ k kept → Good k) → ((k : A) → List·Memᴰ k l → Good k)
+    pub weld-all : (l kept : List A) (a : A) → ((k : A) → List·Memᴰ k kept → Good k)
+        → ((k : A) → List·Memᴰ k l → Good k)
         → List·Memᴰ a kept ⊎ List·Memᴰ a l → List·Memᴰ a (weld near kept l)
     weld-all [] kept a kept-good l-good (inl m) = m
     weld-all [] kept a kept-good l-good (inr m) = absurd (List·Memᴰ·not-nil m)
     weld-all (b ∷ l) kept a kept-good l-good h =
-        weld-all l (keep-unless (near-any near b kept) kept b) a (keep-good (near-any near b kept) b kept b-good kept-good)
+        weld-all l (keep-unless (near-any near b kept) kept b) a
+        (keep-good (near-any near b kept) b kept b-good kept-good)
         (λ k m. l-good k (L.List·Memᴰ·tail m)) (go h)
       where
         b-good : Good b
@@ -114,6 +123,7 @@ module _ {A : Type 0} (near : A → A → Bool) where
         this (inl e) = inl (new (near-any near b kept) (near-mem b kept b-good kept-good) e)
         this (inr m) = inr m
 
-        go : List·Memᴰ a kept ⊎ List·Memᴰ a (b ∷ l) → List·Memᴰ a (keep-unless (near-any near b kept) kept b) ⊎ List·Memᴰ a l
+        go : List·Memᴰ a kept ⊎ List·Memᴰ a (b ∷ l)
+            → List·Memᴰ a (keep-unless (near-any near b kept) kept b) ⊎ List·Memᴰ a l
         go (inl m) = inl (old (near-any near b kept) m)
         go (inr m) = this (List·Memᴰ·cases-cons m)

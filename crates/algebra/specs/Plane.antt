@@ -1,5 +1,5 @@
--- Points of the plane with whole coordinates, also read as the vectors to them: differences, cross and dot products, and the doubled
--- area of a triangle, above 0 where it is turned counter-clockwise. Definitions only.
+-- Points of the plane with whole coordinates, also read as the vectors to them: differences, cross and dot products,
+-- and the doubled area of a triangle, above 0 where it is turned counter-clockwise. Definitions only.
 use Rattle.algebra.specs.Integer.{Z, _⊞_, _⊟_, _⊠_, _≐_}
 
 pub record Point : Type 0 where

@@ -3,10 +3,8 @@ use mathlib.Core.Path.{_≡_, sym}
 use mathlib.Core.Bool.{true, false}
 use mathlib.Core.List.{List}
 use Prim.Native.Nat.{ℕ, _+_, _-_, _≤_, _<_}
-use native.Mathlib.Nat.{le-refl}
 use borrow.Author.Tests.{lt-ltb, le-ltb, eq-eqb, ne-eqb}
-use lib.ListN.{length, take, drop, length-drop}
-use lib.Seq.{take-all}
+use lib.ListN.{length, drop}
 use lib.Ieee.{Float}
 use Rattle.floats.specs.declared.b2_math.B2vec2.{B2vec2}
 use Rattle.floats.specs.B2Common.{b2-polygon-radius}
@@ -14,13 +12,10 @@ use Rattle.shape_definitions.specs.declared.b2_polygon_shape.ValidateAnswer.{Va
 use Rattle.shape_definitions.specs.Validate.{b2-polygon-shape-validate}
 use Rattle.bench_calls.specs.Outlines.{point-of, points-of, outline-in, convex-code}
 
--- the floats from the sixteenth on, as a part of the slice
-pub rest-of : (xs : List Float) → take (length xs - 16) (drop 16 xs) ≡ drop 16 xs
-rest-of xs = take-all (length xs - 16) (drop 16 xs) (rw (length-drop 16 xs) (le-refl (length xs - 16)))
-
 module _ (xs : List Float) (count : ℕ) where
   -- the outline of the parts that were read
-  pub of-parts : (centroid : B2vec2) (vertices normals : List B2vec2) → centroid ≡ point-of xs 16 → vertices ≡ points-of xs 8
+  pub of-parts : (centroid : B2vec2) (vertices normals : List B2vec2) → centroid ≡ point-of xs 16
+      → vertices ≡ points-of xs 8
       → normals ≡ points-of (drop 16 xs) 8
       → b2-polygon-shape-validate (record {
         «m_radius» = b2-polygon-radius;
@@ -30,7 +25,8 @@ module _ (xs : List Float) (count : ℕ) where
         «m_count» = count;
       })
       ≡ b2-polygon-shape-validate (outline-in xs count)
-  of-parts centroid vertices normals centroid-is vertices-are normals-are = simp (centroid-is, vertices-are, normals-are)
+  of-parts centroid vertices normals centroid-is vertices-are normals-are =
+      simp (centroid-is, vertices-are, normals-are)
 
   pub too-short : length xs < 34 → 2 ≡ convex-code xs count
   unfolding convex-code

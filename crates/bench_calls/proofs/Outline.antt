@@ -3,24 +3,23 @@ use mathlib.Core.Path.{_≡_, _∙_, ap, subst}
 use mathlib.Core.List.{List}
 use Prim.Native.Nat.{ℕ, _+_, _/_, _≤_, _<_}
 use borrow.Author.Tests.{lt-ltb, le-ltb, eq-eqb, ne-eqb}
-use lib.ListN.{length, take, length-map}
+use lib.ListN.{length, getD, take}
 use lib.Ieee.{Float}
 use Rattle.algebra.specs.Buffer.{over}
-use Rattle.algebra.proofs.Places.{length-places}
+use Rattle.rounding.specs.Literals.{zero32}
 use Rattle.floats.specs.declared.b2_math.B2vec2.{B2vec2}
+use Rattle.floats.proofs.Coordinates.{length-points-from}
 use Rattle.shape_definitions.specs.declared.b2_polygon_shape.PolygonAnswer.{PolygonAnswer}
 use Rattle.shape_definitions.specs.Polygon.{b2-polygon-shape-set, b2-polygon-shape-set-counted}
 use Rattle.shape_definitions.proofs.Counted.{counted-whole}
 use Rattle.bench_calls.specs.Outlines.{points-of, empty-outline, built, code-of, floats-of, left-by, code, left}
 
-length-points : (xs : List Float) (n : ℕ) → length (points-of xs n) ≡ n
-length-points xs n = simp length-map (length-places 0 n)
-
 -- the core on the points that were read, all of them where there are at most eight
-pub built-counted : (xs : List Float) (ps : List B2vec2) (n read : ℕ) (answer : PolygonAnswer) → n ≡ length xs / 2 → (n ≤ 8 → read ≡ n)
+pub built-counted : (xs : List Float) (ps : List B2vec2) (n read : ℕ) (answer : PolygonAnswer) → n ≡ length xs / 2
+    → (n ≤ 8 → read ≡ n)
     → take read ps ≡ points-of xs read → answer ≡ b2-polygon-shape-set-counted empty-outline ps n → answer ≡ built xs
 built-counted xs ps n read answer n-is all were-read is =
-    is ∙ counted-whole empty-outline ps (points-of xs n) n (length-points xs n)
+    is ∙ counted-whole empty-outline ps (points-of xs n) n (length-points-from (λ k. getD xs k zero32) 0 n)
     (λ (few : n ≤ 8). subst (λ (k : ℕ). take k ps ≡ points-of xs k) (all few) were-read)
     ∙ ap (λ (k : ℕ). b2-polygon-shape-set empty-outline (points-of xs k)) n-is
 

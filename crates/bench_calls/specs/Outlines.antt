@@ -1,16 +1,17 @@
--- Building an outline from flat coordinates, x then y: the corners, the normals and the centroid go to the front of an output. Definitions only.
+-- Building an outline from flat coordinates, x then y: the corners, the normals and the centroid go to the front of
+-- an output. Definitions only.
 use mathlib.Core.Bool.{cond}
-use mathlib.Core.List.{List, [], _∷_, _++_, map}
+use mathlib.Core.List.{List, [], _∷_, _++_}
 use Prim.Native.Nat.{ℕ, _+_, _*_, _/_}
 use lib.Dec.{eqb, ltb}
 use lib.ListN.{length, getD, drop}
 use lib.Ieee.{Float}
 use Rattle.algebra.specs.Buffer.{over}
-use Rattle.algebra.specs.Loops.{places}
 use Rattle.floats.specs.declared.b2_math.B2vec2.{B2vec2}
 use Rattle.rounding.specs.Literals.{zero32}
 use Rattle.floats.specs.B2Common.{b2-polygon-radius}
 use Rattle.floats.specs.B2Math.{vec2}
+use Rattle.floats.specs.Coordinates.{points-from, coordinates-of}
 use Rattle.shape_definitions.specs.declared.b2_polygon_shape.B2polygonShape.{B2polygonShape}
 use Rattle.shape_definitions.specs.declared.b2_polygon_shape.PolygonAnswer.{PolygonAnswer}
 use Rattle.shape_definitions.specs.Outline.{origin}
@@ -24,12 +25,11 @@ abbrev pub point-of : List Float → ℕ → B2vec2
 point-of xs i = vec2 (getD xs (2 * i) zero32) (getD xs (2 * i + 1) zero32)
 
 abbrev pub points-of : List Float → ℕ → List B2vec2
-points-of xs n = map (point-of xs) (places 0 n)
+points-of xs n = points-from (λ k. getD xs k zero32) 0 n
 
 -- coordinates in a row
 unfoldable pub flat : List B2vec2 → List Float
-flat [] = []
-flat (p ∷ ps) = p .x ∷ p .y ∷ flat ps
+flat ps = coordinates-of ps
 
 abbrev pub eight-origins : List B2vec2
 eight-origins = origin ∷ origin ∷ origin ∷ origin ∷ origin ∷ origin ∷ origin ∷ origin ∷ []
@@ -59,7 +59,8 @@ code answer out = cond (ltb (length out) 34) 0 (code-of answer)
 
 -- what is left in the output: the corners, the normals and the centroid of an accepted outline at its front
 abbrev pub floats-of : B2polygonShape → List Float
-floats-of shape = flat (shape .«m_vertices») ++ flat (shape .«m_normals») ++ (shape .«m_centroid» .x ∷ shape .«m_centroid» .y ∷ [])
+floats-of shape =
+    flat (shape .«m_vertices») ++ flat (shape .«m_normals») ++ (shape .«m_centroid» .x ∷ shape .«m_centroid» .y ∷ [])
 
 abbrev pub left-by : PolygonAnswer → List Float → List Float
 left-by answer out = cond (eqb (answer .refusal) 0) (over (floats-of (answer .shape)) out) out
@@ -67,7 +68,8 @@ left-by answer out = cond (eqb (answer .refusal) 0) (over (floats-of (answer .sh
 unfoldable pub left : PolygonAnswer → List Float → List Float
 left answer out = cond (ltb (length out) 34) out (left-by answer out)
 
--- ---- the convexity test: an outline in the same floats, with its count; 1 for convex, 0 for not, 256 and the refusal; 2 for fewer floats
+-- ---- the convexity test: an outline in the same floats, with its count
+-- 1 for convex, 0 for not, 256 and the refusal; 2 for fewer floats
 abbrev pub outline-in : List Float → ℕ → B2polygonShape
 outline-in xs count = record {
   «m_radius» = b2-polygon-radius;

@@ -1,4 +1,5 @@
--- The constants that lengths and areas are compared with, as whole multiples of a power of two: 2^-23 and its square. Assumes nothing.
+-- The constants that lengths and areas are compared with, as whole multiples of a power of two: 2^-23 and its square.
+-- Assumes nothing.
 use Rattle.algebra.specs.Integer.{whole}
 use Rattle.rounding.proofs.Dyadic.{Dyadic}
 use Rattle.rounding.proofs.Literals.{bits-dyadic}

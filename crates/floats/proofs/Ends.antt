@@ -1,5 +1,5 @@
--- The ends of a face are not right of it, by the rounded cross product and whatever the numbers: the product of an edge with a point less
--- itself, or with the edge itself, is a zero or NaN, and neither is below 0. Assumes nothing.
+-- The ends of a face are not right of it, by the rounded cross product and whatever the numbers: the product of an
+-- edge with a point less itself, or with the edge itself, is a zero or NaN, and neither is below 0. Assumes nothing.
 use mathlib.Core.Path.{_≡_, subst}
 use mathlib.Core.Bool.{false}
 use lib.Ieee.{binary32, sub, mul, lt}

@@ -1,6 +1,7 @@
 pub mod RangeValue
 pub mod Constants
 pub mod Vectors
+pub mod Coordinates
 pub mod Ends
 pub mod Turned
 pub mod Theorem

@@ -1,5 +1,5 @@
--- The laws of vectors and ranges that the upper crates cite: what a range test says of the values, and back, and a transform as a
--- rotation and then a translation. Bodies only cite. Assumes nothing.
+-- The laws of vectors and ranges that the upper crates cite: what a range test says of the values, and back, and a
+-- transform as a rotation and then a translation. Bodies only cite. Assumes nothing.
 use mathlib.Core.Path.{_≡_}
 use mathlib.Core.Bool.{Bool}
 use mathlib.Core.Logic.{_↔_}
@@ -44,7 +44,8 @@ pub none-within : {limit : Float} → F32 limit → NoneWithin limit
 none-within limit-f32 = record { not-nan = within-nan limit-f32; not-infinite = λ s. within-infinity s limit-f32 }
 
 -- ---- a vector of the format is within h metres exactly where both coordinates are, by value
-pub vector-within : {limit : Float} {v : B2vec2} {h : ℕ} → Limit limit h → T (fits binary32 (v .x)) → T (fits binary32 (v .y))
+pub vector-within : {limit : Float} {v : B2vec2} {h : ℕ} → Limit limit h → T (fits binary32 (v .x))
+    → T (fits binary32 (v .y))
     → T (vec2-within limit v) ↔ (Bounded (v .x) (h * metre) × Bounded (v .y) (h * metre))
 vector-within l x-fits y-fits = (
   limit-vec2 l x-fits y-fits,
@@ -56,5 +57,6 @@ pub radius-within : {r : Float} → T (fits binary32 r) → T (radius-in-range r
 radius-within r-fits = (radius-value r-fits, value-radius)
 
 -- ---- a transform turns, then moves
-pub turn-then-move : (t : B2Transform) (v : B2vec2) → b2-mul-transform-by-vec2 t v ≡ b2-add (b2-mul-rot-by-vec2 (t .q) v) (t .p)
+pub turn-then-move : (t : B2Transform) (v : B2vec2)
+    → b2-mul-transform-by-vec2 t v ≡ b2-add (b2-mul-rot-by-vec2 (t .q) v) (t .p)
 turn-then-move = carry-is

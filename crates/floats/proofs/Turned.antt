@@ -1,5 +1,5 @@
--- The normal of an edge that is long enough: turning keeps the squared length, bit for bit, and the root of a squared length above 2^-46
--- is not below 2^-23, so that normalising acts. Assumes nothing.
+-- The normal of an edge that is long enough: turning keeps the squared length, bit for bit, and the root of a squared
+-- length above 2^-46 is not below 2^-23, so that normalising acts. Assumes nothing.
 use mathlib.Core.Path.{_≡_, refl, sym, ap, ap₂, _∙_, subst}
 use mathlib.Core.Bool.{Bool, true, false, not, cond}
 use Prim.Native.Nat.{ℕ, _-_, _*_, _^_, _≤_}
@@ -13,7 +13,8 @@ use Rattle.floats.specs.declared.b2_math.B2vec2.{B2vec2}
 use Rattle.floats.specs.declared.b2_math.Normalized.{Normalized}
 use Rattle.rounding.specs.Literals.{zero32, one32}
 use Rattle.floats.specs.B2Common.{b2-epsilon, epsilon-squared}
-use Rattle.floats.specs.B2Math.{b2-sqrt, b2-cross-vec-by-scalar, b2-length-squared, b2-length, times-reciprocal, b2-normalize}
+use Rattle.floats.specs.B2Math.{b2-sqrt, b2-cross-vec-by-scalar, b2-length-squared, b2-length, times-reciprocal}
+use Rattle.floats.specs.B2Math.{b2-normalize}
 use Rattle.sqrt.specs.Sqrt.{sqrt}
 use Rattle.rounding.specs.Value.{metre, F32, mag, val}
 use Rattle.rounding.proofs.Value.{metre-pos, positive-sign}

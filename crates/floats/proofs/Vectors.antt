@@ -10,6 +10,7 @@ unfolding b2-length-squared b2-dot
 length-is-dot a = refl
 
 -- a transform turns, then moves
-pub carry-is : (t : B2Transform) (v : B2vec2) → b2-mul-transform-by-vec2 t v ≡ b2-add (b2-mul-rot-by-vec2 (t .q) v) (t .p)
+pub carry-is : (t : B2Transform) (v : B2vec2) → b2-mul-transform-by-vec2 t v ≡ b2-add (b2-mul-rot-by-vec2 (t .q) v)
+    (t .p)
 unfolding b2-mul-transform-by-vec2 b2-mul-rot-by-vec2 b2-add
 carry-is t v = refl

@@ -1,3 +1,4 @@
 pub mod B2Common
 pub mod B2Math
 pub mod Ranges
+pub mod Coordinates

@@ -1,6 +1,7 @@
--- Closed cases, computed by antt from the builder's definition, and witnesses that the hypotheses of the theorems can be met: a list with a
--- repeat, a point on an edge and both zeros; the smallest triangle of the grid and the largest square; a list on one line; one with two
--- different points; too many points. And the bounds of normals as fractions. Assumes nothing.
+-- Closed cases, computed by antt from the builder's definition, and witnesses that the hypotheses of the theorems can
+-- be met: a list with a repeat, a point on an edge and both zeros; the smallest triangle of the grid and the largest
+-- square; a list on one line; one with two different points; too many points. And the bounds of normals as fractions.
+-- Assumes nothing.
 use mathlib.Core.Path.{_≡_, refl, sym, ap, subst}
 use mathlib.Core.List.{List, [], _∷_, List·Memᴰ, List·Memᴰ·cases-cons, List·Memᴰ·not-nil, map}
 use mathlib.Core.Bool.{Bool, true, _&&_}
@@ -20,7 +21,8 @@ use Rattle.floats.specs.Ranges.{point-in-range, radius-in-range}
 use Rattle.rounding.proofs.Literals.{bits-sign, bits-field, bits-units, bits-dyadic}
 use Rattle.hull.specs.Hull.{OnLine, ThreeDifferent}
 use Rattle.shape_definitions.specs.declared.b2_polygon_shape.B2polygonShape.{B2polygonShape}
-use Rattle.shape_definitions.specs.Outline.{origin, too-near, welded, comes-before, start, closer, next, row, edges, long-enough, fan}
+use Rattle.shape_definitions.specs.Outline.{origin, too-near, welded, comes-before, start, closer, next, row, edges}
+use Rattle.shape_definitions.specs.Outline.{long-enough, fan}
 use Rattle.shape_definitions.specs.Polygon.{outline-of-corners, outline-of-welded, b2-polygon-shape-set}
 use Rattle.shape_definitions.specs.Validate.{polygon-in-range}
 use Rattle.grid.specs.Grid.{grid-limit, GridNumber, GridPoint, GridList, values}
@@ -79,10 +81,12 @@ nine = replicate 9 (0, 0)
 -- ---- what the builder computes: refusals, and the corners bit for bit
 pub record Computed (old : B2polygonShape) : Type 0 where
   pub square-accepted : refusal-of old (points square) ≡ 0
-  pub square-corners : take (outline-from old (points square) .«m_count») (outline-from old (points square) .«m_vertices»)
+  pub square-corners : take (outline-from old (points square) .«m_count»)
+      (outline-from old (points square) .«m_vertices»)
       ≡ points ((one, 0) ∷ (one, one) ∷ (minus-zero, one) ∷ (0, 0) ∷ [])
   pub smallest-accepted : refusal-of old (points smallest) ≡ 0
-  pub smallest-corners : take (outline-from old (points smallest) .«m_count») (outline-from old (points smallest) .«m_vertices»)
+  pub smallest-corners : take (outline-from old (points smallest) .«m_count»)
+      (outline-from old (points smallest) .«m_vertices»)
       ≡ points ((step, 0) ∷ (0, step) ∷ (0, 0) ∷ [])
   pub largest-accepted : refusal-of old (points largest) ≡ 0
   pub on-line-refused : refusal-of old (points on-line) ≡ 4
@@ -90,8 +94,8 @@ pub record Computed (old : B2polygonShape) : Type 0 where
   pub nine-refused : refusal-of old (points nine) ≡ 1
 
 pub computed : (old : B2polygonShape) → Computed old
-unfolding b2-polygon-shape-set outline-of-welded outline-of-corners welded start next row edges long-enough fan too-near comes-before closer
-    point-in-range b2-sub b2-dot b2-cross b2-length-squared b2-distance-vec2-squared le neg add sub mul ofBits
+unfolding b2-polygon-shape-set outline-of-welded outline-of-corners welded start next row edges long-enough fan
+    too-near comes-before closer point-in-range b2-sub b2-dot b2-cross b2-length-squared b2-distance-vec2-squared le neg add sub mul ofBits
 computed old = record {
   square-accepted = refl;
   square-corners = refl;
@@ -112,8 +116,10 @@ on-grid b = ltb (bits-field b) 255 && (eqb (2 ^ 8 * bits-units b) (2 ^ 149 * ste
 
 grid-number : (b : ℕ) → T (on-grid b) → GridNumber (ofBits binary32 b)
 grid-number b t =
-    let finite = and-yes (ltb (bits-field b) 255) (eqb (2 ^ 8 * bits-units b) (2 ^ 149 * steps-of b) && leb (steps-of b) grid-limit) t in
-    let whole-steps = and-yes (eqb (2 ^ 8 * bits-units b) (2 ^ 149 * steps-of b)) (leb (steps-of b) grid-limit) (finite .1) in
+    let finite = and-yes (ltb (bits-field b) 255)
+    (eqb (2 ^ 8 * bits-units b) (2 ^ 149 * steps-of b) && leb (steps-of b) grid-limit) t in
+    let whole-steps = and-yes (eqb (2 ^ 8 * bits-units b) (2 ^ 149 * steps-of b)) (leb (steps-of b) grid-limit)
+    (finite .1) in
     let d = bits-dyadic b (steps-of b) 8 (finite .0) (whole-steps .0) in
     record {
       own = d .own;
@@ -133,30 +139,38 @@ grid-list (b ∷ l) t v m =
     let here = and-yes (on-grid (b .0)) (on-grid (b .1)) (both .0) in
     go (grid-number (b .0) (here .0), grid-number (b .1) (here .1)) (grid-list l (both .1) v) (List·Memᴰ·cases-cons m)
   where
-    go : GridPoint (at (b .0) (b .1)) → (List·Memᴰ v (points l) → GridPoint v) → (v ≡ at (b .0) (b .1)) ⊎ List·Memᴰ v (points l)
+    go : GridPoint (at (b .0) (b .1)) → (List·Memᴰ v (points l) → GridPoint v)
+        → (v ≡ at (b .0) (b .1)) ⊎ List·Memᴰ v (points l)
         → GridPoint v
     go first later (inl e) = subst GridPoint (sym e) first
     go first later (inr k) = later k
 
 -- ---- the theorems on them
 square-suitable : (old : B2polygonShape) → ThreeToEight (points square) × (¬ OnLine (values (points square)))
-square-suitable old = first-sentence old (points square) (grid-list square tt) .accepted-exactly-when .0 (computed old .square-accepted)
+square-suitable old =
+    first-sentence old (points square) (grid-list square tt) .accepted-exactly-when .0 (computed old .square-accepted)
 
-square-hull : (old : B2polygonShape) → HullRow (values (points square)) (built-corners (outline-from old (points square)))
-square-hull old = first-sentence old (points square) (grid-list square tt) .corners-are-hull (computed old .square-accepted)
+square-hull : (old : B2polygonShape)
+    → HullRow (values (points square)) (built-corners (outline-from old (points square)))
+square-hull old =
+    first-sentence old (points square) (grid-list square tt) .corners-are-hull (computed old .square-accepted)
 
 smallest-suitable : (old : B2polygonShape) → ThreeToEight (points smallest) × (¬ OnLine (values (points smallest)))
 smallest-suitable old = first-sentence old (points smallest) (grid-list smallest tt) .accepted-exactly-when .0
     (computed old .smallest-accepted)
 
 largest-suitable : (old : B2polygonShape) → ThreeToEight (points largest) × (¬ OnLine (values (points largest)))
-largest-suitable old = first-sentence old (points largest) (grid-list largest tt) .accepted-exactly-when .0 (computed old .largest-accepted)
+largest-suitable old =
+    first-sentence old (points largest)
+    (grid-list largest tt) .accepted-exactly-when .0 (computed old .largest-accepted)
 
 on-line-is : (old : B2polygonShape) → ThreeToEight (points on-line) × ThreeDifferent (values (points on-line)) × OnLine
     (values (points on-line))
-on-line-is old = first-sentence old (points on-line) (grid-list on-line tt) .on-one-line .0 (computed old .on-line-refused)
+on-line-is old =
+    first-sentence old (points on-line) (grid-list on-line tt) .on-one-line .0 (computed old .on-line-refused)
 
-two-different-is : (old : B2polygonShape) → ThreeToEight (points two-different) × (¬ ThreeDifferent (values (points two-different)))
+two-different-is : (old : B2polygonShape)
+    → ThreeToEight (points two-different) × (¬ ThreeDifferent (values (points two-different)))
 two-different-is old = first-sentence old (points two-different) (grid-list two-different tt) .too-few-different .0
     (computed old .two-different-refused)
 
@@ -178,7 +192,8 @@ square-outline : GridOutline (outline-from skinned (points square))
 square-outline = built-outline skinned (points square) (grid-list square tt) (computed skinned .square-accepted)
 
 square-in-range : T (polygon-in-range (outline-from skinned (points square)))
-square-in-range = built-in-range skinned (points square) (grid-list square tt) (computed skinned .square-accepted) skin-in-range
+square-in-range =
+    built-in-range skinned (points square) (grid-list square tt) (computed skinned .square-accepted) skin-in-range
 
 -- ---- the bounds of normals as fractions: 1 + 2^-21, 2^-22 and 2^-19
 normal-bound-is : 2 ^ 21 * normal-bound ≡ (2 ^ 21 + 1) * metre

@@ -1,5 +1,5 @@
--- Demand 3, first sentence, of the outline builder's definition, and what the second sentence needs of a built outline and of sums of
--- grid numbers. Bodies only cite. Assumes nothing.
+-- Demand 3, first sentence, of the outline builder's definition, and what the second sentence needs of a built
+-- outline and of sums of grid numbers. Bodies only cite. Assumes nothing.
 use mathlib.Core.Path.{_≡_, sym, _∙_, subst}
 use mathlib.Core.List.{List}
 use Prim.Native.Nat.{ℕ, _+_, _^_}
@@ -22,7 +22,8 @@ use Rattle.grid.proofs.Outline.{accepted-outline}
 use Rattle.grid.specs.GridOutline.{GridOutline}
 
 module _ (old : B2polygonShape) (l : List B2vec2) (grid : GridList l) where
-  -- accepted exactly when it holds 3 to 8 points not all on one line, with the corners of its exact hull; else refusal 1, 3 or 4
+  -- accepted exactly when it holds 3 to 8 points not all on one line, with the corners of its exact hull; else
+  -- refusal 1, 3 or 4
   pub first-sentence : FirstSentence old l
   first-sentence = grid-list-verdict old l grid
 
@@ -31,14 +32,16 @@ module _ (old : B2polygonShape) (l : List B2vec2) (grid : GridList l) where
   built-outline r = accepted-outline old l grid r .outline
 
   -- every number of it is in range, its centroid too, where the radius is: the range test of the contact calls passes
-  pub built-in-range : refusal-of old l ≡ accepted → T (radius-in-range (old .«m_radius»)) → T (polygon-in-range (outline-from old l))
+  pub built-in-range : refusal-of old l ≡ accepted → T (radius-in-range (old .«m_radius»))
+      → T (polygon-in-range (outline-from old l))
   built-in-range r radius =
       let b = accepted-outline old l grid r in
       b .outline .in-range (subst (λ (x : Float). T (radius-in-range x)) (sym (b .radius)) radius)
 
 -- the exact hull is one row: two rows that are hulls of the same points are equal
 pub one-row : (s row row' : List Point) → HullRow s row → HullRow s row' → row ≡ row'
-one-row s row row' h h' = h .is ∙ one-hull s (h .first) (h' .first) (h .rest) (h' .rest) (h .hull) (h' .hull) ∙ sym (h' .is)
+one-row s row row' h h' =
+    h .is ∙ one-hull s (h .first) (h' .first) (h .rest) (h' .rest) (h .hull) (h' .hull) ∙ sym (h' .is)
 
 -- sums of grid numbers are exact, as long as they are at most 2^24 steps
 module _ {m n : ℕ} {x y : Float} (few : T (leb (m + n) (2 ^ 24))) (x-steps : Steps m x) (y-steps : Steps n y) where

@@ -1,7 +1,8 @@
--- What holds of an outline that is built from a list on the grid (demand 3, for its second sentence): 3 to 8 corners on the grid, and at
--- each place the normal of the edge from its corner to the next, with the bounds N0, N1 and N2: each coordinate of a normal is at most
--- 1 + 2^-21 in size, and within 2^-22 of the edge's direction turned by a quarter; its squared length is 1 within 2^-19. Lengths are whole
--- numbers of 2^-149 m, the value 1 is `metre`, and a tick is 2^-25 of it. proofs/Theorem shows it. Definitions only.
+-- What holds of an outline that is built from a list on the grid (demand 3, for its second sentence): 3 to 8 corners
+-- on the grid, and at each place the normal of the edge from its corner to the next, with the bounds N0, N1 and N2:
+-- each coordinate of a normal is at most 1 + 2^-21 in size, and within 2^-22 of the edge's direction turned by a
+-- quarter; its squared length is 1 within 2^-19. Lengths are whole numbers of 2^-149 m, the value 1 is `metre`, and a
+-- tick is 2^-25 of it. proofs/Theorem shows it. Definitions only.
 use Prim.Native.Nat.{ℕ, _+_, _*_, _^_, _≤_, _<_}
 use lib.Dec.{T}
 use lib.ListN.{length}
@@ -67,7 +68,8 @@ pub record GridOutline (shape : B2polygonShape) : Type 0 where
   pub full : shape .«m_count» ≤ length (shape .«m_vertices»)
   pub corner : (i : ℕ) → i < shape .«m_count» → GridPoint (point-at (shape .«m_vertices») i)
   pub normal : (i : ℕ) → i < shape .«m_count»
-      → EdgeNormal (point-at (shape .«m_vertices») i) (point-at (shape .«m_vertices») (place-after (shape .«m_count») i))
+      → EdgeNormal (point-at (shape .«m_vertices») i)
+      (point-at (shape .«m_vertices») (place-after (shape .«m_count») i))
       (point-at (shape .«m_normals») i)
   -- every number is in range where the radius is
   pub in-range : T (radius-in-range (shape .«m_radius»)) → T (polygon-in-range shape)

@@ -10,7 +10,8 @@ use mir.Facts.{or-yes, or-no, and-yes, yes-and}
 use Rattle.algebra.specs.Integer.{Z, whole, _≐_, _≼_, _≺_, _≐?_, _≺?_}
 use Rattle.algebra.specs.Plane.{Point, from-to, cross, dot, orient}
 use Rattle.algebra.proofs.Integer.{same-of-test, test-of-same, lt-of-test, test-of-lt}
-use Rattle.algebra.proofs.Signs.{positive-of-opposite, opposite-negative, zero-of-opposite, opposite-zero, same-of-same-difference}
+use Rattle.algebra.proofs.Signs.{positive-of-opposite, opposite-negative, zero-of-opposite, opposite-zero}
+use Rattle.algebra.proofs.Signs.{same-of-same-difference}
 use Rattle.algebra.proofs.Plane.{orientation-reversed, orient-first-twice}
 use Rattle.hull.specs.Hull.{AllReduced, Left, Between}
 use Rattle.hull.specs.Outline.{same-point, farther, wraps-closer, replaces, next-corner}
@@ -34,11 +35,14 @@ module _ (p e j : Point) where
   beats-of-test t = go (or-yes (orient p e j ≺? whole 0) ((orient p e j ≐? whole 0) && farther p e j) t)
     where
       go : T (orient p e j ≺? whole 0) ⊎ T ((orient p e j ≐? whole 0) && farther p e j) → Beats to-j to-e
-      go (inl h) = inl (positive-of-opposite (orient p e j) (orient p j e) (orientation-reversed p e j) (lt-of-test (orient p e j) (whole 0) h))
+      go (inl h) =
+          inl (positive-of-opposite (orient p e j) (orient p j e) (orientation-reversed p e j)
+          (lt-of-test (orient p e j) (whole 0) h))
       go (inr h) =
           let parts = and-yes (orient p e j ≐? whole 0) (farther p e j) h in
           inr (
-            zero-of-opposite (orient p e j) (orient p j e) (orientation-reversed p e j) (same-of-test (orient p e j) (whole 0) (parts .0)),
+            zero-of-opposite (orient p e j) (orient p j e) (orientation-reversed p e j)
+                (same-of-test (orient p e j) (whole 0) (parts .0)),
             lt-of-test (dot to-e to-e) (dot to-j to-j) (parts .1),
           )
 
@@ -48,11 +52,13 @@ module _ (p e j : Point) where
       go : T (not (orient p e j ≺? whole 0)) × T (not ((orient p e j ≐? whole 0) && farther p e j)) → ¬ Beats to-j to-e
       go fails (inl h) =
           T-not (orient p e j ≺? whole 0) (fails .0)
-          (test-of-lt (orient p e j) (whole 0) (opposite-negative (orient p e j) (orient p j e) (orientation-reversed p e j) h))
+          (test-of-lt (orient p e j) (whole 0)
+          (opposite-negative (orient p e j) (orient p j e) (orientation-reversed p e j) h))
       go fails (inr h) =
           T-not ((orient p e j ≐? whole 0) && farther p e j) (fails .1)
           (yes-and (orient p e j ≐? whole 0) (farther p e j)
-          (test-of-same (orient p e j) (whole 0) (opposite-zero (orient p e j) (orient p j e) (orientation-reversed p e j) (h .0)))
+          (test-of-same (orient p e j) (whole 0)
+          (opposite-zero (orient p e j) (orient p j e) (orientation-reversed p e j) (h .0)))
           (test-of-lt (dot to-e to-e) (dot to-j to-j) (h .1)))
 
 -- p itself beats nothing
@@ -81,18 +87,21 @@ module _ (e₀ : Point) (js : List Point) (reduced : AllReduced (e₀ ∷ js)) (
 
   one-point : (a b : Point) → Good a → Good b → SameVector (from-to p a) (from-to p b) → a ≡ b
   one-point a b a-in b-in h =
-      value-eq a b (reduced a a-in) (reduced b b-in) (same-of-same-difference (a .x) (b .x) (p .x) (h .0)) (same-of-same-difference (a .y) (b .y) (p .y) (h .1))
+      value-eq a b (reduced a a-in) (reduced b b-in) (same-of-same-difference (a .x) (b .x) (p .x) (h .0))
+      (same-of-same-difference (a .y) (b .y) (p .y) (h .1))
 
   kept : (e j : Point) → Good e → Good j → T (not (replaces p e j)) → Better e j
   kept e j e-in j-in t = go (or-no (same-point e p) (wraps-closer p e j) t) (c .ahead e e-in) (c .ahead j j-in)
     where
       decide : ¬ (e ≡ p) → ¬ Beats (from-to p j) (from-to p e)
-          → Beats (from-to p j) (from-to p e) ⊎ (Beats (from-to p e) (from-to p j) ⊎ SameVector (from-to p j) (from-to p e)) → Better e j
+          → Beats (from-to p j) (from-to p e) ⊎ (Beats (from-to p e) (from-to p j) ⊎ SameVector (from-to p j)
+          (from-to p e)) → Better e j
       decide e-not-p not-beaten (inl b) = absurd (not-beaten b)
       decide e-not-p not-beaten (inr (inl b)) = inr (inr (e-not-p, b))
       decide e-not-p not-beaten (inr (inr same)) = inr (inl (one-point j e j-in e-in same))
 
-      go : T (not (same-point e p)) × T (not (wraps-closer p e j)) → (e ≡ p) ⊎ InHalf e → (j ≡ p) ⊎ InHalf j → Better e j
+      go : T (not (same-point e p)) × T (not (wraps-closer p e j)) → (e ≡ p) ⊎ InHalf e → (j ≡ p) ⊎ InHalf j
+          → Better e j
       go fails e-half (inl j-is) = inl j-is
       go fails (inl e-is) (inr j-half) = absurd (not-same-point e p (fails .0) e-is)
       go fails (inr e-half) (inr j-half) =
@@ -107,7 +116,8 @@ module _ (e₀ : Point) (js : List Point) (reduced : AllReduced (e₀ ∷ js)) (
       unseen e-is (inr (inl h)) = inl (h ∙ e-is)
       unseen e-is (inr (inr h)) = absurd (h .0 e-is)
 
-      beaten : Beats (from-to p j) (from-to p e) → ¬ (j ≡ p) → (e ≡ p) ⊎ InHalf e → (j ≡ p) ⊎ InHalf j → (r ≡ p) ⊎ InHalf r → Better e r → Better j r
+      beaten : Beats (from-to p j) (from-to p e) → ¬ (j ≡ p) → (e ≡ p) ⊎ InHalf e → (j ≡ p) ⊎ InHalf j
+          → (r ≡ p) ⊎ InHalf r → Better e r → Better j r
       beaten b j-not e-half j-half (inl r-is) h = inl r-is
       beaten b j-not e-half j-half (inr r-half) (inl h) = inl h
       beaten b j-not e-half j-half (inr r-half) (inr (inl h)) =
@@ -115,7 +125,11 @@ module _ (e₀ : Point) (js : List Point) (reduced : AllReduced (e₀ ∷ js)) (
       beaten b j-not (inl e-is) j-half (inr r-half) (inr (inr h)) = absurd (h .0 e-is)
       beaten b j-not (inr e-half) (inl j-is) (inr r-half) (inr (inr h)) = absurd (j-not j-is)
       beaten b j-not (inr e-half) (inr j-half) (inr r-half) (inr (inr h)) =
-          inr (inr (j-not, beats-trans (c .direction) (from-to p j) (from-to p e) (from-to p r) j-half e-half r-half b (h .1)))
+          inr (inr (
+            j-not,
+            beats-trans (c .direction) (from-to p j) (from-to p e) (from-to p r) j-half e-half r-half b
+                (h .1),
+          ))
 
       not-p : Beats (from-to p j) (from-to p e) → ¬ (j ≡ p)
       not-p b j-is = not-beaten-by-own p e (subst (λ (a : Point). Beats (from-to p a) (from-to p e)) j-is b)
@@ -140,7 +154,13 @@ module _ (e₀ : Point) (js : List Point) (reduced : AllReduced (e₀ ∷ js)) (
 
   -- where there is another point than p
   pub next-side : (o : Point) → List·Memᴰ o (e₀ ∷ js) → ¬ (o ≡ p) → Side (e₀ ∷ js) p (next-corner e₀ js p)
-  next-side o o-in o-not-p = record { mem = scan-mem (replaces p) js e₀; apart = apart; edge = λ r r-in. edge r (best r r-in) (c .ahead r r-in) }
+  next-side o o-in o-not-p =
+      record {
+        mem = scan-mem (replaces p) js e₀;
+        apart = apart;
+        edge = λ r r-in. edge r (best r r-in)
+            (c .ahead r r-in);
+      }
     where
       apart : ¬ (q ≡ p)
       apart q-is = go (best o o-in)
@@ -154,7 +174,8 @@ module _ (e₀ : Point) (js : List Point) (reduced : AllReduced (e₀ ∷ js)) (
       edge r (inl h) k = inl h
       edge r (inr (inl h)) k = inr (inl h)
       edge r (inr (inr h)) (inl k) = inl k
-      edge r (inr (inr h)) (inr r-half) = inr (inr (words-of-beside p q r (go (c .ahead q (scan-mem (replaces p) js e₀)))))
+      edge r (inr (inr h)) (inr r-half) =
+          inr (inr (words-of-beside p q r (go (c .ahead q (scan-mem (replaces p) js e₀)))))
         where
           go : (q ≡ p) ⊎ InHalf q → Beside (from-to p q) (from-to p r)
           go (inl q-is) = absurd (h .0 q-is)

@@ -1,5 +1,6 @@
--- From the welded points back to the list: they are the same points, so the walk's outcome is the list's; a list without three different
--- points lies on one line. The number of corners allowed is a variable here, at least the list's length. Assumes nothing.
+-- From the welded points back to the list: they are the same points, so the walk's outcome is the list's; a list
+-- without three different points lies on one line. The number of corners allowed is a variable here, at least the
+-- list's length. Assumes nothing.
 use mathlib.Core.Path.{_≡_, refl, sym, ap, _∙_, subst}
 use mathlib.Core.List.{List, [], _∷_, List·Memᴰ, List·Memᴰ·cases-cons, List·Memᴰ·not-nil, Memᴰ·cast}
 use mathlib.Core.List as L
@@ -15,7 +16,8 @@ use Rattle.algebra.proofs.Plane.{orient-first-twice, orient-begin, orient-end}
 use Rattle.algebra.proofs.Lists.{pigeonhole}
 use Rattle.hull.specs.Hull.{ReducedPoint, AllReduced, Edge, Linked, IsHull, OnLine, ThreeDifferent}
 use Rattle.algebra.specs.Loops.{weld}
-use Rattle.hull.specs.Outline.{same-point, corners, refusal, closed, wrapped, outline-within, AcceptedWithin, TurnedDownWithin}
+use Rattle.hull.specs.Outline.{same-point, corners, refusal, closed, wrapped, outline-within, AcceptedWithin}
+use Rattle.hull.specs.Outline.{TurnedDownWithin}
 use Rattle.hull.proofs.Points.{same-point-eq, same-point-own, point-discrete}
 use Rattle.algebra.proofs.Weld.{weld-length, weld-within, weld-once, weld-all}
 use Rattle.hull.proofs.Wrap.{Wrapped, Folded, wrap-outcome}
@@ -42,7 +44,8 @@ module _ (s t : List Point) (to : (r : Point) → List·Memᴰ r s → List·Mem
   linked-of-more end [] p edge = λ r m. edge r (to r m)
   linked-of-more end (q ∷ row) p edges = (λ r m. edges .0 r (to r m), linked-of-more end row q (edges .1))
 
-  hull-of-same : ((r : Point) → List·Memᴰ r t → List·Memᴰ r s) → (p : Point) (rest : List Point) → IsHull t p rest → IsHull s p rest
+  hull-of-same : ((r : Point) → List·Memᴰ r t → List·Memᴰ r s) → (p : Point) (rest : List Point) → IsHull t p rest
+      → IsHull s p rest
   hull-of-same from p rest hull = record {
     within = λ q m. from q (hull .within q m);
     once = hull .once;
@@ -52,7 +55,8 @@ module _ (s t : List Point) (to : (r : Point) → List·Memᴰ r s → List·Mem
   }
 
 -- ---- three different points are three places
-members : (s : List Point) (a b c : Point) → List·Memᴰ a s → List·Memᴰ b s → List·Memᴰ c s → (r : Point) → List·Memᴰ r (a ∷ b ∷ c ∷ []) → List·Memᴰ r s
+members : (s : List Point) (a b c : Point) → List·Memᴰ a s → List·Memᴰ b s → List·Memᴰ c s → (r : Point)
+    → List·Memᴰ r (a ∷ b ∷ c ∷ []) → List·Memᴰ r s
 members s a b c a-in b-in c-in r m = is-a (List·Memᴰ·cases-cons m)
   where
     is-c : (r ≡ c) ⊎ List·Memᴰ r [] → List·Memᴰ r s
@@ -68,7 +72,8 @@ members s a b c a-in b-in c-in r m = is-a (List·Memᴰ·cases-cons m)
     is-a (inr k) = is-b (List·Memᴰ·cases-cons k)
 
 three-once : (a b c : Point) → ¬ (a ≡ b) → ¬ (a ≡ c) → ¬ (b ≡ c) → Once (a ∷ b ∷ c ∷ [])
-three-once a b c ab ac bc = (λ m. a-new (List·Memᴰ·cases-cons m), (λ m. b-new (List·Memᴰ·cases-cons m), (List·Memᴰ·not-nil, tt)))
+three-once a b c ab ac bc =
+    (λ m. a-new (List·Memᴰ·cases-cons m), (λ m. b-new (List·Memᴰ·cases-cons m), (List·Memᴰ·not-nil, tt)))
   where
     only : {r : Point} → ¬ (r ≡ c) → (r ≡ c) ⊎ List·Memᴰ r [] → ⊥
     only n (inl e) = n e
@@ -85,7 +90,8 @@ not-three : (s : List Point) → length s < 3 → ¬ ThreeDifferent s
 not-three s short h = omega (
   arith,
   pigeonhole (h .a ∷ h .b ∷ h .c ∷ []) s
-      (three-once (h .a) (h .b) (h .c) (h .a-not-b) (h .a-not-c) (h .b-not-c)) (members s (h .a) (h .b) (h .c) (h .a-in) (h .b-in) (h .c-in)),
+      (three-once (h .a) (h .b) (h .c) (h .a-not-b) (h .a-not-c) (h .b-not-c))
+      (members s (h .a) (h .b) (h .c) (h .a-in) (h .b-in) (h .c-in)),
 )
 
 -- ---- without three different points: on one line
@@ -116,20 +122,26 @@ closed-long p (q ∷ r ∷ rest) three = refl
 
 module _ (fuel : ℕ) (l : List Point) (reduced : AllReduced l) (enough : length l ≤ fuel) where
   abbrev Outcome : List Point → Type 0
-  Outcome kept = (OnLine l × (((¬ ThreeDifferent l) × (wrapped fuel kept ≡ refusal 3)) ⊎ (ThreeDifferent l × (wrapped fuel kept ≡ refusal 4))))
-      ⊎ ((¬ OnLine l) × ((p : Point) × (rest : List Point) × (wrapped fuel kept ≡ corners (p ∷ rest)) × IsHull l p rest))
+  Outcome kept =
+      (OnLine l × (((¬ ThreeDifferent l) × (wrapped fuel kept ≡ refusal 3)) ⊎
+      (ThreeDifferent l × (wrapped fuel kept ≡ refusal 4))))
+      ⊎ ((¬ OnLine l) × ((p : Point) × (rest : List Point) ×
+      (wrapped fuel kept ≡ corners (p ∷ rest)) × IsHull l p rest))
 
-  few : (kept : List Point) → ((r : Point) → List·Memᴰ r l → List·Memᴰ r kept) → length kept < 3 → wrapped fuel kept ≡ refusal 3 → Outcome kept
+  few : (kept : List Point) → ((r : Point) → List·Memᴰ r l → List·Memᴰ r kept) → length kept < 3
+      → wrapped fuel kept ≡ refusal 3 → Outcome kept
   few kept to short is =
       let none : ¬ ThreeDifferent l = λ h. not-three kept short (three-of-fewer l kept to h) in
       inl (line-of-not-three l none, inl (none, is))
 
-  of-kept : (kept : List Point) → ((r : Point) → List·Memᴰ r l → List·Memᴰ r kept) → ((r : Point) → List·Memᴰ r kept → List·Memᴰ r l) → Once kept
+  of-kept : (kept : List Point) → ((r : Point) → List·Memᴰ r l → List·Memᴰ r kept)
+      → ((r : Point) → List·Memᴰ r kept → List·Memᴰ r l) → Once kept
       → length kept ≤ fuel → Outcome kept
   of-kept [] to from once fits = few [] to (omega arith) refl
   of-kept (a ∷ []) to from once fits = few (a ∷ []) to (omega arith) refl
   of-kept (a ∷ b ∷ []) to from once fits = few (a ∷ b ∷ []) to (omega arith) refl
-  of-kept (a ∷ b ∷ c ∷ kept) to from once fits = go (wrap-outcome a b (c ∷ kept) (λ r m. reduced r (from r m)) once fuel fits)
+  of-kept (a ∷ b ∷ c ∷ kept) to from once fits =
+      go (wrap-outcome a b (c ∷ kept) (λ r m. reduced r (from r m)) once fuel fits)
     where
       three : ThreeDifferent l
       three = record {
@@ -144,7 +156,8 @@ module _ (fuel : ℕ) (l : List Point) (reduced : AllReduced l) (enough : length
         b-not-c = λ e. once .1 .0 (L.List·Memᴰ·head e);
       }
 
-      go : (OnLine (a ∷ b ∷ c ∷ kept) × Folded fuel a (b ∷ c ∷ kept)) ⊎ ((¬ OnLine (a ∷ b ∷ c ∷ kept)) × Wrapped fuel a (b ∷ c ∷ kept))
+      go : (OnLine (a ∷ b ∷ c ∷ kept) × Folded fuel a (b ∷ c ∷ kept)) ⊎
+          ((¬ OnLine (a ∷ b ∷ c ∷ kept)) × Wrapped fuel a (b ∷ c ∷ kept))
           → Outcome (a ∷ b ∷ c ∷ kept)
       go (inl h) = inl (line-of-more l (a ∷ b ∷ c ∷ kept) to (h .0), inr (three, ap closed (h .1 .is)))
       go (inr h) = inr (
@@ -164,7 +177,8 @@ module _ (fuel : ℕ) (l : List Point) (reduced : AllReduced l) (enough : length
       kept = weld same-point [] l
 
       to : (r : Point) → List·Memᴰ r l → List·Memᴰ r (weld same-point [] l)
-      to r m = weld-all same-point ReducedPoint same-point-eq l [] r (λ k n. absurd (List·Memᴰ·not-nil n)) reduced (inr m)
+      to r m =
+          weld-all same-point ReducedPoint same-point-eq l [] r (λ k n. absurd (List·Memᴰ·not-nil n)) reduced (inr m)
 
       from : (r : Point) → List·Memᴰ r (weld same-point [] l) → List·Memᴰ r l
       from r m = of (weld-within same-point l [] r m)
@@ -179,12 +193,14 @@ module _ (fuel : ℕ) (l : List Point) (reduced : AllReduced l) (enough : length
       fits : length (weld same-point [] l) ≤ fuel
       fits = omega (arith, weld-length same-point l [])
 
-      go : Outcome (weld same-point [] l) → (OnLine l × TurnedDownWithin fuel l) ⊎ ((¬ OnLine l) × AcceptedWithin fuel l)
+      go : Outcome (weld same-point [] l)
+          → (OnLine l × TurnedDownWithin fuel l) ⊎ ((¬ OnLine l) × AcceptedWithin fuel l)
       go (inl h) = inl h
       go (inr h) = inr (h .0, record { first = h .1 .0; rest = h .1 .1; is = h .1 .2; hull = h .1 .3 })
 
 -- ---- the answer alone tells
-pub no-row-turned-down : (fuel : ℕ) (l row : List Point) → TurnedDownWithin fuel l → outline-within fuel l ≡ corners row → ⊥
+pub no-row-turned-down : (fuel : ℕ) (l row : List Point) → TurnedDownWithin fuel l
+    → outline-within fuel l ≡ corners row → ⊥
 no-row-turned-down fuel l row (inl h) is = clash 3 (h .1)
   where
     clash : (n : ℕ) → outline-within fuel l ≡ refusal n → ⊥
@@ -194,9 +210,11 @@ no-row-turned-down fuel l row (inr h) is = clash 4 (h .1)
     clash : (n : ℕ) → outline-within fuel l ≡ refusal n → ⊥
     clash n refused = let z : _≡_ {A = ℕ} 0 1 = cc in omega arith
 
-pub row-is-hull : (fuel : ℕ) (l : List Point) (p : Point) (rest : List Point) → AcceptedWithin fuel l → outline-within fuel l ≡ corners (p ∷ rest)
+pub row-is-hull : (fuel : ℕ) (l : List Point) (p : Point) (rest : List Point) → AcceptedWithin fuel l
+    → outline-within fuel l ≡ corners (p ∷ rest)
     → IsHull l p rest
 row-is-hull fuel l p rest a is =
     let first-same : a .first ≡ p = cc in
     let rest-same : a .rest ≡ rest = cc in
-    subst (λ (q : Point). IsHull l q rest) first-same (subst (λ (row : List Point). IsHull l (a .first) row) rest-same (a .hull))
+    subst (λ (q : Point). IsHull l q rest) first-same (subst (λ (row : List Point). IsHull l (a .first) row) rest-same
+    (a .hull))

@@ -1,4 +1,5 @@
--- The walk by places gives the places of the points that `wrap` gives, on a list of reduced points, none twice. Assumes nothing.
+-- The walk by places gives the places of the points that `wrap` gives, on a list of reduced points, none twice.
+-- Assumes nothing.
 use mathlib.Core.Path.{_≡_, refl, sym, ap, _∙_, subst}
 use mathlib.Core.List.{List, _∷_, map}
 use mathlib.Core.Bool.{Bool, _||_}
@@ -32,7 +33,8 @@ module _ (e₀ : Point) (js : List Point) (reduced : AllReduced (e₀ ∷ js)) (
       (same-point-eq (point-at e₀ js i) (point-at e₀ js j) (reduced (point-at e₀ js i) (getD-mem (e₀ ∷ js) i e₀ i-in))
       (reduced (point-at e₀ js j) (getD-mem (e₀ ∷ js) j e₀ j-in)) t))
       (eqb-refl i))
-      (λ t. subst (λ (k : ℕ). T (same-point (point-at e₀ js i) (point-at e₀ js k))) (eqb→eq i j t) (same-point-own (point-at e₀ js i)))
+      (λ t. subst (λ (k : ℕ). T (same-point (point-at e₀ js i) (point-at e₀ js k))) (eqb→eq i j t)
+      (same-point-own (point-at e₀ js i)))
 
   rest-map : map (point-at e₀ js) (places 1 (length js)) ≡ js
   rest-map = places-map (point-at e₀ js) js e₀ 1 (λ j. ap (point-at e₀ js) (one-more j))
@@ -43,7 +45,8 @@ module _ (e₀ : Point) (js : List Point) (reduced : AllReduced (e₀ ∷ js)) (
   start-is : start e₀ js ≡ point-at e₀ js (start-place e₀ js)
   start-is =
       ap (scan starts-before e₀) (sym rest-map)
-      ∙ scan-map (point-at e₀ js) In (λ i j. starts-before (point-at e₀ js i) (point-at e₀ js j)) starts-before (λ i j i-in j-in. refl)
+      ∙ scan-map (point-at e₀ js) In (λ i j. starts-before (point-at e₀ js i) (point-at e₀ js j)) starts-before
+      (λ i j i-in j-in. refl)
       (places 1 (length js)) 0 (omega arith) (later-place (length js))
 
   next-is : (h : ℕ) → In h → next-corner e₀ js (point-at e₀ js h) ≡ point-at e₀ js (next-place e₀ js h)
@@ -58,7 +61,8 @@ module _ (e₀ : Point) (js : List Point) (reduced : AllReduced (e₀ ∷ js)) (
   wrap-by-places fuel =
       ap (λ (p : Point). walk same-point (next-corner e₀ js) p fuel p) start-is
       ∙ walk-map (point-at e₀ js) In eqb same-point same-place (next-place e₀ js) (next-corner e₀ js) next-is
-      (λ h h-in. scan-place (replaces-place e₀ js h) (length js)) (start-place e₀ js) start-in fuel (start-place e₀ js) start-in
+      (λ h h-in. scan-place (replaces-place e₀ js h) (length js)) (start-place e₀ js) start-in fuel
+      (start-place e₀ js) start-in
     where
       start-in : In (start-place e₀ js)
       start-in = scan-place (λ i j. starts-before (point-at e₀ js i) (point-at e₀ js j)) (length js)

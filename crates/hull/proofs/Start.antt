@@ -9,7 +9,8 @@ use lib.Dec.{T, T-not}
 use mir.Facts.{or-yes, or-no, and-yes, yes-and}
 use Rattle.algebra.specs.Integer.{_≐_, _≼_, _≺_, _≐?_, _≺?_}
 use Rattle.algebra.specs.Plane.{Point}
-use Rattle.algebra.proofs.Integer.{same-sym, le-antisym, order-cases, same-of-test, test-of-same, lt-of-test, test-of-lt}
+use Rattle.algebra.proofs.Integer.{same-sym, le-antisym, order-cases, same-of-test, test-of-same, lt-of-test}
+use Rattle.algebra.proofs.Integer.{test-of-lt}
 use Rattle.hull.specs.Hull.{ReducedPoint, AllReduced, First}
 use Rattle.hull.specs.Outline.{starts-before, start}
 use Rattle.hull.proofs.Points.{value-eq}
@@ -37,14 +38,18 @@ module _ (e j : Point) where
 
   kept-of-test : ReducedPoint e → ReducedPoint j → T (not (starts-before e j)) → (j ≡ e) ⊎ After e j
   kept-of-test e-reduced j-reduced t =
-      by-x (or-no (e .x ≺? j .x) ((j .x ≐? e .x) && (j .y ≺? e .y)) t) (order-cases (j .x) (e .x)) (order-cases (e .x) (j .x))
+      by-x (or-no (e .x ≺? j .x) ((j .x ≐? e .x) && (j .y ≺? e .y)) t) (order-cases (j .x) (e .x))
+      (order-cases (e .x) (j .x))
     where
-      by-y : j .x ≐ e .x → ¬ (j .y ≺ e .y) → (e .y ≼ j .y) ⊎ (j .y ≺ e .y) → (j .y ≼ e .y) ⊎ (e .y ≺ j .y) → (j ≡ e) ⊎ After e j
+      by-y : j .x ≐ e .x → ¬ (j .y ≺ e .y) → (e .y ≼ j .y) ⊎ (j .y ≺ e .y) → (j .y ≼ e .y) ⊎ (e .y ≺ j .y)
+          → (j ≡ e) ⊎ After e j
       by-y same-x not-below (inr below) k = absurd (not-below below)
       by-y same-x not-below (inl h) (inr above) = inr (inr (same-x, above))
-      by-y same-x not-below (inl h) (inl k) = inl (value-eq j e j-reduced e-reduced same-x (le-antisym (j .y) (e .y) k h))
+      by-y same-x not-below (inl h) (inl k) =
+          inl (value-eq j e j-reduced e-reduced same-x (le-antisym (j .y) (e .y) k h))
 
-      by-x : T (not (e .x ≺? j .x)) × T (not ((j .x ≐? e .x) && (j .y ≺? e .y))) → (j .x ≼ e .x) ⊎ (e .x ≺ j .x) → (e .x ≼ j .x) ⊎ (j .x ≺ e .x)
+      by-x : T (not (e .x ≺? j .x)) × T (not ((j .x ≐? e .x) && (j .y ≺? e .y))) → (j .x ≼ e .x) ⊎ (e .x ≺ j .x)
+          → (e .x ≼ j .x) ⊎ (j .x ≺ e .x)
           → (j ≡ e) ⊎ After e j
       by-x fails (inr above) k = absurd (T-not (e .x ≺? j .x) (fails .0) (test-of-lt (e .x) (j .x) above))
       by-x fails (inl h) (inr below) = inr (inl below)
@@ -63,9 +68,11 @@ module _ (e₀ : Point) (js : List Point) (reduced : AllReduced (e₀ ∷ js)) w
   start-first r r-in =
       scan-best starts-before ReducedPoint (λ e a. (a ≡ e) ⊎ After e a) (λ a. inl refl)
       (λ e j e-reduced j-reduced t. kept-of-test e j e-reduced j-reduced t) replaced
-      js e₀ r (reduced e₀ (L.List·Memᴰ·head refl)) (λ j m. reduced j (L.List·Memᴰ·tail m)) (reduced r r-in) (go (List·Memᴰ·cases-cons r-in))
+      js e₀ r (reduced e₀ (L.List·Memᴰ·head refl)) (λ j m. reduced j (L.List·Memᴰ·tail m)) (reduced r r-in)
+      (go (List·Memᴰ·cases-cons r-in))
     where
-      replaced : (e j a : Point) → ReducedPoint e → ReducedPoint j → ReducedPoint a → T (starts-before e j) → (a ≡ e) ⊎ After e a → (a ≡ j) ⊎ After j a
+      replaced : (e j a : Point) → ReducedPoint e → ReducedPoint j → ReducedPoint a → T (starts-before e j)
+          → (a ≡ e) ⊎ After e a → (a ≡ j) ⊎ After j a
       replaced e j a e-reduced j-reduced a-reduced t (inl h) = inr (subst (After j) (sym h) (after-of-test e j t))
       replaced e j a e-reduced j-reduced a-reduced t (inr h) = inr (after-trans j e a (after-of-test e j t) h)
 

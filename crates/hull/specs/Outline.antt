@@ -19,7 +19,8 @@ same-point p q = (p .x ≐? q .x) && (p .y ≐? q .y)
 abbrev pub starts-before : Point → Point → Bool
 starts-before e j = (e .x ≺? j .x) || ((j .x ≐? e .x) && (j .y ≺? e .y))
 
--- the corner after p: j replaces e where the cross product is below 0, or equals 0 and j is farther; and unseen where e is p itself
+-- the corner after p: j replaces e where the cross product is below 0, or equals 0 and j is farther; and always where e
+-- is p itself
 abbrev pub farther : Point → Point → Point → Bool
 farther p e j = dot (from-to p e) (from-to p e) ≺? dot (from-to p j) (from-to p j)
 

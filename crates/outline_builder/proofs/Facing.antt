@@ -1,5 +1,5 @@
--- The normals on their way: those done stand over the old ones, the edges to come complete the row, and decide whether all are long
--- enough. Assumes nothing.
+-- The normals on their way: those done stand over the old ones, the edges to come complete the row, and decide
+-- whether all are long enough. Assumes nothing.
 use mathlib.Core.Path.{_≡_, refl, sym, _∙_, ap, subst}
 use mathlib.Core.Bool.{Bool, true, false, _&&_}
 use mathlib.Core.List.{List, [], _∷_, _++_, map, map-append, append-assoc, append-nil}
@@ -38,17 +38,20 @@ module _ (l old ns : List B2vec2) (i : ℕ) (e : B2vec2) (f : Facing l old i ns)
       → t && long-enough (edges-rest (point-at l 0) (drop (i + 1) l)) ≡ long-enough (edges l)
   unfolding long-enough
   long-here t t-is =
-      ap (λ (u : Bool). u && long-enough (edges-rest (point-at l 0) (drop (i + 1) l))) (sym t-is) ∙ sym (ap long-enough edges-here)
+      ap (λ (u : Bool). u && long-enough (edges-rest (point-at l 0) (drop (i + 1) l))) (sym t-is)
+      ∙ sym (ap long-enough edges-here)
       ∙ f .long
 
   -- the edge is long enough
-  pub facing-next : (n : B2vec2) → length l ≤ length old → n ≡ normal-of-edge e → lt epsilon-squared (b2-length-squared e) ≡ true
+  pub facing-next : (n : B2vec2) → length l ≤ length old → n ≡ normal-of-edge e
+      → lt epsilon-squared (b2-length-squared e) ≡ true
       → Facing l old (i + 1) (set ns i n)
   facing-next n fits n-is is-long = record {
     done = f .done ++ (e ∷ []);
     done-length = length-one-more (f .done) e i (f .done-length);
     filled =
-        over-store ns (map normal-of-edge (f .done)) old n i (f .filled) (length-map (f .done) normal-of-edge ∙ f .done-length) (omega arith)
+        over-store ns (map normal-of-edge (f .done)) old n i (f .filled) (length-map (f .done) normal-of-edge
+        ∙ f .done-length) (omega arith)
         ∙ ap (λ (x : B2vec2). put-first (map normal-of-edge (f .done) ++ (x ∷ [])) old) n-is
         ∙ ap (λ (new : List B2vec2). put-first new old) (sym (map-append normal-of-edge (f .done) (e ∷ [])));
     rest =
@@ -60,7 +63,8 @@ module _ (l old ns : List B2vec2) (i : ℕ) (e : B2vec2) (f : Facing l old i ns)
   -- it is too short
   pub facing-short : (new : List B2vec2) → lt epsilon-squared (b2-length-squared e) ≡ false
       → NormalsResult (edges l) old (long-enough (edges l)) false new
-  facing-short new is-short = subst (λ (t : Bool). NormalsResult (edges l) old t false new) (long-here false is-short) refl
+  facing-short new is-short =
+      subst (λ (t : Bool). NormalsResult (edges l) old t false new) (long-here false is-short) refl
 
 pub facing-ended : (l old ns : List B2vec2) (i : ℕ) → Facing l old i ns → i ≡ length l
     → NormalsResult (edges l) old (long-enough (edges l)) true ns

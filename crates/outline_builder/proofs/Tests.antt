@@ -21,7 +21,8 @@ module _ (r v : B2vec2) (k : Float) (k-is : k ≡ b2-cross r v) where
   turns-below below = simp (ap (λ x. lt x zero32) (sym k-is) ∙ below)
 
   -- it is 0: the squared lengths a and b decide
-  pub turns-level : (a b : Float) → lt k zero32 ≡ false → eq k zero32 ≡ true → a ≡ b2-length-squared r → b ≡ b2-length-squared v
+  pub turns-level : (a b : Float) → lt k zero32 ≡ false → eq k zero32 ≡ true → a ≡ b2-length-squared r
+      → b ≡ b2-length-squared v
       → lt a b ≡ turns-closer r v
   turns-level a b not-below level a-is b-is =
       simp (ap (λ x. lt x zero32) (sym k-is) ∙ not-below, ap (λ x. eq x zero32) (sym k-is) ∙ level, a-is, b-is)
@@ -37,7 +38,8 @@ at-first-place l n i within = getD-take n l i origin within
 
 -- the test that replaces the candidate, from the vectors that the code has: r to the candidate, v to the other point
 pub replaces-by : (l : List B2vec2) (ih ie j : ℕ) (corner r v : B2vec2) (z : Bool) → corner ≡ point-at l ih
-    → r ≡ b2-sub (point-at l ie) corner → v ≡ b2-sub (point-at l j) corner → z ≡ (eqb ie ih || turns-closer r v) → z ≡ replaces l ih ie j
+    → r ≡ b2-sub (point-at l ie) corner → v ≡ b2-sub (point-at l j) corner → z ≡ (eqb ie ih || turns-closer r v)
+    → z ≡ replaces l ih ie j
 unfolding closer
 replaces-by l ih ie j corner r v z corner-is r-is v-is z-is =
     z-is ∙ ap₂ (λ (a b : B2vec2). eqb ie ih || turns-closer a b)
@@ -54,10 +56,12 @@ replaces-first l n corner candidate j corner-in candidate-in j-in =
 
 -- the new candidate r of a scan of the places below n
 module _ (t : Bool) (r candidate j n : ℕ) (r-is : r ≡ cond t j candidate) (within : j < n) where
-  pub scanned-next : (test : ℕ → ℕ → Bool) (answer : ℕ) → test candidate j ≡ t → scan test candidate (places j (n - j)) ≡ answer
+  pub scanned-next : (test : ℕ → ℕ → Bool) (answer : ℕ) → test candidate j ≡ t
+      → scan test candidate (places j (n - j)) ≡ answer
       → scan test r (places (j + 1) (n - (j + 1))) ≡ answer
   scanned-next test answer test-is so-far =
-      ap (λ (k : ℕ). scan test k (places (j + 1) (n - (j + 1)))) (r-is ∙ ap (λ (u : Bool). cond u j candidate) (sym test-is))
+      ap (λ (k : ℕ). scan test k (places (j + 1) (n - (j + 1))))
+      (r-is ∙ ap (λ (u : Bool). cond u j candidate) (sym test-is))
       ∙ scan-next test candidate j n answer within so-far
 
 pub scanned-from-one : (test : ℕ → ℕ → Bool) (l : List B2vec2) (n : ℕ) → n ≤ length l

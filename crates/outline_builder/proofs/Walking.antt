@@ -1,5 +1,5 @@
--- The walk of the outline builder on its way: the corners done stand over the old points, and those to come complete the row. Assumes
--- nothing.
+-- The walk of the outline builder on its way: the corners done stand over the old points, and those to come complete
+-- the row. Assumes nothing.
 use mathlib.Core.Path.{_≡_, refl, sym, _∙_, ap, subst}
 use mathlib.Core.List.{List, [], _∷_, _++_, map, map-append}
 use mathlib.Core.Option.{Option, some, Option·map}
@@ -33,7 +33,8 @@ walking-starts ps old i0 i0-is = record {
   rest = walk-starts (walk eqb (next ps) (start ps) 8 i0) ∙ ap (walk eqb (next ps) (start ps) 8) i0-is;
 }
 
-module _ (ps old corners : List B2vec2) (m ih : ℕ) (p : B2vec2) (w : Walking ps old m ih corners) (room : m < 8) (eight : length old ≡ 8)
+module _ (ps old corners : List B2vec2) (m ih : ℕ) (p : B2vec2) (w : Walking ps old m ih corners) (room : m < 8)
+    (eight : length old ≡ 8)
     (p-is : p ≡ point-at ps ih) where
   done-here : List ℕ
   done-here = w .done ++ (ih ∷ [])
@@ -53,14 +54,16 @@ module _ (ps old corners : List B2vec2) (m ih : ℕ) (p : B2vec2) (w : Walking p
       fuel = omega arith
 
   -- the next corner is another one
-  pub walking-next : (after : ℕ) → after ≡ next ps ih → (after ≡ start ps → ⊥) → Walking ps old (m + 1) after (set corners m p)
+  pub walking-next : (after : ℕ) → after ≡ next ps ih → (after ≡ start ps → ⊥)
+      → Walking ps old (m + 1) after (set corners m p)
   unfolding done-here
   walking-next after after-is other = record {
     done = w .done ++ (ih ∷ []);
     done-length = length-one-more (w .done) ih m (w .done-length);
     filled = filled-here;
     rest =
-        ap (λ (k : ℕ). Option·map (_++_ (w .done ++ (ih ∷ []))) (walk eqb (next ps) (start ps) (8 - (m + 1)) k)) after-is
+        ap (λ (k : ℕ). Option·map (_++_ (w .done ++ (ih ∷ [])))
+        (walk eqb (next ps) (start ps) (8 - (m + 1)) k)) after-is
         ∙ walk-next eqb (next ps) (start ps) ih (8 - (m + 1)) (w .done) (row ps) rest-here
         (ne-eqb (next ps ih) (start ps) (λ e. other (after-is ∙ e)));
   }
@@ -74,10 +77,13 @@ module _ (ps old corners : List B2vec2) (m ih : ℕ) (p : B2vec2) (w : Walking p
       (count-is ∙ sym (length-one-more (w .done) ih m (w .done-length)), new-is ∙ filled-here)
     where
       row-is : some (w .done ++ (ih ∷ [])) ≡ row ps
-      row-is = walk-back eqb (next ps) (start ps) ih (8 - (m + 1)) (w .done) (row ps) rest-here (eq-eqb (next ps ih) (start ps) back)
+      row-is =
+          walk-back eqb (next ps) (start ps) ih (8 - (m + 1)) (w .done) (row ps) rest-here
+          (eq-eqb (next ps ih) (start ps) back)
 
 -- not back after eight
-pub walking-lost : (ps old corners new : List B2vec2) (m ih : ℕ) → Walking ps old m ih corners → 8 ≤ m → WalkResult ps old (row ps) 0 new
+pub walking-lost : (ps old corners new : List B2vec2) (m ih : ℕ) → Walking ps old m ih corners → 8 ≤ m
+    → WalkResult ps old (row ps) 0 new
 walking-lost ps old corners new m ih w ended =
     subst (λ (o : Option (List ℕ)). WalkResult ps old o 0 new)
     (ap (λ (k : ℕ). Option·map (_++_ (w .done)) (walk eqb (next ps) (start ps) k ih)) none-left ∙ w .rest) refl

@@ -1,5 +1,5 @@
--- F3 against whole metres: an exact result of at most h m in size, for a whole h ≤ 2^24, gives a finite result of at most h m.
--- One law for every rounding, then sums, products and quotients. Assumes nothing.
+-- F3 against whole metres: an exact result of at most h m in size, for a whole h ≤ 2^24, gives a finite result of at
+-- most h m. One law for every rounding, then sums, products and quotients. Assumes nothing.
 use mathlib.Core.Path.{sym, ap, subst}
 use Prim.Native.Nat.{ℕ, _*_, _^_, _≤_, _<_}
 use native.Mathlib.Nat.{le-trans, le-of-eq, lt-of-le-of-lt, mul-one}

@@ -31,7 +31,8 @@ mul-commutes (fin s m e) (fin t n d) =
     rw (unlike-comm s t, mul-comm (m * up e) (n * up d), mul-comm (down e) (down d)) refl
 
 -- ---- sums commute
-opposites-commute : (a b c : ℕ) → (a < b) ⊎ (b ≤ a) → (b < a) ⊎ (a ≤ b) → sum binary32 true a false b c ≡ sum binary32 false b true a c
+opposites-commute : (a b c : ℕ) → (a < b) ⊎ (b ≤ a) → (b < a) ⊎ (a ≤ b)
+    → sum binary32 true a false b c ≡ sum binary32 false b true a c
 unfolding sum
 opposites-commute a b c (inl less) other = simp (lt-ltb a b less, le-ltb b a (omega arith))
 opposites-commute a b c (inr not-less) (inl more) = simp (le-ltb a b not-less, lt-ltb b a more)

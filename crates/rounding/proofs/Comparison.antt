@@ -1,9 +1,10 @@
--- The comparisons of finite numbers are those of their values, in both directions: `<`, `<=`, `==`, a `<` that fails; and `<` and `==`
--- as the computed tests of those values. Assumes nothing.
+-- The comparisons of finite numbers are those of their values, in both directions: `<`, `<=`, `==`, a `<` that fails;
+-- and `<` and `==` as the computed tests of those values. Assumes nothing.
 use mathlib.Core.Path.{_≡_, refl, sym, ap, _∙_, subst}
 use mathlib.Core.Logic.{inl, inr}
 use Prim.Native.Nat.{ℕ, _+_, _*_, _<_}
-use native.Mathlib.Nat.{le-of-eq, eq-or-lt-of-le, lt-of-le-of-lt, lt-of-lt-of-le, mul-pos, zero-mul, mul-lt-mul-of-pos-right}
+use native.Mathlib.Nat.{le-of-eq, eq-or-lt-of-le, lt-of-le-of-lt, lt-of-lt-of-le, mul-pos, zero-mul}
+use native.Mathlib.Nat.{mul-lt-mul-of-pos-right}
 use native.Mathlib.Nat.{lt-of-mul-lt-mul-right, eq-of-mul-eq-mul-right}
 use native.Mathlib.Omega.{arith}
 use mathlib.Core.Bool.{Bool, true, false, not, _||_, Bool·beq}
@@ -87,7 +88,8 @@ signed-below true true m n h = lt→ltb n m (omega arith)
 
 level-signed : (s t : Bool) (m n : ℕ) → T (level s m t n) → signed s m ≐ signed t n
 level-signed s t m n h =
-    by-signs s t (eqb→eq m n (and-l (eqb m n) (Bool·beq s t || eqb m 0) h)) (and-r (eqb m n) (Bool·beq s t || eqb m 0) h)
+    by-signs s t (eqb→eq m n (and-l (eqb m n) (Bool·beq s t || eqb m 0) h))
+    (and-r (eqb m n) (Bool·beq s t || eqb m 0) h)
   where
     by-signs : (s t : Bool) → m ≡ n → T (Bool·beq s t || eqb m 0) → signed s m ≐ signed t n
     by-signs true true e h = omega arith

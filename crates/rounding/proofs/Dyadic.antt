@@ -1,5 +1,6 @@
--- Whole multiples of 2^-t m, t ≤ 149. Every c / 2^t m with |c| ≤ 2^24 is the value of a number of the format, so sums, differences and
--- products of such numbers that stay within that bound are exact; and they compare as their whole numbers do. Assumes nothing.
+-- Whole multiples of 2^-t m, t ≤ 149. Every c / 2^t m with |c| ≤ 2^24 is the value of a number of the format, so
+-- sums, differences and products of such numbers that stay within that bound are exact; and they compare as their
+-- whole numbers do. Assumes nothing.
 use mathlib.Core.Path.{_≡_, refl, sym, ap, _∙_, subst}
 use mathlib.Core.Logic.{inl, inr}
 use Prim.Native.Nat.{ℕ, _+_, _-_, _*_, _^_, _≤_, _<_}
@@ -40,7 +41,8 @@ rounded-dyadic q t q-low t-low =
           rounded-exact q (2 ^ t) 1 (24 + j) (pow-pos t) (lit< tt)
           (ap (λ (n : ℕ). q * n) split ∙ sym (mul-assoc q (2 ^ j) (2 ^ t)) ∙ ap (λ (n : ℕ). n * 2 ^ t) same) ∙ sym same
       | inr below ↦
-          rounded-exact q (2 ^ t) q j (pow-pos t) below (ap (λ (n : ℕ). q * n) split ∙ sym (mul-assoc q (2 ^ j) (2 ^ t)))
+          rounded-exact q (2 ^ t) q j (pow-pos t) below (ap (λ (n : ℕ). q * n) split
+          ∙ sym (mul-assoc q (2 ^ j) (2 ^ t)))
     ]
 
 pub dyadic-finite : (q t : ℕ) → q ≤ 2 ^ 24 → q * 2 ^ (149 - t) < overflow binary32
@@ -65,7 +67,8 @@ dyadic-float c t t-low c-abs =
     let rounds : Rounds x c (2 ^ t) =
     record { negative = s; size = q; den-pos = pow-pos t; is = refl; exact = size .is } in
     let is-rounded = rounded-dyadic q t q-low t-le in
-    let own : F32 x = rounds-f32 rounds (subst (λ (n : ℕ). n < overflow binary32) (sym is-rounded) (dyadic-finite q t q-low)) in
+    let own : F32 x = rounds-f32 rounds
+    (subst (λ (n : ℕ). n < overflow binary32) (sym is-rounded) (dyadic-finite q t q-low)) in
     let x-val : val x ≡ signed s (q * 2 ^ (149 - t)) = rounds-val rounds own ∙ ap (λ (n : ℕ). signed s n) is-rounded in
     record {
       number = x;
@@ -110,7 +113,8 @@ sum-dyadic {z} t v d t-low bound v-is exact =
 pub exact-add : {x y : Float} {c e : Z} (t : ℕ) → T (leb t 149) → Dyadic x c t → Dyadic y e t → Abs (c ⊞ e) (2 ^ 24)
     → Dyadic (add binary32 x y) (c ⊞ e) t
 exact-add {x} {y} {c} {e} t t-low x-is y-is bound =
-    sum-dyadic t (val x ⊞ val y) (c ⊞ e) t-low bound (scaled-sum (2 ^ t) metre (val x) (val y) c e (x-is .is) (y-is .is))
+    sum-dyadic t (val x ⊞ val y) (c ⊞ e) t-low bound
+    (scaled-sum (2 ^ t) metre (val x) (val y) c e (x-is .is) (y-is .is))
     (λ r r-f32 h. add-exact (x-is .own) (y-is .own) r-f32 h)
 
 pub exact-sub : {x y : Float} {c e : Z} (t : ℕ) → T (leb t 149) → Dyadic x c t → Dyadic y e t → Abs (c ⊟ e) (2 ^ 24)

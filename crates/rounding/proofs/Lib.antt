@@ -1,6 +1,5 @@
 pub mod Value
 pub mod Digits
-pub mod Compared
 pub mod Rounding
 pub mod Error
 pub mod Operations

@@ -1,5 +1,5 @@
--- The numbers of literal bit patterns: in the format and finite where the exponent's field is below 255, with their values in units
--- by computation, and m / 2^t m where the units say so; 0, 1/2 and 1. Assumes nothing.
+-- The numbers of literal bit patterns: in the format and finite where the exponent's field is below 255, with their
+-- values in units by computation, and m / 2^t m where the units say so; 0, 1/2 and 1. Assumes nothing.
 use mathlib.Core.Path.{_≡_, refl, sym, ap, _∙_, subst}
 use Prim.Native.Nat.{ℕ, zero, suc, _+_, _*_, _/_, _%_, _^_, _<_}
 use native.Mathlib.Nat.{lt-irrefl, mul-one}
@@ -31,11 +31,13 @@ bits-units b = field-units (bits-field b) (b % 2 ^ 23)
 
 fields-value : (s : Bool) (x t : ℕ) → x < 255 → HasValue (ofFields binary32 s x t) s (field-units x t) (2 ^ 149)
 unfolding ofFields
-fields-value s zero t h = subst (λ (n : ℕ). HasValue (odd 24 s t 0 149) s n (2 ^ 149)) (mul-one t) (odd-sign 24 s t 0 149)
+fields-value s zero t h =
+    subst (λ (n : ℕ). HasValue (odd 24 s t 0 149) s n (2 ^ 149)) (mul-one t) (odd-sign 24 s t 0 149)
 fields-value s (suc x) t h = by-test (eqb (suc x) 255) (eqb→eq (suc x) 255)
   where
     by-test : (b : Bool) → (T b → suc x ≡ 255)
-        → HasValue (cond b (cond (eqb t 0) (inf s) nan) (odd 24 s (2 ^ 23 + t) x 149)) s ((2 ^ 23 + t) * 2 ^ x) (2 ^ 149)
+        → HasValue (cond b (cond (eqb t 0) (inf s) nan) (odd 24 s (2 ^ 23 + t) x 149)) s ((2 ^ 23 + t) * 2 ^ x)
+        (2 ^ 149)
     by-test true top = absurd (lt-irrefl 255 (subst (λ (n : ℕ). n < 255) (top tt) h))
     by-test false top = odd-sign 24 s (2 ^ 23 + t) x 149
 

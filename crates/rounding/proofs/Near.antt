@@ -1,5 +1,6 @@
--- F2, the absolute rounding law: an exact result of at most 2^k m gives a finite result that is at most 2^k ticks away, subnormal
--- results included. One law for every rounding, then sum, difference, product and quotient; and the sizes of results. Assumes nothing.
+-- F2, the absolute rounding law: an exact result of at most 2^k m gives a finite result that is at most 2^k ticks
+-- away, subnormal results included. One law for every rounding, then sum, difference, product and quotient; and the
+-- sizes of results. Assumes nothing.
 use Prim.Native.Nat.{ℕ, _+_, _*_, _^_, _≤_, _<_}
 use native.Mathlib.Nat.{le-trans, mul-assoc}
 use native.Mathlib.Omega.{arith}
@@ -97,6 +98,7 @@ div-near k {x} {y} k-low x-f32 y-f32 y-pos x-low =
 pub near-size : {z : Float} {v : Z} {e : ℕ} (n : ℕ) → Near z v e → Abs v n → Abs (val z) (n + e)
 near-size n z-near v-abs = let h = z-near .err in omega arith
 
-pub near-product-size : {z : Float} {v : Z} {e : ℕ} (n : ℕ) → NearProduct z v e → Abs v (n * metre) → Abs (val z) (n + e)
+pub near-product-size : {z : Float} {v : Z} {e : ℕ} (n : ℕ) → NearProduct z v e → Abs v (n * metre)
+    → Abs (val z) (n + e)
 near-product-size {z} {v} {e} n z-near v-abs =
     abs-unscale metre (n + e) (val z) metre-pos (let h = z-near .err in omega arith)

@@ -1,5 +1,5 @@
--- A zero of either sign or NaN, `Null`: a number less itself is one, so are products with one and differences of two, whatever the
--- other numbers, and none is below 0. Assumes nothing.
+-- A zero of either sign or NaN, `Null`: a number less itself is one, so are products with one and differences of two,
+-- whatever the other numbers, and none is below 0. Assumes nothing.
 use mathlib.Core.Path.{_≡_, refl, sym, ap, _∙_, subst}
 use mathlib.Core.Bool.{Bool, true, false, not}
 use Prim.Native.Nat.{ℕ, zero, _*_, _<_}
@@ -26,7 +26,8 @@ null-not-below (null-zero false e) = simp zero-mul
 round-null : (s : Bool) (w c : ℕ) → w ≡ 0 → 0 < c → Null (round binary32 s w c)
 unfolding round
 round-null s w c w-zero c-pos =
-    let one : round binary32 s 0 c ≡ fin s zero (pos zero) = round-same binary32 s 0 c 0 1 c-pos (omega arith) (omega arith) in
+    let one : round binary32 s 0 c ≡ fin s zero (pos zero) = round-same binary32 s 0 c 0 1 c-pos (omega arith)
+    (omega arith) in
     subst Null (sym (ap (λ (n : ℕ). round binary32 s n c) w-zero ∙ one)) (null-zero s (pos zero))
 
 -- ---- a number less itself
@@ -50,7 +51,8 @@ mul-null (inf s) null-nan = null-nan
 mul-null (inf s) (null-zero t d) = null-nan
 mul-null (fin s m e) null-nan = null-nan
 mul-null (fin s m e) (null-zero t d) =
-    round-null (unlike s t) (m * up e * (0 * up d)) (down e * down d) (rw zero-mul (mul-zero (m * up e))) (mul-pos (down-pos e) (down-pos d))
+    round-null (unlike s t) (m * up e * (0 * up d)) (down e * down d) (rw zero-mul (mul-zero (m * up e)))
+    (mul-pos (down-pos e) (down-pos d))
 
 sum-null : (s t : Bool) (c : ℕ) → 0 < c → Null (sum binary32 s 0 t 0 c)
 unfolding sum

@@ -1,5 +1,6 @@
--- Each operation rounds once. `Rounds z num den` says that z is the fraction num / den of a metre, rounded: sum and difference are
--- over a metre, a product over its square, a quotient over the divisor's size. Every result is in the format. Assumes nothing.
+-- Each operation rounds once. `Rounds z num den` says that z is the fraction num / den of a metre, rounded: sum and
+-- difference are over a metre, a product over its square, a quotient over the divisor's size. Every result is in the
+-- format. Assumes nothing.
 use mathlib.Core.Path.{_≡_, refl, sym, ap, _∙_, subst}
 use Prim.Native.Nat.{ℕ, zero, suc, _+_, _-_, _*_, _≤_, _<_}
 use native.Mathlib.Nat.{le-trans, le-of-eq, le-of-lt, lt-irrefl, zero-lt-suc, mul-assoc, mul-comm, mul-right-comm}
@@ -36,7 +37,8 @@ module _ (a b c m n : ℕ) (a-is : a * metre ≡ m * c) (b-is : b * metre ≡ n 
 
   units-difference : (b - a) * metre ≡ (n - m) * c
   units-difference =
-      mul-comm (b - a) metre ∙ mul-sub metre b a ∙ ap (λ (x : ℕ). x - metre * a) (mul-comm metre b ∙ b-is ∙ mul-comm n c)
+      mul-comm (b - a) metre ∙ mul-sub metre b a
+      ∙ ap (λ (x : ℕ). x - metre * a) (mul-comm metre b ∙ b-is ∙ mul-comm n c)
       ∙ ap (λ (x : ℕ). c * n - x) (mul-comm metre a ∙ a-is ∙ mul-comm m c) ∙ sym (mul-sub c n m) ∙ mul-comm c (n - m)
 
 over-metre : (s : Bool) (w c size : ℕ) {num : Z} → 0 < c → w * metre ≡ size * c → signed s size ≐ num
@@ -115,7 +117,8 @@ signed-product false false m n = omega arith
 pub product-size : (x y : Float) (n : ℕ) → Abs (val x ⊠ val y) n → mag x * mag y ≤ n
 product-size x y n h =
     let s = signed (unlike (sign x) (sign y)) (mag x * mag y) in
-    signed-abs (unlike (sign x) (sign y)) (mag x * mag y) n (abs-same (val x ⊠ val y) s n (same-sym s (val x ⊠ val y) product-is) h)
+    signed-abs (unlike (sign x) (sign y)) (mag x * mag y) n
+    (abs-same (val x ⊠ val y) s n (same-sym s (val x ⊠ val y) product-is) h)
   where
     product-is : signed (unlike (sign x) (sign y)) (mag x * mag y) ≐ val x ⊠ val y
     product-is = rw (val-signed x, val-signed y) (signed-product (sign x) (sign y) (mag x) (mag y))
@@ -132,7 +135,8 @@ mul-rounds x-f32 y-f32 = of-fins (f32-as-fin x-f32) (f32-as-fin y-f32)
       negative = unlike s t;
       size = mag (fin s m e) * mag (fin t n d);
       den-pos = mul-pos metre-pos metre-pos;
-      is = round-same binary32 (unlike s t) (m * up e * (n * up d)) (down e * down d) (mag (fin s m e) * mag (fin t n d))
+      is =
+          round-same binary32 (unlike s t) (m * up e * (n * up d)) (down e * down d) (mag (fin s m e) * mag (fin t n d))
           (metre * metre)
           (mul-pos (down-pos e) (down-pos d)) (mul-pos metre-pos metre-pos)
           (square (m * up e) (n * up d) (down e) (down d) (mag (fin s m e)) (mag (fin t n d)) x-is y-is);
@@ -179,7 +183,8 @@ pub div-rounds : {x y : Float} → F32 x → F32 y → 0 < mag y → Rounds (div
 unfolding div val
 div-rounds x-f32 y-f32 y-pos = of-fins (f32-as-fin x-f32) (f32-as-fin y-f32) y-pos
   where
-    of-fins : {x y : Float} → AsFin x → AsFin y → 0 < mag y → Rounds (div binary32 x y) (turned (sign y) (val x)) (mag y)
+    of-fins : {x y : Float} → AsFin x → AsFin y → 0 < mag y
+        → Rounds (div binary32 x y) (turned (sign y) (val x)) (mag y)
     of-fins (as-fin s m e x-is) (as-fin t n d y-is) y-pos =
         let n-pos : 0 < n = digits-pos n d (mag (fin t n d)) y-is y-pos in
         record {

@@ -21,7 +21,7 @@ use lib.Ieee.Order.{drop, kept}
 use lib.Ieee.Scale.{overflow, finite}
 use Rattle.rounding.specs.Value.{metre, F32}
 use Rattle.rounding.proofs.Value.{metre-is, f32-of-value}
-use Rattle.rounding.proofs.Compared.{Compared, compared}
+use Rattle.algebra.proofs.Compared.{Compared, compared}
 
 -- ---- the nearest whole number to a / b
 -- c b is within b / 2 of a

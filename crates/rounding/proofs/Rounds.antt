@@ -1,5 +1,6 @@
--- What is known of every result that rounds once: its value is the rounded size with the exact result's sign, and an error of that
--- size is an error of the value; then the same for sums, products and quotients, freed of the common factor. Assumes nothing.
+-- What is known of every result that rounds once: its value is the rounded size with the exact result's sign, and an
+-- error of that size is an error of the value; then the same for sums, products and quotients, freed of the common
+-- factor. Assumes nothing.
 use mathlib.Core.Path.{_≡_, sym, ap, _∙_, subst}
 use Prim.Native.Nat.{ℕ, _+_, _*_, _≤_, _<_}
 use native.Mathlib.Nat.{le-of-mul-le-mul-right}

@@ -1,5 +1,6 @@
--- Signs: a result has the sign of the exact one, and one that is not 0 comes from an exact result that is not 0. So an exact result
--- that is not negative gives a value that is not negative; F7: a product below 0 has factors of opposite signs. Assumes nothing.
+-- Signs: a result has the sign of the exact one, and one that is not 0 comes from an exact result that is not 0. So
+-- an exact result that is not negative gives a value that is not negative; F7: a product below 0 has factors of
+-- opposite signs. Assumes nothing.
 use mathlib.Core.Path.{_≡_, refl, ap, _∙_, subst}
 use mathlib.Core.Logic.{_⊎_, inl, inr}
 use Prim.Native.Nat.{ℕ, zero, suc, _*_, _^_, _≤_, _<_}
@@ -59,13 +60,6 @@ module _ {z : Float} {num : Z} {den : ℕ} (r : Rounds z num den) where
       by-sign : (s : Bool) (w g : ℕ) → signed s w ≐ num → (0 < g → 0 < w) → signed s g ≺ whole 0 → num ≺ whole 0
       by-sign true w g e p h = let w-pos = p (omega arith) in omega arith
       by-sign false w g e p h = absurd (omega arith)
-
-  pub rounds-positive : whole 0 ≺ val z → whole 0 ≺ num
-  rounds-positive h = by-sign (r .negative) (r .size) (mag z) (r .exact) (size-pos r) (rw (rounds-sign r) at h)
-    where
-      by-sign : (s : Bool) (w g : ℕ) → signed s w ≐ num → (0 < g → 0 < w) → whole 0 ≺ signed s g → whole 0 ≺ num
-      by-sign false w g e p h = let w-pos = p (omega arith) in omega arith
-      by-sign true w g e p h = absurd (omega arith)
 
 module _ {z : Float} {num : Z} {den : ℕ} (r : Rounds z num den) where
   pub rounds-not-negative : whole 0 ≼ num → whole 0 ≼ val z

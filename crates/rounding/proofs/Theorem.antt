@@ -1,6 +1,6 @@
 -- The laws of f32 arithmetic that the upper crates cite, by their names in demand 3's proof: F1 to F4, F6 to F8 and
--- DOT, for numbers of binary32 (`F32`) and their values in units of 2^-149 m (`val`, `mag`; a metre is `metre`, 2^-25 m is `tick`).
--- Bodies only cite. Assumes nothing.
+-- DOT, for numbers of binary32 (`F32`) and their values in units of 2^-149 m (`val`, `mag`; a metre is `metre`, 2^-25
+-- m is `tick`). Bodies only cite. Assumes nothing.
 use Prim.Native.Nat.{ℕ, _+_, _*_, _^_, _≤_, _<_}
 use lib.Dec.{T, leb}
 use lib.Ieee.{Float, binary32, add, sub, mul, div}
@@ -11,7 +11,8 @@ use Rattle.rounding.proofs.Near.{Near, NearProduct, NearQuotient, add-n
 use Rattle.rounding.proofs.Bounds.{add-below, add-above, sub-below, sub-above, mul-below, mul-above, div-below}
 use Rattle.rounding.proofs.Bounds.{div-above}
 use Rattle.rounding.proofs.Exact.{Is, add-exact, sub-exact, mul-exact, div-exact}
-use Rattle.rounding.proofs.Relative.{add-relative, sub-relative, mul-relative, mul-mixed, div-relative, div-mixed}
+use Rattle.rounding.proofs.Relative.{add-relative, sub-relative, mul-relative, mul-mixed, div-relative}
+use Rattle.rounding.proofs.Relative.{div-mixed}
 use Rattle.rounding.proofs.Doubling.{add-double, sub-double, mul-double, div-double}
 use Rattle.rounding.proofs.Order.{add-mono, sub-mono, mul-mono, div-mono}
 use Rattle.rounding.proofs.Sign.{Opposite, mul-negative, add-not-negative, sub-not-negative, mul-not-negative}
@@ -137,7 +138,8 @@ doubled-results x-f32 y-f32 = record {
 }
 
 -- ---- F6: the reciprocal of a number from 2^-j m to 2^k m is within a relative 2^-24
-pub reciprocal-near : (j k : ℕ) {l : Float} → T (leb j 127) → T (leb k 126) → F32 l → metre ≤ 2 ^ j * mag l → mag l ≤ 2 ^ k * metre
+pub reciprocal-near : (j k : ℕ) {l : Float} → T (leb j 127) → T (leb k 126) → F32 l → metre ≤ 2 ^ j * mag l
+    → mag l ≤ 2 ^ k * metre
     → Reciprocal (div binary32 one32 l) l
 reciprocal-near = reciprocal
 

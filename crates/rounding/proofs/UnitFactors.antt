@@ -1,5 +1,5 @@
--- Multiplying by 0, 1 or -1 and subtracting 0 are exact at every number of the format, -0 included: each exact result is the value of a
--- number at hand. Assumes nothing.
+-- Multiplying by 0, 1 or -1 and subtracting 0 are exact at every number of the format, -0 included: each exact result
+-- is the value of a number at hand. Assumes nothing.
 use native.Mathlib.Omega.{arith}
 use lib.Ieee.{Float, binary32, sub, mul}
 use Rattle.algebra.specs.Integer.{Z, whole, opp, _⊟_, _⊠_, _⊛_, _≐_}

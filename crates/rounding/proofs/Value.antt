@@ -1,10 +1,10 @@
--- The value of a finite binary32 number as a whole number of units of 2^-149 m: the units, |val x| = mag x and how sizes follow values,
--- negation and the zeros.
--- `HasValue x s g metre`, of lib.Ieee, says that x is finite, has the sign s and is g units in size; `F32` gives it and is given
--- back by it. Assumes nothing.
+-- The value of a finite binary32 number as a whole number of units of 2^-149 m: the units, |val x| = mag x and how
+-- sizes follow values, negation and the zeros. `HasValue x s g metre`, of lib.Ieee, says that x is finite, has the
+-- sign s and is g units in size; `F32` gives it and is given back by it. Assumes nothing.
 use mathlib.Core.Path.{_≡_, refl, sym, ap, _∙_}
 use Prim.Native.Nat.{ℕ, zero, suc, _+_, _-_, _*_, _/_, _%_, _^_, _≤_, _<_}
-use native.Mathlib.Nat.{le-refl, le-antisymm, mul-assoc, mul-one, mul-div-cancel, not-le-of-lt, zero-mul, zero-div, pow-succ'}
+use native.Mathlib.Nat.{le-refl, le-antisymm, mul-assoc, mul-one, mul-div-cancel, not-le-of-lt, zero-mul, zero-div}
+use native.Mathlib.Nat.{pow-succ'}
 use native.Mathlib.Omega.{arith}
 use mathlib.Core.Bool.{Bool, true, false, not, _&&_}
 use lib.IntN.{ℤ, pos, negsuc}
@@ -83,7 +83,8 @@ mag-mono x y h k =
 -- one value, one size
 pub mag-same : (x y : Float) → val x ≐ val y → mag x ≡ mag y
 mag-same x y same =
-    le-antisymm (mag-abs x (mag y) (abs-same (val y) (val x) (mag y) (Integer.same-sym (val x) (val y) same) (abs-mag y)))
+    le-antisymm (mag-abs x (mag y) (abs-same (val y) (val x) (mag y) (Integer.same-sym (val x) (val y) same)
+    (abs-mag y)))
     (mag-abs y (mag x) (abs-same (val x) (val y) (mag x) same (abs-mag x)))
 
 -- ---- from a fraction of lib.Ieee

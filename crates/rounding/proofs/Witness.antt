@@ -14,7 +14,8 @@ use Rattle.rounding.proofs.Comparison.{val-lt, not-lt-val, val-not-lt}
 use Rattle.rounding.proofs.Near.{Near, near-size, near-product-size}
 use Rattle.rounding.proofs.Exact.{Is}
 use Rattle.rounding.proofs.Dyadic.{Dyadic, exact-add}
-use Rattle.rounding.proofs.Literals.{zero-f32, zero-val, half-dyadic, half-f32, half-val, one-f32, one-val, one-mag}
+use Rattle.rounding.proofs.Literals.{zero-f32, zero-val, half-dyadic, half-f32, half-val, one-f32, one-val}
+use Rattle.rounding.proofs.Literals.{one-mag}
 use Rattle.rounding.proofs.UnitFactors.{minus-one-mul-exact, zero-mul-exact}
 use Rattle.rounding.proofs.Sign.{Opposite}
 use Rattle.rounding.proofs.Quotient.{InUnit}
@@ -74,7 +75,8 @@ half-sum-below = ordered-results half-f32 half-f32 one-f32 .sum-below (half-sum 
 half-sum-rises : val (add binary32 half32 half32) ≼ val (add binary32 half32 one32)
 half-sum-rises =
     rising-results half-f32 half-f32 half-f32 one-f32 .sum (half-sum .own)
-    (near-results 1 tt half-f32 one-f32 .sum (2 * metre) (let h = half-val in rw one-val (omega arith)) (omega arith) .own)
+    (near-results 1 tt half-f32 one-f32 .sum (2 * metre) (let h = half-val in rw one-val (omega arith))
+    (omega arith) .own)
     (let h = half-low in omega arith)
 
 -- ---- F4
@@ -84,7 +86,8 @@ half-sum-double = doubled-results half-f32 half-f32 .sum metre (half-sum .own) h
 -- ---- F6
 reciprocal-of-one : Reciprocal (div binary32 one32 one32) one32
 reciprocal-of-one =
-    reciprocal-near 8 4 tt tt one-f32 (rw one-mag (at-least (2 ^ 8) (lit≤ tt))) (rw one-mag (at-least (2 ^ 4) (lit≤ tt)))
+    reciprocal-near 8 4 tt tt one-f32 (rw one-mag (at-least (2 ^ 8) (lit≤ tt)))
+    (rw one-mag (at-least (2 ^ 4) (lit≤ tt)))
   where
     at-least : (n : ℕ) → 1 ≤ n → metre ≤ n * metre
     at-least n h = le-trans (le-of-eq (sym (one-mul metre))) (mul-le-mul-right metre h)
@@ -120,7 +123,8 @@ ones-dot-7 = dot-near-7 one-f32 one-f32 one-f32 one-f32 (one-product-abs 128 (li
 
 -- by the sizes of the coordinates
 ones-dot : DotNear (dot one32 one32 one32 one32) (val one32 ⊠ val one32 ⊞ val one32 ⊠ val one32) 0 1
-ones-dot = dot-near 0 1 tt tt tt one-f32 one-f32 one-f32 one-f32 metre metre one-abs one-abs one-abs one-abs (omega arith)
+ones-dot =
+    dot-near 0 1 tt tt tt one-f32 one-f32 one-f32 one-f32 metre metre one-abs one-abs one-abs one-abs (omega arith)
 
 -- ---- comparisons
 one-not-lt-half : val half32 ≼ val one32

@@ -11,7 +11,8 @@ use Rattle.floats.specs.declared.b2_math.B2vec2.{B2vec2}
 use Rattle.shape_definitions.specs.declared.b2_polygon_shape.B2polygonShape.{B2polygonShape}
 use Rattle.shape_definitions.specs.Polygon.{b2-polygon-shape-set, b2-polygon-shape-set-counted}
 
-pub counted-whole : (old : B2polygonShape) (array points : List B2vec2) (n : ℕ) → length points ≡ n → (n ≤ 8 → take n array ≡ points)
+pub counted-whole : (old : B2polygonShape) (array points : List B2vec2) (n : ℕ) → length points ≡ n
+    → (n ≤ 8 → take n array ≡ points)
     → b2-polygon-shape-set-counted old array n ≡ b2-polygon-shape-set old points
 unfolding b2-polygon-shape-set b2-polygon-shape-set-counted
 counted-whole old array points n size same =

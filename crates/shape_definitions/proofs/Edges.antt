@@ -1,5 +1,5 @@
--- The edges of a row of corners by their places: one for each corner, from it to the corner at the place after; and that place is another
--- place of the row. Assumes nothing.
+-- The edges of a row of corners by their places: one for each corner, from it to the corner at the place after; and
+-- that place is another place of the row. Assumes nothing.
 use mathlib.Core.Path.{_≡_, refl, sym, ap, _∙_}
 use mathlib.Core.Bool.{Bool, true, false, cond}
 use mathlib.Core.List.{List, [], _∷_, _++_}
@@ -34,11 +34,13 @@ edge-from-at first p d (q ∷ qs) (suc i) h = edge-from-at first q d qs i (omega
 -- the corner after a place
 next-at : (first d : B2vec2) (qs : List B2vec2) (i : ℕ) → i < suc (length qs)
     → getD (qs ++ (first ∷ [])) i d ≡ getD (first ∷ qs) (place-after (suc (length qs)) i) d
-next-at first d qs i h = go (ltb (i + 1) (suc (length qs))) (ltb→lt (i + 1) (suc (length qs))) (lt→ltb (i + 1) (suc (length qs)))
+next-at first d qs i h =
+    go (ltb (i + 1) (suc (length qs))) (ltb→lt (i + 1) (suc (length qs))) (lt→ltb (i + 1) (suc (length qs)))
   where
     go : (t : Bool) → (T t → i + 1 < suc (length qs)) → (i + 1 < suc (length qs) → T t)
         → getD (qs ++ (first ∷ [])) i d ≡ getD (first ∷ qs) (cond t (i + 1) 0) d
-    go true below above = let l = below tt in List·getD-append qs (first ∷ []) d i (omega arith) ∙ ap (λ (n : ℕ). getD (first ∷ qs) n d)
+    go true below above =
+        let l = below tt in List·getD-append qs (first ∷ []) d i (omega arith) ∙ ap (λ (n : ℕ). getD (first ∷ qs) n d)
         (sym (add-one i))
     go false below above =
         ap (λ (n : ℕ). getD (qs ++ (first ∷ [])) n d) (last (λ l. above l)) ∙ getD-append-seam qs first [] d

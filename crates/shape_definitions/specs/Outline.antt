@@ -47,7 +47,7 @@ unfoldable pub start : List B2vec2 → ℕ
 start ps = scan (earlier ps) 0 (later-places ps)
 
 -- ---- the next corner: the candidate begins at place 0 and is replaced by j when the cross product is below 0, or equals 0 and j is
--- farther; a candidate equal to the corner itself is replaced unseen
+-- farther; a candidate that is the corner itself is always replaced
 abbrev pub turns-closer : B2vec2 → B2vec2 → Bool
 turns-closer r v = lt (b2-cross r v) zero32 || eq (b2-cross r v) zero32 && lt (b2-length-squared r) (b2-length-squared v)
 

@@ -1,5 +1,6 @@
--- The outline builder, b2_polygon_shape_set, as document 01 has it: weld, start, walk, normals, centroid, with the refusals 1, 2, 3, 4,
--- 5 in that order and no other; a refused call hands back the outline that it was given. Definitions only.
+-- The outline builder, b2_polygon_shape_set, as document 01 has it: weld, start, walk, normals, centroid, with the
+-- refusals 1, 2, 3, 4, 5 in that order and no other; a refused call hands back the outline that it was given.
+-- Definitions only.
 use mathlib.Core.Bool.{Bool, not, cond, _&&_, _||_}
 use mathlib.Core.List.{List, map}
 use mathlib.Core.Option.{Option, none, some}
@@ -15,9 +16,11 @@ use Rattle.floats.specs.Ranges.{point-in-range}
 use Rattle.shape_definitions.specs.declared.b2_polygon_shape.B2polygonShape.{B2polygonShape}
 use Rattle.shape_definitions.specs.declared.b2_polygon_shape.PolygonAnswer.{PolygonAnswer}
 use Rattle.shape_definitions.specs.declared.b2_polygon_shape.FanSum.{FanSum}
-use Rattle.shape_definitions.specs.Refusal.{accepted, wrong-number-of-points, shape-out-of-range, too-few-after-welding}
+use Rattle.shape_definitions.specs.Refusal.{accepted, wrong-number-of-points, shape-out-of-range}
+use Rattle.shape_definitions.specs.Refusal.{too-few-after-welding}
 use Rattle.shape_definitions.specs.Refusal.{walk-not-closed, edge-or-area-too-small}
-use Rattle.shape_definitions.specs.Outline.{point-at, welded, row, edges, long-enough, normal-of-edge, fan, centroid-of}
+use Rattle.shape_definitions.specs.Outline.{point-at, welded, row, edges, long-enough, normal-of-edge, fan}
+use Rattle.shape_definitions.specs.Outline.{centroid-of}
 
 abbrev pub refused : ℕ → B2polygonShape → PolygonAnswer
 refused number old = record { refusal = number; shape = old }
@@ -66,4 +69,5 @@ b2-polygon-shape-set old points =
 -- the same of the first count points
 unfoldable pub b2-polygon-shape-set-counted : B2polygonShape → List B2vec2 → ℕ → PolygonAnswer
 b2-polygon-shape-set-counted old points count =
-    cond (ltb count 3 || ltb 8 count) (refused wrong-number-of-points old) (b2-polygon-shape-set old (take count points))
+    cond (ltb count 3 || ltb 8 count) (refused wrong-number-of-points old)
+    (b2-polygon-shape-set old (take count points))

@@ -1,16 +1,15 @@
--- The convexity test over the corners' coordinates, a place, a corner and a face at a time. The definition leaves the ends of a face out;
--- they are not right of it, so a test of every corner answers the same. Assumes nothing.
+-- The convexity test over the corners' coordinates, a place, a corner and a face at a time. The definition leaves the
+-- ends of a face out; they are not right of it, so a test of every corner answers the same. Assumes nothing.
 use mathlib.Core.Path.{_≡_, refl, sym, _∙_, ap}
 use mathlib.Core.Bool.{Bool, true, false, not, _&&_, _||_, and-false}
-use mathlib.Core.List.{List, [], _∷_, _++_, map, map-append, zipWith}
+use mathlib.Core.List.{List, [], _∷_, map, zipWith}
 use mathlib.Core.Logic.{inl, inr}
 use Prim.Native.Nat.{ℕ, zero, suc, _+_, _<_, min}
 use native.Mathlib.Nat.{min-eq-left, min-eq-right}
 use native.Mathlib.Numerals.{add-one}
 use native.Mathlib.Omega.{arith}
 use lib.Dec.{ltb, eqb}
-use lib.ListN.{length, take, getD, set}
-use lib.Seq.{take-all, take-suc, take-suc-set}
+use lib.ListN.{length, getD}
 use lib.Ieee.{Float, lt}
 use borrow.Author.Tests.{eqb-true, lt-ltb, le-ltb, not-false}
 use Rattle.algebra.proofs.Booleans.{less-or-not}
@@ -22,18 +21,6 @@ use Rattle.shape_definitions.specs.Validate.{not-right-of, corners-not-right, f
 use Rattle.floats.proofs.Ends.{first-end-not-right, second-end-not-right}
 
 -- ---- coordinates
-pub coordinate-next : (f : B2vec2 → Float) (vs : List B2vec2) (xs : List Float) (j : ℕ) (d : B2vec2) → j < length vs → j < length xs
-    → take j xs ≡ map f (take j vs) → take (j + 1) (set xs j (f (getD vs j d))) ≡ map f (take (j + 1) vs)
-coordinate-next f vs xs j d in-vs in-xs so-far =
-    rw add-one
-    (take-suc-set xs j (f (getD vs j d)) in-xs ∙ ap (λ (l : List Float). l ++ (f (getD vs j d) ∷ [])) so-far
-    ∙ sym (ap (map f) (take-suc vs j d in-vs) ∙ map-append f (take j vs) (getD vs j d ∷ [])))
-
-pub coordinates-ended : (f : B2vec2 → Float) (vs : List B2vec2) (xs : List Float) (j : ℕ) → length vs ≡ j → length xs ≡ j
-    → take j xs ≡ map f (take j vs) → xs ≡ map f vs
-coordinates-ended f vs xs j vs-length xs-length so-far =
-    sym (take-all j xs (omega arith)) ∙ so-far ∙ ap (map f) (take-all j vs (omega arith))
-
 joined-coordinates : (vs : List B2vec2) → zipWith vec2 (map (λ v. v .x) vs) (map (λ v. v .y) vs) ≡ vs
 unfolding zipWith
 joined-coordinates [] = refl
@@ -67,7 +54,9 @@ kept false false = refl
 
 module _ (vs : List B2vec2) (count i : ℕ) where
   abbrev pub right-at : ℕ → Bool
-  right-at j = lt (b2-cross (b2-sub (point-at vs (place-after count i)) (point-at vs i)) (b2-sub (point-at vs j) (point-at vs i))) zero32
+  right-at j =
+      lt (b2-cross (b2-sub (point-at vs (place-after count i)) (point-at vs i))
+      (b2-sub (point-at vs j) (point-at vs i))) zero32
 
   not-right-at : (j : ℕ) → not-right-of vs count i j ≡ not (right-at j)
   not-right-at j =
@@ -75,7 +64,8 @@ module _ (vs : List B2vec2) (count i : ℕ) where
       (λ e. ap right-at (eqb-true j i e) ∙ first-end-not-right _ (point-at vs i))
       (λ e. ap right-at (eqb-true j (place-after count i) e) ∙ second-end-not-right _)
 
-  pub corners-next : (j : ℕ) (right here : Bool) → right ≡ not (corners-not-right vs count i (min j count)) → here ≡ right-at j
+  pub corners-next : (j : ℕ) (right here : Bool) → right ≡ not (corners-not-right vs count i (min j count))
+      → here ≡ right-at j
       → (right || (here && ltb j count)) ≡ not (corners-not-right vs count i (min (j + 1) count))
   unfolding corners-not-right
   corners-next j right here so-far here-is = elim (less-or-not j count) [
@@ -102,16 +92,19 @@ pub right-is : (vs : List B2vec2) (count i j next : ℕ) (p q v e : B2vec2) (her
 right-is vs count i j next p q v e here p-is next-is q-is e-is v-is here-is = rw (here-is, e-is, q-is, p-is, v-is, next-is) refl
 
 -- ---- faces
-pub joined-faces : (vs : List B2vec2) (xs ys : List Float) (count : ℕ) → xs ≡ map (λ v. v .x) vs → ys ≡ map (λ v. v .y) vs
+pub joined-faces : (vs : List B2vec2) (xs ys : List Float) (count : ℕ) → xs ≡ map (λ v. v .x) vs
+    → ys ≡ map (λ v. v .y) vs
     → faces-convex (zipWith vec2 xs ys) count count ≡ faces-convex vs count count
 joined-faces vs xs ys count xs-is ys-is = rw (xs-is, ys-is, joined-coordinates vs) refl
 
-pub faces-next : (vs : List B2vec2) (count i : ℕ) (right : Bool) → right ≡ not (corners-not-right vs count i count) → right ≡ false
+pub faces-next : (vs : List B2vec2) (count i : ℕ) (right : Bool) → right ≡ not (corners-not-right vs count i count)
+    → right ≡ false
     → faces-convex vs count i ≡ true → faces-convex vs count (i + 1) ≡ true
 unfolding faces-convex
 faces-next vs count i right right-is fails so-far = rw (add-one, so-far) (not-false _ (sym right-is ∙ fails))
 
-pub faces-failed : (vs : List B2vec2) (count i n : ℕ) → i < n → corners-not-right vs count i count ≡ false → faces-convex vs count n ≡ false
+pub faces-failed : (vs : List B2vec2) (count i n : ℕ) → i < n → corners-not-right vs count i count ≡ false
+    → faces-convex vs count n ≡ false
 unfolding faces-convex
 faces-failed vs count i zero below fails = absurd (omega arith)
 faces-failed vs count i (suc n) below fails = elim (less-or-not i n) [

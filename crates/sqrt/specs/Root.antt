@@ -1,4 +1,5 @@
--- A square root rounded to a whole number, for the contracts of root.rt; and a root within a relative 2^-24, as squares. Definitions only.
+-- A square root rounded to a whole number, for the contracts of root.rt; and a root within a relative 2^-24, as
+-- squares. Definitions only.
 use Prim.Native.Nat.{ℕ, _+_, _-_, _*_, _^_, _≤_, _<_}
 
 -- r is √n to the nearest whole number: r - 1/2 < √n < r + 1/2, both sides squared. No whole n makes a tie.

@@ -11,7 +11,8 @@ use Rattle.test_calls.specs.Words.{word-at}
 use Rattle.test_calls.specs.Records.{float-at, bits}
 use Rattle.test_calls.specs.Entries.{root-answer, normalize-answer, shape-answer, answer}
 
-pub root-words : (request : List ℕ) (x root : Float) (w : ℕ) → length request ≡ 8 → x ≡ float-at request 1 → root ≡ b2-sqrt x
+pub root-words : (request : List ℕ) (x root : Float) (w : ℕ) → length request ≡ 8 → x ≡ float-at request 1
+    → root ≡ b2-sqrt x
     → w ≡ bits root
     → 0 ∷ w ∷ [] ≡ root-answer request
 unfolding root-answer
@@ -21,21 +22,26 @@ pub root-malformed : (request : List ℕ) → (length request ≡ 8 → ⊥) →
 unfolding root-answer
 root-malformed request size = simp (ne-eqb _ _ size)
 
-pub normalize-words : (request : List ℕ) (x y : Float) (n : Normalized) (l u v : ℕ) → length request ≡ 12 → x ≡ float-at request 1
-    → y ≡ float-at request 2 → n ≡ b2-normalize (vec2 x y) → l ≡ bits (n .length) → u ≡ bits (n .v .x) → v ≡ bits (n .v .y)
+pub normalize-words : (request : List ℕ) (x y : Float) (n : Normalized) (l u v : ℕ) → length request ≡ 12
+    → x ≡ float-at request 1
+    → y ≡ float-at request 2 → n ≡ b2-normalize (vec2 x y) → l ≡ bits (n .length) → u ≡ bits (n .v .x)
+    → v ≡ bits (n .v .y)
     → 0 ∷ l ∷ u ∷ v ∷ [] ≡ normalize-answer request
 unfolding normalize-answer
-normalize-words request x y n l u v size x-is y-is n-is l-is u-is v-is = simp (eq-eqb _ _ size, l-is, u-is, v-is, n-is, x-is, y-is)
+normalize-words request x y n l u v size x-is y-is n-is l-is u-is v-is =
+    simp (eq-eqb _ _ size, l-is, u-is, v-is, n-is, x-is, y-is)
 
 pub normalize-malformed : (request : List ℕ) → (length request ≡ 12 → ⊥) → normalize-answer request ≡ []
 unfolding normalize-answer
 normalize-malformed request size = simp (ne-eqb _ _ size)
 
 -- ---- which entry answers
-pub answers-as : (number entry : ℕ) (request : List ℕ) → entry ≡ number → shape-answer number request ≡ shape-answer entry request
+pub answers-as : (number entry : ℕ) (request : List ℕ) → entry ≡ number
+    → shape-answer number request ≡ shape-answer entry request
 answers-as number entry request is = rw is
 
-pub no-shape : (entry : ℕ) (request : List ℕ) → (entry ≡ 1 → ⊥) → (entry ≡ 2 → ⊥) → (entry ≡ 3 → ⊥) → (entry ≡ 4 → ⊥) → (entry ≡ 5 → ⊥)
+pub no-shape : (entry : ℕ) (request : List ℕ) → (entry ≡ 1 → ⊥) → (entry ≡ 2 → ⊥) → (entry ≡ 3 → ⊥) → (entry ≡ 4 → ⊥)
+    → (entry ≡ 5 → ⊥)
     → (entry ≡ 6 → ⊥) → shape-answer entry request ≡ []
 unfolding shape-answer
 no-shape entry request no-1 no-2 no-3 no-4 no-5 no-6 =

@@ -1,13 +1,15 @@
--- The records of requests and answers as words: floats are their bits, a point is x then y. POLY is radius, centroid, count, eight vertices
--- and eight normals (36 words); EDGE is radius, flag and four vertices (10 words). Decoded at place i, and encoded. Definitions only.
-use Prim.Native.Nat.{ℕ, zero, suc, _+_, _%_}
+-- The records of requests and answers as words: floats are their bits, a point is x then y. POLY is radius, centroid,
+-- count, eight vertices and eight normals (36 words); EDGE is radius, flag and four vertices (10 words). Decoded at
+-- place i, and encoded. Definitions only.
+use Prim.Native.Nat.{ℕ, _+_, _%_, _^_}
 use mathlib.Core.Bool.{Bool, cond}
-use mathlib.Core.List.{List, [], _∷_, _++_}
+use mathlib.Core.List.{List, [], _∷_, _++_, map}
 use lib.Dec.{eqb}
 use lib.Ieee.{Float, binary32, ofBits, toBits}
 use Rattle.floats.specs.declared.b2_math.B2vec2.{B2vec2}
 use Rattle.floats.specs.declared.b2_math.B2Rot.{B2Rot}
 use Rattle.floats.specs.B2Math.{vec2}
+use Rattle.floats.specs.Coordinates.{points-from, coordinates-of}
 use Rattle.shape_definitions.specs.declared.b2_polygon_shape.B2polygonShape.{B2polygonShape}
 use Rattle.shape_definitions.specs.declared.b2_edge_shape.B2edgeShape.{B2edgeShape}
 use Rattle.test_calls.specs.Words.{word-at}
@@ -21,8 +23,7 @@ vector-at request i = vec2 (float-at request i) (float-at request (i + 1))
 
 -- n points, one behind the other
 unfoldable pub points-at : List ℕ → ℕ → ℕ → List B2vec2
-points-at request i zero = []
-points-at request i (suc n) = vector-at request i ∷ points-at request (i + 2) n
+points-at request i n = points-from (float-at request) i n
 
 -- the sine, then the cosine
 unfoldable pub rotation-at : List ℕ → ℕ → B2Rot
@@ -56,11 +57,10 @@ flag b = cond b 1 0
 
 -- the low word of a count: all of it, where it came from a word
 abbrev pub low-word : ℕ → ℕ
-low-word n = n % 4294967296
+low-word n = n % 2 ^ 32
 
 unfoldable pub points-words : List B2vec2 → List ℕ
-points-words [] = []
-points-words (p ∷ ps) = bits (p .x) ∷ bits (p .y) ∷ points-words ps
+points-words ps = map bits (coordinates-of ps)
 
 unfoldable pub polygon-words : B2polygonShape → List ℕ
 polygon-words s =

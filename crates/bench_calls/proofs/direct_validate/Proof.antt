@@ -3,7 +3,8 @@ use mathlib.Core.Path.{_≡_, _∙_, ap}
 use Rattle.shape_definitions.specs.Validate.{b2-polygon-shape-validate}
 use Rattle.bench_calls.specs.Outlines.{points-of, outline-in}
 use Rattle.algebra.proofs.Lists.{whole-row}
-use Rattle.bench_calls.proofs.Convex.{rest-of, of-parts, too-short, refused-test, convex-test, not-convex-test}
+use Rattle.algebra.proofs.Buffer.{tail-lent}
+use Rattle.bench_calls.proofs.Convex.{of-parts, too-short, refused-test, convex-test, not-convex-test}
 use borrow.Author.Needs.{needs}
 use Rattle.bench_calls.proofs.direct_validate.Statement.{statement}
 use Rattle.bench_calls.proofs.direct_validate.Tie as tie
@@ -49,7 +50,7 @@ tested c =
     c .b2-polygon-shape-validate .ensures
     ∙ of-parts (start .args .shape .now) (start .args .count) _ _ _ (c .before .point .ensures)
     (whole-row 8 _ _ (vertices .points .ensures .1) (vertices .points .ensures .0))
-    (whole-row 8 _ _ (normals .points2 .ensures .1 ∙ ap (λ l. points-of l 8) (rest-of (start .args .shape .now)))
+    (whole-row 8 _ _ (normals .points2 .ensures .1 ∙ ap (λ l. points-of l 8) (tail-lent 16 (start .args .shape .now)))
     (normals .points2 .ensures .0))
 
 returns-2 : tie.Need-returns-2

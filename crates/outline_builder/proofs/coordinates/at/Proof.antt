@@ -1,6 +1,6 @@
 -- Two reads, side by side. Assumes nothing.
 use native.Mathlib.Omega.{arith}
-use Rattle.outline_builder.proofs.CoordinatePoints.{point-read}
+use Rattle.floats.proofs.Coordinates.{point-read}
 use borrow.Author.Needs.{needs}
 use Rattle.outline_builder.proofs.coordinates.at.Statement.{statement}
 use Rattle.outline_builder.proofs.coordinates.at.Tie as tie
@@ -24,7 +24,7 @@ element-copy-out-t12 : tie.Need-element-copy-out-t12
 element-copy-out-t12 c = search needs
 
 returns : tie.Need-returns
-returns c = point-read (c .before .before .args .xs .now) (c .before .before .args .i) (omega (arith, c .before .before .pre .1)) _
+returns c = point-read (c .before .before .args .xs .now) (c .before .before .args .i) (omega (arith, c .before .before .pre .1)) _ _
 
 pub at-spec : {M : Type 1} → statement M
 at-spec =

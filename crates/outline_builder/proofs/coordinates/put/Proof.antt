@@ -1,6 +1,6 @@
 -- Two stores, side by side. Assumes nothing.
 use native.Mathlib.Omega.{arith}
-use Rattle.outline_builder.proofs.CoordinatePoints.{point-stored}
+use Rattle.floats.proofs.Coordinates.{point-stored}
 use borrow.Author.Needs.{needs}
 use Rattle.outline_builder.proofs.coordinates.put.Statement.{statement}
 use Rattle.outline_builder.proofs.coordinates.put.Tie as tie

@@ -12,7 +12,7 @@ use Rattle.floats.specs.B2Common.{epsilon-squared}
 use Rattle.shape_definitions.specs.Outline.{point-at}
 use Rattle.outline_builder.specs.Coordinates.{points-in, EightPoints}
 use Rattle.outline_builder.proofs.CoordinatePoints.{eight-stored}
-use Rattle.outline_builder.proofs.Around.{following, edge-at}
+use Rattle.outline_builder.proofs.Around.{edge-of-corners, following}
 use Rattle.outline_builder.proofs.Facing.{Facing, facing-starts, facing-next, facing-short, facing-ended}
 use borrow.Author.Needs.{needs}
 use Rattle.outline_builder.proofs.outline.normals.Statement.{statement}
@@ -69,7 +69,7 @@ edge-is edge =
     let after = at .before .before in
     let loop = loop-of edge in
     let eight = loop .loop .inv .2 in
-    edge-at (points-in (loop .before .args .vs .now)) (loop .before .args .m) (loop .loop .i) (omega arith) (omega arith) _ (after .after .ensures .0)
+    edge-of-corners (points-in (loop .before .args .vs .now)) (loop .before .args .m) (loop .loop .i) (omega arith) (omega arith) _ (after .after .ensures .0)
     (after .after .ensures .1) _ _ _ (at .before .at .ensures) (at .at2 .ensures) (edge .b2-sub .ensures)
 
 returns : tie.Need-returns Inv-loop μ-loop

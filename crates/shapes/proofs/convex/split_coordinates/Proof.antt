@@ -4,7 +4,7 @@ use mathlib.Core.List.{map}
 use Prim.Native.Nat.{_≤_, _-_}
 use native.Mathlib.Omega.{arith}
 use lib.ListN.{length, take, length-set}
-use Rattle.shapes.proofs.Sides.{coordinate-next, coordinates-ended}
+use Rattle.algebra.proofs.Lists.{mapped-next, mapped}
 use borrow.Author.Needs.{needs}
 use Rattle.shapes.proofs.convex.split_coordinates.Statement.{statement}
 use Rattle.shapes.proofs.convex.split_coordinates.Tie as tie
@@ -53,8 +53,8 @@ loop-again c =
       inv .1,
       simp length-set (inv .2),
       simp length-set (inv .3),
-      coordinate-next (λ v. v .x) vs (loop .xs) (loop .j) _ (omega arith) (omega arith) (inv .4),
-      coordinate-next (λ v. v .y) vs (loop .ys) (loop .j) _ (omega arith) (omega arith) (inv .5),
+      mapped-next (λ v. v .x) vs (loop .xs) (loop .j) (inv .4) _ (omega arith) (omega arith),
+      mapped-next (λ v. v .y) vs (loop .ys) (loop .j) (inv .5) _ (omega arith) (omega arith),
     )
 
 returns : tie.Need-returns Inv-loop μ-loop
@@ -62,8 +62,8 @@ returns c =
     let loop = c .before .loop in
     let vs = c .before .before .args .t1 in
     let inv = loop .inv in (
-      coordinates-ended (λ v. v .x) vs (loop .xs) (loop .j) (omega arith) (omega arith) (inv .4),
-      coordinates-ended (λ v. v .y) vs (loop .ys) (loop .j) (omega arith) (omega arith) (inv .5),
+      mapped (λ v. v .x) vs (loop .xs) (loop .j) (inv .4) (omega arith) (omega arith),
+      mapped (λ v. v .y) vs (loop .ys) (loop .j) (inv .5) (omega arith) (omega arith),
     )
 
 pub split-coordinates-spec : {M : Type 1} → statement M
