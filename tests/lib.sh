@@ -73,7 +73,7 @@ counted() {
 }
 
 # add_up NAME LOG STATUS WORDS: adds the counts of the log's last line, `WORDS N passed, M failed`. A failure where
-# there is no such line, where it counts nothing, and where it does not fit the status.
+# there is no such line, where it counts nothing, and where it does not fit the status or the lines above it.
 add_up() {
     local last good bad
     last=$(tail -n 1 "$2")
@@ -89,6 +89,8 @@ add_up() {
         fail "$1" "status $3, though it counts no failure"
     elif [ "$3" -eq 0 ] && [ "$bad" -ne 0 ]; then
         fail "$1" "status 0, though it counts failures"
+    elif [ "$bad" -eq 0 ] && grep -q '^FAILED: ' "$2"; then
+        fail "$1" "a line says FAILED, though it counts no failure"
     fi
 }
 

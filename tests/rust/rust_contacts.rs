@@ -3,7 +3,6 @@ use crate::rust_oracle::{vec_words, Reader};
 use box2d_rs::b2_collision::*;
 use box2d_rs::b2_math::{B2Rot, B2Transform};
 use box2d_rs::shapes::b2_circle_shape::B2circleShape;
-use std::panic::{catch_unwind, AssertUnwindSafe};
 
 const KINDS: [B2manifoldType; 3] = [B2manifoldType::ECircles, B2manifoldType::EFaceA, B2manifoldType::EFaceB];
 const STATES: [B2pointState; 4] =
@@ -60,13 +59,13 @@ fn manifold_words(m: &B2manifold) -> Vec<u32> {
     words
 }
 
-/// A contact call on a manifold; `None` where the Rust panics.
-fn collide(mut m: B2manifold, call: impl FnOnce(&mut B2manifold)) -> Option<Vec<u32>> {
-    catch_unwind(AssertUnwindSafe(|| call(&mut m))).ok()?;
-    Some(manifold_words(&m))
+/// A contact call on a manifold.
+fn collide(mut m: B2manifold, call: impl FnOnce(&mut B2manifold)) -> Vec<u32> {
+    call(&mut m);
+    manifold_words(&m)
 }
 
-pub fn answer(entry: u32, mut from: Reader) -> Option<Vec<u32>> {
+pub fn record(entry: u32, mut from: Reader) -> Vec<u32> {
     match entry {
         7 => {
             let (m, a, xf_a, b, xf_b) =
@@ -102,7 +101,7 @@ pub fn answer(entry: u32, mut from: Reader) -> Option<Vec<u32>> {
                 words.extend(vec_words(v.v));
                 words.push(id_word(v.id));
             }
-            Some(words)
+            words
         }
         13 => {
             let mut w = B2worldManifold::default();
@@ -115,14 +114,14 @@ pub fn answer(entry: u32, mut from: Reader) -> Option<Vec<u32>> {
             let mut words = vec_words(w.normal).to_vec();
             w.points.iter().for_each(|p| words.extend(vec_words(*p)));
             words.extend(w.separations.iter().map(|s| s.to_bits()));
-            Some(words)
+            words
         }
         14 => {
             let mut state = || STATES[from.word() as usize];
             let (mut states1, mut states2) = ([state(), state()], [state(), state()]);
             let (m1, m2) = (from.manifold(), from.manifold());
             b2_get_point_states(&mut states1, &mut states2, &m1, &m2);
-            Some(states1.iter().chain(&states2).map(|s| *s as u32).collect())
+            states1.iter().chain(&states2).map(|s| *s as u32).collect()
         }
         entry => panic!("no entry {entry} of the Rust"),
     }

@@ -64,47 +64,51 @@ pub fn edge_words(e: &B2edgeShape) -> Vec<u32> {
 /// The record after the call, without a refusal; `None` where the Rust panics. Sine and cosine are those set for the
 /// process.
 pub fn answer(request: &[u32]) -> Option<Vec<u32>> {
+    catch_unwind(AssertUnwindSafe(|| record(request))).ok()
+}
+
+fn record(request: &[u32]) -> Vec<u32> {
     let mut from = Reader(request.iter());
     match from.word() {
         1 => {
             let mut p = from.polygon();
             let n = from.word();
             let points: Vec<B2vec2> = (0..n).map(|_| from.vec()).collect();
-            catch_unwind(AssertUnwindSafe(|| b2_polygon_shape::b2_polygon_shape_set(&mut p, &points))).ok()?;
-            Some(polygon_words(&p))
+            b2_polygon_shape::b2_polygon_shape_set(&mut p, &points);
+            polygon_words(&p)
         }
         2 => {
             let mut p = from.polygon();
             let hx = from.number();
             b2_polygon_shape::b2_polygon_shape_set_as_box(&mut p, hx, from.number());
-            Some(polygon_words(&p))
+            polygon_words(&p)
         }
         3 => {
             let mut p = from.polygon();
             let (hx, hy, center) = (from.number(), from.number(), from.vec());
             b2_polygon_shape::b2_polygon_shape_set_as_box_angle(&mut p, hx, hy, center, std::hint::black_box(0.5));
-            Some(polygon_words(&p))
+            polygon_words(&p)
         }
-        4 => Some(vec![b2_polygon_shape::b2_polygon_shape_validate(from.polygon()) as u32]),
+        4 => vec![b2_polygon_shape::b2_polygon_shape_validate(from.polygon()) as u32],
         5 => {
             let mut e = from.edge();
             let (v0, v1, v2) = (from.vec(), from.vec(), from.vec());
             b2_edge_shape::b2_set_one_sided(&mut e, v0, v1, v2, from.vec());
-            Some(edge_words(&e))
+            edge_words(&e)
         }
         6 => {
             let mut e = from.edge();
             let v1 = from.vec();
             b2_edge_shape::b2_set_two_sided(&mut e, v1, from.vec());
-            Some(edge_words(&e))
+            edge_words(&e)
         }
-        15 => Some(vec![b2_sqrt(from.number()).to_bits()]),
+        15 => vec![b2_sqrt(from.number()).to_bits()],
         16 => {
             let mut v = from.vec();
             let mut words = vec![v.normalize().to_bits()];
             words.extend(vec_words(v));
-            Some(words)
+            words
         }
-        entry => rust_contacts::answer(entry, from),
+        entry => rust_contacts::record(entry, from),
     }
 }
