@@ -7,3 +7,4 @@ pub mod BuilderCases
 pub mod BoxCases
 pub mod ValidateCases
 pub mod WallCases
+pub mod RangeCases
