@@ -8,7 +8,7 @@ use lib.Seq.{getD-take}
 use borrow.Author.Tests.{not-true, not-false}
 use Rattle.floats.specs.Ranges.{vec2-within}
 use Rattle.shape_definitions.specs.Polygon.{all-points}
-use Rattle.shape_definitions.proofs.AllPoints.{all-failed, all-next}
+use Rattle.algebra.proofs.All.{all-failed, all-next}
 use Rattle.shape_ranges.proofs.FourPlaces.{all-passed}
 use borrow.Author.Needs.{needs}
 use Rattle.shape_ranges.proofs.polygon_range.counted_within.Statement.{statement}
