@@ -1,12 +1,12 @@
--- Closed cases, computed by antt, that hold the constants, operations and ranges to values from outside: the exact constants, and
--- what rustc's code for x86-64 answers, as bit patterns (a NaN as 7fc00000). Assumes nothing.
+-- Closed cases, computed by antt, that hold the constants, operations and ranges to values from outside: the exact
+-- constants, and what rustc's code for x86-64 answers, as bit patterns (a NaN as 7fc00000). Assumes nothing.
 use mathlib.Core.Path.{_≡_, refl}
 use mathlib.Core.Bool.{true, false}
 use Prim.Native.Nat.{ℕ}
 use lib.IntN.{pos, negsuc}
 use lib.Ieee.{Float, Format, fin, binary32, neg, add, sub, mul, div, le, ofBits, toBits}
 use Rattle.rounding.specs.Literals.{zero32, half32, one32}
-use Rattle.floats.specs.B2Common.{b2-max-float, b2-epsilon, b2-linear-slop, b2-polygon-radius}
+use Rattle.floats.specs.B2Common.{b2-max-float, b2-epsilon, epsilon-squared, b2-linear-slop, b2-polygon-radius}
 use Rattle.floats.specs.Ranges.{normal-limit, local-normal-limit, shape-limit, contact-limit}
 use Rattle.floats.specs.Ranges.{coordinate-in-range, radius-in-range}
 
@@ -30,6 +30,10 @@ max-float-is = refl
 epsilon-is : b2-epsilon ≡ fin false 1 (negsuc 22)
 unfolding ofBits
 epsilon-is = refl
+
+epsilon-squared-is : epsilon-squared ≡ fin false 1 (negsuc 45)
+unfolding ofBits
+epsilon-squared-is = refl
 
 linear-slop-is : b2-linear-slop ≡ fin false 5368709 (negsuc 29)
 unfolding ofBits

@@ -1,5 +1,5 @@
--- Closed cases, computed by antt, of document 01's ranges: the limits themselves are in, the next f32 beyond one and a NaN
--- are not. Assumes nothing.
+-- Closed cases, computed by antt, of document 01's ranges: the limits themselves are in, the next f32 beyond one and a
+-- NaN are not. Assumes nothing.
 use mathlib.Core.Path.{_≡_, refl}
 use mathlib.Core.Bool.{true, false}
 use Prim.Native.Nat.{ℕ}

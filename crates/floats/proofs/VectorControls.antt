@@ -1,5 +1,6 @@
 -- Closed cases, computed by antt, that hold vectors, rotations and transforms to values from outside, as bit patterns:
--- what rustc's code for x86-64 answers, and on every definition of B2Math an answer of both references. Assumes nothing.
+-- what rustc's code for x86-64 answers, and for every definition of B2Math an answer that Box2D 2.4.1 and the Rust agree
+-- on. Assumes nothing.
 use mathlib.Core.Path.{_≡_, refl}
 use Prim.Native.Nat.{ℕ}
 use lib.Dec.{T}
@@ -36,28 +37,32 @@ unfolding b2-dot add mul ofBits toBits
 dot-is-not-fused = refl
 
 length-of-one-seven : toBits binary32 (b2-normalize (vector 0x3f80_0000 0x40e0_0000) .length) ≡ 0x40e2_4630
-unfolding b2-normalize b2-length b2-length-squared b2-sqrt sqrt rounded-root whole-root root-digits size units add mul div lt ofBits toBits
+unfolding b2-normalize b2-length b2-length-squared b2-sqrt sqrt rounded-root whole-root root-digits size units
+    add mul div lt ofBits toBits
 length-of-one-seven = refl
 
 -- (1, 7): 3f7d6d54 if divided by the length
 normalized-by-the-reciprocal : toBits binary32 (b2-normalize (vector 0x3f80_0000 0x40e0_0000) .v .y) ≡ 0x3f7d_6d55
-unfolding b2-normalize b2-length b2-length-squared b2-sqrt sqrt rounded-root whole-root root-digits size units add mul div lt ofBits toBits
+unfolding b2-normalize b2-length b2-length-squared b2-sqrt sqrt rounded-root whole-root root-digits size units
+    add mul div lt ofBits toBits
 normalized-by-the-reciprocal = refl
 
 -- a length of 2^-24
 short-is-not-normalized : b2-normalize (vector 0x3380_0000 0)
     ≡ record { length = ofBits binary32 0; v = vector 0x3380_0000 0 }
-unfolding b2-normalize b2-length b2-length-squared b2-sqrt sqrt rounded-root whole-root root-digits size units add mul div lt ofBits toBits
+unfolding b2-normalize b2-length b2-length-squared b2-sqrt sqrt rounded-root whole-root root-digits size units
+    add mul div lt ofBits toBits
 short-is-not-normalized = refl
 
 -- a length of 2^-23
 epsilon-is-normalized : toBits binary32 (b2-normalize (vector 0x3400_0000 0) .length) ≡ 0x3400_0000
-unfolding b2-normalize b2-length b2-length-squared b2-sqrt sqrt rounded-root whole-root root-digits size units add mul div lt ofBits toBits
+unfolding b2-normalize b2-length b2-length-squared b2-sqrt sqrt rounded-root whole-root root-digits size units
+    add mul div lt ofBits toBits
 epsilon-is-normalized = refl
 
--- ---- Box2D 2.4.1 and the Rust on (-2.03, -0.88), (-3.66, -2.4), the rotations of sine 0.9 and cosine -0.3, and of sine 0.4
--- and cosine -0.77, and the placements of these at (3.01, -1.79) and (-3.26, -0.99). Of the dot and the cross product, each
--- way of fusing a product with the sum has other bits.
+-- ---- (-2.03, -0.88) and (-3.66, -2.4), the rotations of sine 0.9 and cosine -0.3 and of sine 0.4 and cosine -0.77, and
+-- the placements of these at (3.01, -1.79) and (-3.26, -0.99). The dot and the cross product have other bits where either
+-- product is fused with the sum.
 abbrev a : B2vec2
 a = vector 0xc001_eb85 0xbf61_47ae
 

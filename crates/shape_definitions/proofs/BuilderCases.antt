@@ -5,14 +5,16 @@ use mathlib.Core.Path.{_≡_, refl}
 use mathlib.Core.Bool.{true, false}
 use mathlib.Core.List.{List, [], _∷_}
 use Prim.Native.Nat.{ℕ}
-use lib.Ieee.{size, units, neg, add, sub, mul, div, le, lt, eq, ofBits}
+use lib.Ieee.{binary32, size, units, neg, add, sub, mul, div, le, lt, eq, ofBits}
 use Rattle.floats.specs.declared.b2_math.B2vec2.{B2vec2}
+use Rattle.rounding.specs.Literals.{half32}
 use Rattle.sqrt.specs.Sqrt.{root-digits, whole-root, rounded-root, sqrt}
+use Rattle.floats.specs.B2Common.{b2-linear-slop}
 use Rattle.floats.specs.B2Math.{b2-sqrt, b2-add, b2-sub, b2-scale, b2-dot, b2-cross, b2-cross-vec-by-scalar}
 use Rattle.floats.specs.B2Math.{b2-length-squared, b2-length, b2-distance-vec2-squared, b2-normalize}
 use Rattle.floats.specs.Ranges.{point-in-range}
 use Rattle.shape_definitions.specs.declared.b2_polygon_shape.B2polygonShape.{B2polygonShape}
-use Rattle.shape_definitions.specs.Outline.{too-near, welded, comes-before, start, closer, next, row}
+use Rattle.shape_definitions.specs.Outline.{weld-limit, too-near, welded, comes-before, start, closer, next, row}
 use Rattle.shape_definitions.specs.Outline.{edges, long-enough, fan}
 use Rattle.shape_definitions.specs.Polygon.{outline-of-corners, outline-of-welded}
 use Rattle.shape_definitions.specs.Polygon.{b2-polygon-shape-set, b2-polygon-shape-set-counted}
@@ -110,6 +112,16 @@ builder-cases old = record {
   first-three = λ d e f g h. refl;
   nine-counted = λ points. refl;
 }
+
+-- ---- (0.5 × 0.005) × (0.5 × 0.005)
+weld-limit-is : weld-limit ≡ mul binary32 (mul binary32 half32 b2-linear-slop) (mul binary32 half32 b2-linear-slop)
+unfolding mul ofBits
+weld-limit-is = refl
+
+-- ---- a candidate equal to the corner itself is replaced unseen, be it by an equal point; welding leaves none
+replaced-unseen : next (vector 0 0 ∷ vector 0 0 ∷ []) 0 ≡ 1
+unfolding next closer b2-sub b2-cross b2-length-squared add sub mul lt eq ofBits
+replaced-unseen = refl
 
 -- ---- edges of length 2^-23 and just above: welding leaves none so short, so the limit is asked of an edge alone
 edge-limit-is-too-short : long-enough (vector 0x3400_0000 0 ∷ []) ≡ false

@@ -42,9 +42,13 @@ arrow = vector 0 0 ∷ vector 0x4000_0000 0 ∷ vector 0x3f00_0000 0x3f00_0000 �
 abbrev with-straight-corner : List B2vec2
 with-straight-corner = vector 0 0 ∷ vector 0x3f00_0000 0 ∷ vector 0x3f80_0000 0 ∷ vector 0x3f80_0000 0x3f80_0000 ∷ []
 
--- three corners so nearly on a line that by rounding the last alone lies right of a face
+-- three corners so nearly on a line that, by rounding, the last lies right of the first face, and no other right of any
 abbrev last-is-right : List B2vec2
 last-is-right = vector 0xbe96_872c 0xbe20_902e ∷ vector 0x3cdd_2f1c 0x3c6b_edfb ∷ vector 0xbe19_999a 0xbda3_d70a ∷ []
+
+-- the same of the second and the last face, which runs to the first corner
+abbrev right-of-last : List B2vec2
+right-of-last = vector 0xbc89_a027 0xbc1d_4951 ∷ vector 0x3ee2_8241 0x3e81_6f00 ∷ vector 0xbe15_182a 0xbdaa_64c2 ∷ []
 
 module _ (vs ns : List B2vec2) where
   abbrev of-one : Float → B2vec2 → B2vec2 → B2vec2 → B2polygonShape
@@ -64,6 +68,7 @@ module _ (vs ns : List B2vec2) where
     pub not-convex : b2-polygon-shape-validate (of-four arrow) ≡ tested 0 false
     pub straight-corner : b2-polygon-shape-validate (of-four with-straight-corner) ≡ tested 0 true
     pub last-corner : b2-polygon-shape-validate (of-three last-is-right) ≡ tested 0 false
+    pub last-face : b2-polygon-shape-validate (of-three right-of-last) ≡ tested 0 false
     -- whatever else is out of range
     pub nine-corners : (radius : Float) (centroid : B2vec2)
         → b2-polygon-shape-validate (shape radius centroid 9 vs ns) ≡ tested 7 false
@@ -86,6 +91,7 @@ validate-cases vs ns = record {
   not-convex = refl;
   straight-corner = refl;
   last-corner = refl;
+  last-face = refl;
   nine-corners = λ radius centroid. refl;
   radius-below-zero = refl;
   centroid-not-a-number = refl;
