@@ -32,8 +32,8 @@ placed-normal xf poly i = b2-mul-rot-by-vec2 (xf .q) (point-at (poly .«m_normal
 unfoldable pub right-of : B2vec2 → B2vec2
 right-of e = vec2 (e .y) (neg (e .x))
 
--- ---- b2_compute_edge_separation: the side of the wall that the outline is farther on, side 0 with the normal and
--- side 1 with it reversed the axis of a side: the deepest corner along its normal, from v1
+-- ---- b2_compute_edge_separation: the side of the wall that the outline is farther out on, by its deepest corner
+-- along the side's normal, from v1. Side 0 has the wall's normal, side 1 has it reversed
 unfoldable pub side-axis : B2Transform → B2polygonShape → B2vec2 → B2vec2 → ℕ → Axis
 side-axis xf poly v1 normal side =
     face-a (least (λ i. b2-dot normal (b2-sub (placed-corner xf poly i) v1)) (poly .«m_count»)) normal side
@@ -43,9 +43,9 @@ b2-compute-edge-separation xf poly v1 normal1 =
     farthest (FaceA (neg b2-max-float) zero32 zero32 0)
     (side-axis xf poly v1 normal1 0 ∷ side-axis xf poly v1 (b2-neg normal1) 1 ∷ [])
 
--- ---- b2_compute_polygon_separation: the face of the outline that keeps both ends of the wall off most. Both
--- searches begin at no axis, the largest float negated; Box2D gives it the place -1, here 0, and no accepted input
--- leaves it there the axis of face i: its normal, reversed, and the lesser distance of the wall's ends
+-- ---- b2_compute_polygon_separation: the face of the outline that keeps both ends of the wall off most, by the lesser
+-- of their distances along the face's normal, reversed. Both searches begin at the largest float negated and a zero
+-- normal; Box2D gives that the place -1, here 0, and no accepted input is left with it
 unfoldable pub outline-axis : B2Transform → B2polygonShape → B2vec2 → B2vec2 → ℕ → Axis
 outline-axis xf poly v1 v2 i =
     let n = b2-neg (placed-normal xf poly i) in
