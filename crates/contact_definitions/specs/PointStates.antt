@@ -9,6 +9,7 @@ use lib.ListN.{length, getD}
 use Rattle.shapes.specs.Refusal.{accepted, count-out-of-range}
 use Rattle.contact_definitions.specs.declared.b2_collision.B2contactId.{B2contactId}
 use Rattle.contact_definitions.specs.declared.b2_collision.B2manifoldPoint.{B2manifoldPoint}
+use Rattle.contact_definitions.specs.declared.b2_collision.CountedIds.{CountedIds}
 use Rattle.contact_definitions.specs.declared.b2_collision.B2manifold.{B2manifold}
 use Rattle.contact_definitions.specs.declared.b2_collision.B2pointState.{B2pointState}
 use Rattle.contact_definitions.specs.declared.b2_collision.B2pointState.the-variants.{B2NullState, B2AddState}
@@ -38,6 +39,10 @@ id-among id (other ∷ others) = same-id other id || id-among id others
 -- the ids of the points that a manifold counts
 unfoldable pub counted-ids : B2manifold → List B2contactId
 counted-ids m = map (λ (p : B2manifoldPoint). p .id) (counted-points m)
+
+-- the same where the points are not kept
+unfoldable pub ids-in : CountedIds → List B2contactId
+ids-in ids = cond (eqb (ids .count) 0) [] (cond (eqb (ids .count) 1) (ids .first ∷ []) (ids .first ∷ ids .second ∷ []))
 
 -- the state of the point at a place of the ids `mine`: `alone` where the other manifold has no point of its id
 unfoldable pub point-state : B2pointState → List B2contactId → List B2contactId → ℕ → B2pointState
