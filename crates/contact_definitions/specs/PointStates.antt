@@ -1,0 +1,54 @@
+-- Point states, b2_get_point_states: a point persists where the other manifold counts one of its id; else an old one
+-- is removed and a new one added; places past the count are null. Refusal 7 for a count above 2 of either.
+-- Definitions only.
+use mathlib.Core.Bool.{Bool, false, cond, _&&_, _||_}
+use mathlib.Core.List.{List, [], _∷_}
+use Prim.Native.Nat.{ℕ}
+use lib.Dec.{ltb, eqb}
+use Rattle.shape_definitions.specs.Refusal.{accepted, count-out-of-range}
+use Rattle.contact_definitions.specs.declared.b2_collision.B2contactId.{B2contactId}
+use Rattle.contact_definitions.specs.declared.b2_collision.B2manifoldPoint.{B2manifoldPoint}
+use Rattle.contact_definitions.specs.declared.b2_collision.B2manifold.{B2manifold}
+use Rattle.contact_definitions.specs.declared.b2_collision.B2pointState.{B2pointState}
+use Rattle.contact_definitions.specs.declared.b2_collision.B2pointState.the-variants.{B2NullState, B2AddState}
+use Rattle.contact_definitions.specs.declared.b2_collision.B2pointState.the-variants.{B2PersistState}
+use Rattle.contact_definitions.specs.declared.b2_collision.B2pointState.the-variants.{B2RemoveState}
+use Rattle.contact_definitions.specs.declared.b2_collision.PointStates.{PointStates}
+use Rattle.contact_definitions.specs.declared.b2_collision.PointStatesAnswer.{PointStatesAnswer}
+use Rattle.contact_definitions.specs.Manifold.{manifold-point, counted-points}
+
+-- document 01's number of a state
+abbrev pub state-number : B2pointState → ℕ
+state-number B2NullState = 0
+state-number B2AddState = 1
+state-number B2PersistState = 2
+state-number B2RemoveState = 3
+
+unfoldable pub same-id : B2contactId → B2contactId → Bool
+same-id a b =
+    eqb (a .cf .«index_a») (b .cf .«index_a») && eqb (a .cf .«index_b») (b .cf .«index_b»)
+    && eqb (a .cf .«type_a») (b .cf .«type_a») && eqb (a .cf .«type_b») (b .cf .«type_b»)
+
+unfoldable pub id-among : B2contactId → List B2manifoldPoint → Bool
+id-among id [] = false
+id-among id (p ∷ ps) = same-id (p .id) id || id-among id ps
+
+-- the state of the point at a place, `alone` where the other manifold has no point of its id
+unfoldable pub point-state : B2pointState → B2manifold → B2manifold → ℕ → B2pointState
+point-state alone m other i =
+    cond (ltb i (m .«point_count»))
+    (cond (id-among (manifold-point m i .id) (counted-points other)) B2PersistState alone) B2NullState
+
+unfoldable pub b2-get-point-states : PointStates → B2manifold → B2manifold → PointStatesAnswer
+b2-get-point-states given m1 m2 =
+    cond (ltb 2 (m1 .«point_count») || ltb 2 (m2 .«point_count»))
+    (record { states = given; refusal = count-out-of-range })
+    (record {
+      states = record {
+        old0 = point-state B2RemoveState m1 m2 0;
+        old1 = point-state B2RemoveState m1 m2 1;
+        new0 = point-state B2AddState m2 m1 0;
+        new1 = point-state B2AddState m2 m1 1;
+      };
+      refusal = accepted;
+    })
