@@ -72,7 +72,8 @@ unfoldable pub primary-axis : Float → Axis → Axis → Axis
 primary-axis radius edge-axis polygon-axis =
     cond (lt radius (separation-of edge-axis)) (Apart (separation-of edge-axis))
     (cond (lt radius (separation-of polygon-axis)) (Apart (separation-of polygon-axis))
-    (cond (clearly-above (sub binary32 (separation-of edge-axis) radius) (sub binary32 (separation-of polygon-axis) radius))
+    (cond (clearly-above (sub binary32 (separation-of edge-axis) radius)
+    (sub binary32 (separation-of polygon-axis) radius))
     polygon-axis edge-axis))
 
 -- ---- the Gauss map of a one-sided wall with the direction edge1: a normal that leans to vertex 1 is held against

@@ -60,6 +60,13 @@ pub struct PointStates {
     pub new1: B2pointState,
 }
 
+// The ids of the points that a manifold counts, where the points themselves are not kept; those past the count are none.
+pub struct CountedIds {
+    pub count: usize,
+    pub first: B2contactId,
+    pub second: B2contactId,
+}
+
 // What a contact call answers: the manifold and 0, or the manifold that it was given and the refusal.
 pub struct ManifoldAnswer {
     pub manifold: B2manifold,
