@@ -6,6 +6,7 @@ use Prim.Native.Nat.{ℕ, zero, suc}
 use native.Mathlib.Omega.{arith}
 use lib.Dec.{eqb}
 use lib.ListN.{length, getD, take}
+use lib.Seq.{take-nil}
 use borrow.Author.Tests.{eq-eqb, ne-eqb, eqb-true, eqb-false}
 use Rattle.contact_definitions.specs.declared.b2_collision.B2contactId.{B2contactId}
 use Rattle.contact_definitions.specs.declared.b2_collision.B2manifold.{B2manifold}
@@ -101,7 +102,9 @@ by-count : (n : ℕ) (p0 p1 : B2manifoldPoint)
 unfolding ids-in
 by-count zero p0 p1 = refl
 by-count (suc zero) p0 p1 = refl
-by-count (suc (suc n)) p0 p1 = refl
+by-count (suc (suc n)) p0 p1 =
+    two-ids (record { count = suc (suc n); first = p0 .id; second = p1 .id }) (λ none. omega arith) (λ one. omega arith)
+    ∙ ap (λ (l : List B2manifoldPoint). p0 .id ∷ p1 .id ∷ map id-of l) (sym (take-nil n))
 
 pub ids-counted : (m : B2manifold) (p0 p1 d : B2manifoldPoint) → length (m .points) ≡ 2 → p0 ≡ getD (m .points) 0 d → p1 ≡ getD (m .points) 1 d
     → ids-in (record { count = m .«point_count»; first = p0 .id; second = p1 .id }) ≡ counted-ids m
