@@ -45,7 +45,13 @@ pub fn cut(a: B2clipVertex, b: B2clipVertex, d0: f32, d1: f32, index: usize) -> 
 
 // What is left of the segment vs, over the places of out. An end that is left on the one side and a crossing are two,
 // never three, and where no end is left there is no crossing.
-pub fn clip_ends(out: [B2clipVertex; 2], vs: [B2clipVertex; 2], n: B2vec2, offset: f32, index: usize) -> Clip
+pub fn clip_ends(
+    out: [B2clipVertex; 2],
+    vs: [B2clipVertex; 2],
+    n: B2vec2,
+    offset: f32,
+    index: usize,
+) -> Clip
     ensures { λ r. ⌜ r ≡ left-over (clipped vs n offset index) out ⌝ }
 {
     let a = vs[0];
@@ -54,7 +60,10 @@ pub fn clip_ends(out: [B2clipVertex; 2], vs: [B2clipVertex; 2], n: B2vec2, offse
     let d1 = clip_distance(n, offset, b);
     if d0 <= 0.0 {
         if d1 <= 0.0 {
-            return Clip { out: [a, b], count: 2 };
+            return Clip {
+                out: [a, b],
+                count: 2,
+            };
         }
         if d0 * d1 < 0.0 {
             return Clip {
@@ -63,7 +72,10 @@ pub fn clip_ends(out: [B2clipVertex; 2], vs: [B2clipVertex; 2], n: B2vec2, offse
             };
         }
         let o = out[1];
-        return Clip { out: [a, o], count: 1 };
+        return Clip {
+            out: [a, o],
+            count: 1,
+        };
     }
     if d1 <= 0.0 {
         if d0 * d1 < 0.0 {
@@ -73,7 +85,10 @@ pub fn clip_ends(out: [B2clipVertex; 2], vs: [B2clipVertex; 2], n: B2vec2, offse
             };
         }
         let o = out[1];
-        return Clip { out: [b, o], count: 1 };
+        return Clip {
+            out: [b, o],
+            count: 1,
+        };
     }
     Clip { out, count: 0 }
 }

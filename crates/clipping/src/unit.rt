@@ -11,7 +11,11 @@ pub fn unit_scale(a: B2vec2) -> f32
     ensures { λ r. ⌜ r ≡ unit-scale a ⌝ }
 {
     let length = b2_length(a);
-    if length < B2_EPSILON { 1.0 } else { 1.0 / length }
+    if length < B2_EPSILON {
+        1.0
+    } else {
+        1.0 / length
+    }
 }
 
 // What b2_normalize leaves in a.

@@ -1,66 +1,120 @@
+-- By the tests of the two distances: what is left, over the places. Assumes nothing.
+use mathlib.Core.Path.{refl}
+use Rattle.contact_definitions.proofs.Clipping.{both-left, first-and-crossing, first-left, second-and-crossing, second-left, none-left}
+use Rattle.clipping.proofs.Ends.{two-left, one-left, nothing-left}
 use borrow.Author.Needs.{needs}
 use Rattle.clipping.proofs.clip.clip_ends.Statement.{statement}
 use Rattle.clipping.proofs.clip.clip_ends.Tie as tie
-use Rattle.clipping.proofs.clip.clip_ends.Reads as reads
-use Rattle.clipping.proofs.clip.clip_ends.Lts as lts
-use Rattle.clipping.proofs.clip.clip_distance.Reads as clip-distance-reads
-use Rattle.clipping.proofs.clip.cut.Reads as cut-reads
 
--- src/clip.rt:51:13
 array-copy-out-a : tie.Need-array-copy-out-a
 array-copy-out-a c = search needs
 
--- src/clip.rt:52:13
 array-copy-out-b : tie.Need-array-copy-out-b
 array-copy-out-b c = search needs
 
--- src/clip.rt:53:9
 clip-distance-requires : tie.Need-clip-distance-requires
 clip-distance-requires c κs = search needs
 
--- src/clip.rt:54:9
 clip-distance-requires-2 : tie.Need-clip-distance-requires-2
 clip-distance-requires-2 c κs = search needs
 
--- src/clip.rt:57:13
 returns : tie.Need-returns
-returns c = ?
+returns c =
+    let if1′ = c .before .if1 in
+    let clip-distance2′ = c .before .before .clip-distance2 in
+    let clip-distance′ = c .before .before .before .clip-distance in
+    let args′ = c .before .before .before .before .before .before .args in
+    let good′ = c .before .before .before .before .before .before .good in
+    let vs = args′ .t2 in
+    let vs-two = good′ .1 .0 .1 .0 .1 in
+    let out-two = good′ .0 .1 .0 .1 in
+    two-left vs _ vs-two (args′ .n) (args′ .offset) (args′ .index) _ _ (clip-distance′ .ensures) (clip-distance2′ .ensures)
+    (args′ .t1) out-two _ _ _ refl (both-left _ _ _ _ _ (if1′ .taken) (c .if2 .taken))
 
--- src/clip.rt:61:26
 cut-requires : tie.Need-cut-requires
 cut-requires c κs = search needs
 
--- src/clip.rt:60:13
 returns-2 : tie.Need-returns-2
-returns-2 c = ?
+returns-2 c =
+    let if3′ = c .before .if3 in
+    let if2′ = c .before .before .if2 in
+    let if1′ = c .before .before .before .if1 in
+    let clip-distance2′ = c .before .before .before .before .clip-distance2 in
+    let clip-distance′ = c .before .before .before .before .before .clip-distance in
+    let args′ = c .before .before .before .before .before .before .before .before .args in
+    let good′ = c .before .before .before .before .before .before .before .before .good in
+    let vs = args′ .t2 in
+    let vs-two = good′ .1 .0 .1 .0 .1 in
+    let out-two = good′ .0 .1 .0 .1 in
+    two-left vs _ vs-two (args′ .n) (args′ .offset) (args′ .index) _ _ (clip-distance′ .ensures) (clip-distance2′ .ensures)
+    (args′ .t1) out-two _ _ _ (c .cut .ensures) (first-and-crossing _ _ _ _ _ (if1′ .taken) (if2′ .left) (if3′ .taken))
 
--- src/clip.rt:65:17
 array-copy-out-o : tie.Need-array-copy-out-o
 array-copy-out-o c = search needs
 
--- src/clip.rt:66:9
 returns-3 : tie.Need-returns-3
-returns-3 c = ?
+returns-3 c =
+    let if3′ = c .before .if3 in
+    let if2′ = c .before .before .if2 in
+    let if1′ = c .before .before .before .if1 in
+    let clip-distance2′ = c .before .before .before .before .clip-distance2 in
+    let clip-distance′ = c .before .before .before .before .before .clip-distance in
+    let args′ = c .before .before .before .before .before .before .before .before .args in
+    let good′ = c .before .before .before .before .before .before .before .before .good in
+    let vs = args′ .t2 in
+    let vs-two = good′ .1 .0 .1 .0 .1 in
+    let out-two = good′ .0 .1 .0 .1 in
+    one-left vs _ vs-two (args′ .n) (args′ .offset) (args′ .index) _ _ (clip-distance′ .ensures) (clip-distance2′ .ensures)
+    (args′ .t1) out-two _ _ (first-left _ _ _ _ _ (if1′ .taken) (if2′ .left) (if3′ .left))
 
--- src/clip.rt:71:26
 cut-requires-2 : tie.Need-cut-requires-2
 cut-requires-2 c κs = search needs
 
--- src/clip.rt:70:13
 returns-4 : tie.Need-returns-4
-returns-4 c = ?
+returns-4 c =
+    let if5′ = c .before .if5 in
+    let if4′ = c .before .before .if4 in
+    let if1′ = c .before .before .before .if1 in
+    let clip-distance2′ = c .before .before .before .before .clip-distance2 in
+    let clip-distance′ = c .before .before .before .before .before .clip-distance in
+    let args′ = c .before .before .before .before .before .before .before .before .args in
+    let good′ = c .before .before .before .before .before .before .before .before .good in
+    let vs = args′ .t2 in
+    let vs-two = good′ .1 .0 .1 .0 .1 in
+    let out-two = good′ .0 .1 .0 .1 in
+    two-left vs _ vs-two (args′ .n) (args′ .offset) (args′ .index) _ _ (clip-distance′ .ensures) (clip-distance2′ .ensures)
+    (args′ .t1) out-two _ _ _ (c .cut2 .ensures) (second-and-crossing _ _ _ _ _ (if1′ .left) (if4′ .taken) (if5′ .taken))
 
--- src/clip.rt:75:17
 array-copy-out-o-2 : tie.Need-array-copy-out-o-2
 array-copy-out-o-2 c = search needs
 
--- src/clip.rt:76:9
 returns-5 : tie.Need-returns-5
-returns-5 c = ?
+returns-5 c =
+    let if5′ = c .before .if5 in
+    let if4′ = c .before .before .if4 in
+    let if1′ = c .before .before .before .if1 in
+    let clip-distance2′ = c .before .before .before .before .clip-distance2 in
+    let clip-distance′ = c .before .before .before .before .before .clip-distance in
+    let args′ = c .before .before .before .before .before .before .before .before .args in
+    let good′ = c .before .before .before .before .before .before .before .before .good in
+    let vs = args′ .t2 in
+    let vs-two = good′ .1 .0 .1 .0 .1 in
+    let out-two = good′ .0 .1 .0 .1 in
+    one-left vs _ vs-two (args′ .n) (args′ .offset) (args′ .index) _ _ (clip-distance′ .ensures) (clip-distance2′ .ensures)
+    (args′ .t1) out-two _ _ (second-left _ _ _ _ _ (if1′ .left) (if4′ .taken) (if5′ .left))
 
--- src/clip.rt:48:1
 returns-6 : tie.Need-returns-6
-returns-6 c = ?
+returns-6 c =
+    let if1′ = c .before .if1 in
+    let clip-distance2′ = c .before .before .clip-distance2 in
+    let clip-distance′ = c .before .before .before .clip-distance in
+    let args′ = c .before .before .before .before .before .before .args in
+    let good′ = c .before .before .before .before .before .before .good in
+    let vs = args′ .t2 in
+    let vs-two = good′ .1 .0 .1 .0 .1 in
+    let out-two = good′ .0 .1 .0 .1 in
+    nothing-left vs _ vs-two (args′ .n) (args′ .offset) (args′ .index) _ _ (clip-distance′ .ensures) (clip-distance2′ .ensures)
+    (args′ .t1) out-two (none-left _ _ _ _ _ (if1′ .left) (c .if4 .left))
 
 pub clip-ends-spec : {M : Type 1} → statement M
 clip-ends-spec =

@@ -1,11 +1,12 @@
+-- Place and id are new, the impulses kept. Assumes nothing.
+use mathlib.Core.Path.{refl}
+use Rattle.contact_definitions.specs.Manifold.{with-local-point}
 use Rattle.clipping.proofs.manifolds.point_of.Statement.{statement}
 use Rattle.clipping.proofs.manifolds.point_of.Tie as tie
-use Rattle.clipping.proofs.manifolds.point_of.Reads as reads
-use Rattle.clipping.proofs.manifolds.point_of.Lts as lts
 
--- src/manifolds.rt:133:1
 returns : tie.Need-returns
-returns c = ?
+unfolding with-local-point
+returns c = refl
 
 pub point-of-spec : {M : Type 1} → statement M
 point-of-spec = tie.close (tie.spec returns)

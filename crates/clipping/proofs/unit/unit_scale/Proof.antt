@@ -1,21 +1,24 @@
+-- The factor by the test of the length. Assumes nothing.
+use mathlib.Core.Path.{sym}
+use Rattle.clipping.specs.Unit.{unit-scale}
 use borrow.Author.Needs.{needs}
 use Rattle.clipping.proofs.unit.unit_scale.Statement.{statement}
 use Rattle.clipping.proofs.unit.unit_scale.Tie as tie
-use Rattle.clipping.proofs.unit.unit_scale.Reads as reads
-use Rattle.clipping.proofs.unit.unit_scale.Lts as lts
-use Rattle.floats.proofs.b2_math.b2_length.Reads as b2-length-reads
 
--- src/unit.rt:13:9
 b2-length-requires : tie.Need-b2-length-requires
 b2-length-requires c κs = search needs
 
--- src/unit.rt:10:1
 returns : tie.Need-returns
-returns c = ?
+unfolding unit-scale
+returns c =
+    let b2-length′ = c .before .b2-length in
+    simp (sym (b2-length′ .ensures), c .if1 .taken)
 
--- src/unit.rt:10:1
 returns-2 : tie.Need-returns-2
-returns-2 c = ?
+unfolding unit-scale
+returns-2 c =
+    let b2-length′ = c .before .b2-length in
+    simp (sym (b2-length′ .ensures), c .if1 .left)
 
 pub unit-scale-spec : {M : Type 1} → statement M
 unit-scale-spec = tie.close (tie.spec b2-length-requires returns returns-2)
