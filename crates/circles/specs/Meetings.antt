@@ -1,7 +1,7 @@
 -- What the parts of outline against circle hand to each other: the face that the circle's centre is farthest out of, and where the circle
 -- meets the outline. Definitions only.
 use mathlib.Core.Path.{_≡_}
-use mathlib.Core.Bool.{Bool, false}
+use mathlib.Core.Bool.{Bool, false, cond}
 use mathlib.Core.List.{List}
 use Prim.Native.Nat.{ℕ}
 use lib.Ieee.{Float, lt}
@@ -47,3 +47,13 @@ pub record FaceAt (vs ns : List B2vec2) (count : ℕ) (best : Best) (r : Side) :
 pub record SideOf (vs ns : List B2vec2) (count : ℕ) (c : B2vec2) (radius : Float) (r : Side) : Type 0 where
   pub outside-is : r .outside ≡ some-below (λ i. lt radius (out-of-face vs ns c i)) count
   pub face : r .outside ≡ false → FaceAt vs ns count (first-greatest (out-of-face vs ns c) count) r
+
+-- r is where the circle meets the outline of the first count corners
+abbrev pub AtOutline : List B2vec2 → List B2vec2 → ℕ → B2vec2 → Float → Meeting → Type 0
+AtOutline vs ns count c radius r =
+    (old : B2manifold) (centre : B2vec2)
+    → met r old centre
+    ≡ cond (some-below (λ i. lt radius (out-of-face vs ns c i)) count) old
+    (let best = first-greatest (out-of-face vs ns c) count in
+    circle-at-face old (point-at vs (best .place)) (point-at vs (place-after count (best .place))) (point-at ns (best .place))
+    (best .value) c radius centre)

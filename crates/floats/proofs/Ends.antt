@@ -14,23 +14,7 @@ use Rattle.floats.specs.declared.b2_math.B2vec2.{B2vec2}
 use Rattle.rounding.specs.Literals.{zero32}
 use Rattle.floats.specs.B2Math.{b2-sub, b2-cross}
 use Rattle.rounding.proofs.Commutes.{mul-commutes}
-
--- a zero of either sign, or NaN
-data Null : Float → Type 0 where
-  null-nan : Null nan
-  null-zero : (s : Bool) (e : ℤ) → Null (fin s zero e)
-
-null-not-below : {x : Float} → Null x → lt x zero32 ≡ false
-unfolding lt ofBits
-null-not-below null-nan = refl
-null-not-below (null-zero true e) = simp zero-mul
-null-not-below (null-zero false e) = simp zero-mul
-
-round-null : (s : Bool) (w c : ℕ) → w ≡ 0 → 0 < c → Null (round binary32 s w c)
-unfolding round
-round-null s w c w-zero c-pos =
-    let one : round binary32 s 0 c ≡ fin s zero (pos zero) = round-same binary32 s 0 c 0 1 c-pos (omega arith) (omega arith) in
-    subst Null (sym (ap (λ (n : ℕ). round binary32 s n c) w-zero ∙ one)) (null-zero s (pos zero))
+use Rattle.rounding.proofs.Null.{Null, null-nan, null-zero, null-not-below, round-null, mul-null}
 
 -- ---- a number less itself
 sum-itself : (s : Bool) (a c : ℕ) → 0 < c → Null (sum binary32 s a (not s) a c)
@@ -45,16 +29,7 @@ sub-itself (inf true) = null-nan
 sub-itself (inf false) = null-nan
 sub-itself (fin s m e) = sum-itself s (m * up e * down e) (down e * down e) (mul-pos (down-pos e) (down-pos e))
 
--- ---- products and differences
-mul-null : (x : Float) {y : Float} → Null y → Null (mul binary32 x y)
-unfolding mul
-mul-null nan y-null = null-nan
-mul-null (inf s) null-nan = null-nan
-mul-null (inf s) (null-zero t d) = null-nan
-mul-null (fin s m e) null-nan = null-nan
-mul-null (fin s m e) (null-zero t d) =
-    round-null (unlike s t) (m * up e * (0 * up d)) (down e * down d) (rw zero-mul (mul-zero (m * up e))) (mul-pos (down-pos e) (down-pos d))
-
+-- ---- differences
 sum-null : (s t : Bool) (c : ℕ) → 0 < c → Null (sum binary32 s 0 t 0 c)
 unfolding sum
 sum-null true true c c-pos = round-null true 0 c refl c-pos

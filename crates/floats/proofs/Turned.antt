@@ -25,6 +25,7 @@ use Rattle.rounding.proofs.Dyadic.{Dyadic}
 use Rattle.rounding.proofs.Comparison.{lt-val, val-not-lt}
 use Rattle.rounding.proofs.Commutes.{add-commutes}
 use Rattle.rounding.proofs.Literals.{bits-dyadic, one-f32, one-val}
+use Rattle.rounding.proofs.TimesOne.{mag-same}
 use Rattle.rounding.proofs.UnitFactors.{one-mul-exact, minus-one-mul-exact}
 use Rattle.sqrt.proofs.SqrtLaw.{sqrt-law}
 use Rattle.sqrt.proofs.SqrtOrder.{sqrt-low}
@@ -55,11 +56,6 @@ square-same {x = fin s m e} {y = fin t n d} x-f32 y-f32 same =
     ∙ round-same binary32 false (m * up e * (m * up e)) (down e * down e) (n * up d * (n * up d)) (down d * down d)
     (mul-pos (down-pos e) (down-pos e)) (mul-pos (down-pos d) (down-pos d)) (same-square (m * up e) (down e) (n * up d) (down d) fraction)
     ∙ ap (λ (u : Bool). round binary32 u (n * up d * (n * up d)) (down d * down d)) (sym (unlike-itself t))
-
-mag-same : (x y : Float) → val x ≐ val y → mag x ≡ mag y
-mag-same x y same =
-    le-antisymm (mag-abs x (mag y) (abs-same (val y) (val x) (mag y) (same-sym (val x) (val y) same) (abs-mag y)))
-    (mag-abs y (mag x) (abs-same (val x) (val y) (mag x) same (abs-mag x)))
 
 -- ---- times 1 and times -1, squared
 same-of-equal : (a b : Z) → a ≡ b → a ≐ b

@@ -18,6 +18,9 @@ pub mod Doubling
 pub mod Literals
 pub mod UnitFactors
 pub mod Sign
+pub mod TimesOne
+pub mod Null
+pub mod ProductSign
 pub mod Quotient
 pub mod Reciprocal
 pub mod Dot
