@@ -4,8 +4,8 @@ ghost use Prim.Native.Nat.{_<_, _≤_};
 use floats::b2_math::B2vec2;
 use floats::bits;
 use libc::STDOUT_FILENO;
+use shape_definitions::b2_polygon_shape::B2polygonShape;
 use shapes::b2_polygon_shape;
-use shapes::b2_polygon_shape::B2polygonShape;
 
 mod outlines;
 

@@ -4,18 +4,17 @@ use mathlib.Core.Path.{_≡_, refl}
 use mathlib.Core.List.{[], _∷_, List}
 use Prim.Native.Nat.{ℕ}
 use lib.Ieee.{neg, add, sub, mul, div, le, lt, eq, ofBits, nan}
+use Rattle.rounding.specs.Literals.{zero32}
 use Rattle.floats.specs.declared.b2_math.B2vec2.{B2vec2}
-use Rattle.floats.specs.B2Common.{zero32}
 use Rattle.floats.specs.B2Math.{b2-add, b2-sub, b2-scale, b2-dot, vec2}
 use Rattle.floats.specs.Ranges.{contact-number-in-range, contact-point-in-range}
-use Rattle.shapes.specs.Refusal.{accepted}
+use Rattle.shape_definitions.specs.Refusal.{accepted, contact-out-of-range}
 use Rattle.contact_definitions.specs.declared.b2_collision.B2clipVertex.{B2clipVertex}
 use Rattle.contact_definitions.specs.declared.b2_collision.B2contactId.{B2contactId}
 use Rattle.contact_definitions.specs.declared.b2_collision.ClipAnswer.{ClipAnswer}
 use Rattle.contact_definitions.specs.Clip.{clip-distance, crossing, clipped-by, clipped, clip-in-range}
 use Rattle.contact_definitions.specs.Clip.{b2-clip-segment-to-line}
 use Rattle.contact_definitions.specs.Manifold.{contact-id}
-use Rattle.contact_definitions.specs.Refusal.{contact-out-of-range}
 use Rattle.contact_definitions.proofs.Numbers.{+1, +10, +11, +12, +2, +3, +9, -1, -1¼, -2, -¼, -½, -¾, ¼, ½}
 use Rattle.contact_definitions.proofs.Given.{eight-tenths, float, given, six-tenths}
 

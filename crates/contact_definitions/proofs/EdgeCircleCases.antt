@@ -2,14 +2,14 @@
 -- are those of Box2D 2.4.1 (Debian's library) and of the Rust. Assumes nothing.
 use mathlib.Core.Path.{_≡_, refl}
 use lib.Ieee.{neg, add, sub, mul, div, le, lt, eq, ofBits, nan}
-use Rattle.floats.specs.B2Common.{zero32}
+use Rattle.rounding.specs.Literals.{zero32}
+use Rattle.sqrt.specs.Sqrt.{root-digits, whole-root, rounded-root, sqrt}
 use Rattle.floats.specs.B2Math.{b2-sqrt, b2-add, b2-sub, b2-neg, b2-scale, b2-dot, b2-length-squared, b2-length}
 use Rattle.floats.specs.B2Math.{b2-distance-vec2-squared, b2-normalize, b2-mul-t-rot-by-vec2}
 use Rattle.floats.specs.B2Math.{b2-mul-transform-by-vec2, b2-mul-t-transform-by-vec2, vec2}
 use Rattle.floats.specs.Ranges.{point-in-range, radius-in-range, rotation-in-range, transform-in-range}
-use Rattle.floats.specs.Sqrt.{root-digits, whole-root, rounded-root, sqrt}
-use Rattle.shapes.specs.Outline.{origin}
-use Rattle.shapes.specs.Refusal.{placement-out-of-range, shape-out-of-range}
+use Rattle.shape_definitions.specs.Outline.{origin}
+use Rattle.shape_definitions.specs.Refusal.{placement-out-of-range, shape-out-of-range, wall-too-short}
 use Rattle.contact_definitions.specs.declared.b2_collision.B2manifoldType.the-variants.{ECircles, EFaceA}
 use Rattle.contact_definitions.specs.declared.b2_collision.B2manifoldType.the-variants.{EFaceB}
 use Rattle.contact_definitions.specs.B2CollideCircle.{circle-in-range, farther}
@@ -18,7 +18,6 @@ use Rattle.contact_definitions.specs.B2CollideEdge.{over-after, edge-cir
 use Rattle.contact_definitions.specs.EdgeAxis.{right-of}
 use Rattle.contact_definitions.specs.Manifold.{with-local-point, with-count, with-one-point, contact-id}
 use Rattle.contact_definitions.specs.Manifold.{manifold-accepted, manifold-refused}
-use Rattle.contact_definitions.specs.Refusal.{wall-too-short}
 use Rattle.contact_definitions.proofs.Numbers.{+1, +2, -1, -1¼, -1½, -¼, -½, -¾, 1¼, 1½, 2¾, ¼, ½, ¾}
 use Rattle.contact_definitions.proofs.Given.{after, circle, eight-tenths, first, float, given, kept-second}
 use Rattle.contact_definitions.proofs.Given.{moved, no-point, one-sided, placed, six-tenths, two-sided}

@@ -4,15 +4,16 @@ use mathlib.Core.Bool.{true, false}
 use mathlib.Core.List.{List, [], _∷_}
 use Prim.Native.Nat.{ℕ}
 use lib.Ieee.{Float, nan, binary32, ofBits}
+use Rattle.rounding.specs.Literals.{zero32, one32}
 use Rattle.floats.specs.declared.b2_math.B2vec2.{B2vec2}
 use Rattle.floats.specs.declared.b2_math.B2Transform.{B2Transform}
-use Rattle.floats.specs.B2Common.{zero32, one32, b2-polygon-radius}
+use Rattle.floats.specs.B2Common.{b2-polygon-radius}
 use Rattle.floats.specs.B2Math.{vec2, rot}
-use Rattle.shapes.specs.declared.b2_circle_shape.B2circleShape.{B2circleShape}
-use Rattle.shapes.specs.declared.b2_polygon_shape.B2polygonShape.{B2polygonShape}
-use Rattle.shapes.specs.declared.b2_edge_shape.B2edgeShape.{B2edgeShape}
-use Rattle.shapes.specs.Outline.{origin}
-use Rattle.shapes.specs.Boxes.{box-corners, box-normals}
+use Rattle.shape_definitions.specs.declared.b2_circle_shape.B2circleShape.{B2circleShape}
+use Rattle.shape_definitions.specs.declared.b2_polygon_shape.B2polygonShape.{B2polygonShape}
+use Rattle.shape_definitions.specs.declared.b2_edge_shape.B2edgeShape.{B2edgeShape}
+use Rattle.shape_definitions.specs.Outline.{origin}
+use Rattle.shape_definitions.specs.Boxes.{box-corners, box-normals}
 use Rattle.contact_definitions.specs.declared.b2_collision.B2contactId.{B2contactId}
 use Rattle.contact_definitions.specs.declared.b2_collision.B2manifoldPoint.{B2manifoldPoint}
 use Rattle.contact_definitions.specs.declared.b2_collision.B2manifoldType.{B2manifoldType}

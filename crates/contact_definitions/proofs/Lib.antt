@@ -1,3 +1,5 @@
+pub mod Searches
+pub mod Clipping
 pub mod Numbers
 pub mod Given
 pub mod CircleCases

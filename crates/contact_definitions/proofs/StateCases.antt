@@ -5,7 +5,7 @@ use mathlib.Core.List.{[], _∷_}
 use Prim.Native.Nat.{ℕ}
 use lib.Ieee.{ofBits}
 use Rattle.floats.specs.B2Math.{vec2}
-use Rattle.shapes.specs.Refusal.{accepted, count-out-of-range}
+use Rattle.shape_definitions.specs.Refusal.{accepted, count-out-of-range}
 use Rattle.contact_definitions.specs.declared.b2_collision.B2contactId.{B2contactId}
 use Rattle.contact_definitions.specs.declared.b2_collision.B2manifold.{B2manifold}
 use Rattle.contact_definitions.specs.declared.b2_collision.B2manifoldType.the-variants.{ECircles, EFaceA}

@@ -2,19 +2,18 @@
 -- of Box2D 2.4.1 (Debian's library) and of the Rust. Assumes nothing.
 use mathlib.Core.Path.{_≡_, refl}
 use lib.Ieee.{neg, add, sub, mul, div, le, lt, eq, ofBits, nan}
-use Rattle.floats.specs.B2Common.{zero32}
+use Rattle.rounding.specs.Literals.{zero32}
+use Rattle.sqrt.specs.Sqrt.{root-digits, whole-root, rounded-root, sqrt}
 use Rattle.floats.specs.B2Math.{b2-sqrt, b2-add, b2-sub, b2-neg, b2-scale, b2-dot, b2-length-squared, b2-length}
 use Rattle.floats.specs.B2Math.{b2-distance-vec2-squared, b2-normalize, b2-mul-rot-by-vec2, b2-mul-transform-by-vec2}
 use Rattle.floats.specs.B2Math.{vec2}
 use Rattle.floats.specs.Ranges.{point-in-range, radius-in-range, rotation-in-range, transform-in-range}
 use Rattle.floats.specs.Ranges.{local-normal-in-range, contact-point-in-range}
-use Rattle.floats.specs.Sqrt.{root-digits, whole-root, rounded-root, sqrt}
-use Rattle.shapes.specs.Outline.{origin}
-use Rattle.shapes.specs.Refusal.{count-out-of-range, placement-out-of-range}
+use Rattle.shape_definitions.specs.Outline.{origin}
+use Rattle.shape_definitions.specs.Refusal.{contact-out-of-range, count-out-of-range, placement-out-of-range}
 use Rattle.contact_definitions.specs.declared.b2_collision.B2manifoldType.the-variants.{ECircles, EFaceA}
 use Rattle.contact_definitions.specs.declared.b2_collision.B2manifoldType.the-variants.{EFaceB}
 use Rattle.contact_definitions.specs.Manifold.{counted-points, contact-id}
-use Rattle.contact_definitions.specs.Refusal.{contact-out-of-range}
 use Rattle.contact_definitions.specs.WorldManifold.{on-face, on-other, plane-separation, plane-middle}
 use Rattle.contact_definitions.specs.WorldManifold.{carried-points, world-of-face, circles-normal}
 use Rattle.contact_definitions.specs.WorldManifold.{world-of-circles, points-in-range, manifold-in-range}

@@ -6,19 +6,19 @@ use Prim.Native.Nat.{ℕ}
 use lib.Ieee.{Float, binary32, add, div, le, lt}
 use Rattle.floats.specs.declared.b2_math.B2vec2.{B2vec2}
 use Rattle.floats.specs.declared.b2_math.B2Transform.{B2Transform}
-use Rattle.floats.specs.B2Common.{zero32, one32}
+use Rattle.rounding.specs.Literals.{zero32, one32}
 use Rattle.floats.specs.B2Math.{b2-add, b2-sub, b2-neg, b2-scale, b2-dot, b2-normalize}
 use Rattle.floats.specs.B2Math.{b2-mul-transform-by-vec2, b2-mul-t-transform-by-vec2, b2-mul-t-transform}
 use Rattle.floats.specs.Ranges.{point-in-range, radius-in-range}
-use Rattle.shapes.specs.declared.b2_circle_shape.B2circleShape.{B2circleShape}
-use Rattle.shapes.specs.declared.b2_polygon_shape.B2polygonShape.{B2polygonShape}
-use Rattle.shapes.specs.declared.b2_edge_shape.B2edgeShape.{B2edgeShape}
-use Rattle.shapes.specs.Outline.{origin}
-use Rattle.shapes.specs.Validate.{polygon-in-range}
+use Rattle.shape_definitions.specs.declared.b2_circle_shape.B2circleShape.{B2circleShape}
+use Rattle.shape_definitions.specs.declared.b2_polygon_shape.B2polygonShape.{B2polygonShape}
+use Rattle.shape_definitions.specs.declared.b2_edge_shape.B2edgeShape.{B2edgeShape}
+use Rattle.shape_definitions.specs.Outline.{origin}
+use Rattle.shape_definitions.specs.Validate.{polygon-in-range}
 use Rattle.contact_definitions.specs.declared.b2_collision.B2manifold.{B2manifold}
 use Rattle.contact_definitions.specs.declared.b2_collision.B2manifoldType.the-variants.{ECircles, EFaceA}
 use Rattle.contact_definitions.specs.declared.b2_collision.ManifoldAnswer.{ManifoldAnswer}
-use Rattle.contact_definitions.specs.Refusal.{wall-too-short}
+use Rattle.shape_definitions.specs.Refusal.{wall-too-short}
 use Rattle.contact_definitions.specs.Manifold.{vertex-feature, face-feature, contact-id}
 use Rattle.contact_definitions.specs.Manifold.{with-count, with-one-point, manifold-refused, manifold-accepted}
 use Rattle.contact_definitions.specs.Manifold.{miscounted, unless-miscounted, where-in-range}

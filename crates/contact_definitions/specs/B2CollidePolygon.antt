@@ -8,14 +8,14 @@ use Prim.Native.Nat.{ℕ}
 use lib.Ieee.{Float, binary32, ofBits, neg, add, sub, le, lt}
 use Rattle.floats.specs.declared.b2_math.B2vec2.{B2vec2}
 use Rattle.floats.specs.declared.b2_math.B2Transform.{B2Transform}
-use Rattle.floats.specs.B2Common.{half32, one32}
+use Rattle.rounding.specs.Literals.{half32, one32}
 use Rattle.floats.specs.B2Math.{b2-add, b2-sub, b2-neg, b2-scale, b2-dot, b2-cross-vec-by-scalar, b2-normalize}
 use Rattle.floats.specs.B2Math.{b2-mul-rot-by-vec2, b2-mul-t-rot-by-vec2, b2-mul-transform-by-vec2}
 use Rattle.floats.specs.B2Math.{b2-mul-t-transform-by-vec2}
 use Rattle.floats.specs.B2Math.{b2-mul-t-transform}
-use Rattle.shapes.specs.declared.b2_polygon_shape.B2polygonShape.{B2polygonShape}
-use Rattle.shapes.specs.Outline.{point-at, place-after}
-use Rattle.shapes.specs.Validate.{polygon-in-range}
+use Rattle.shape_definitions.specs.declared.b2_polygon_shape.B2polygonShape.{B2polygonShape}
+use Rattle.shape_definitions.specs.Outline.{point-at, place-after}
+use Rattle.shape_definitions.specs.Validate.{polygon-in-range}
 use Rattle.contact_definitions.specs.declared.axis.Best.{Best}
 use Rattle.contact_definitions.specs.declared.axis.Axis.{Axis}
 use Rattle.contact_definitions.specs.declared.axis.Axis.the-variants.{Apart, FaceA, FaceB}

@@ -8,13 +8,13 @@ use lib.ListN.{length}
 use lib.Ieee.{Float, binary32, sub, mul, div, le, lt}
 use Rattle.algebra.specs.Buffer.{over}
 use Rattle.floats.specs.declared.b2_math.B2vec2.{B2vec2}
-use Rattle.floats.specs.B2Common.{zero32}
+use Rattle.rounding.specs.Literals.{zero32}
 use Rattle.floats.specs.B2Math.{b2-add, b2-sub, b2-scale, b2-dot}
 use Rattle.floats.specs.Ranges.{contact-number-in-range, contact-point-in-range}
-use Rattle.shapes.specs.Refusal.{accepted}
+use Rattle.shape_definitions.specs.Refusal.{accepted}
 use Rattle.contact_definitions.specs.declared.b2_collision.B2clipVertex.{B2clipVertex}
 use Rattle.contact_definitions.specs.declared.b2_collision.ClipAnswer.{ClipAnswer}
-use Rattle.contact_definitions.specs.Refusal.{contact-out-of-range}
+use Rattle.shape_definitions.specs.Refusal.{contact-out-of-range}
 use Rattle.contact_definitions.specs.Manifold.{vertex-feature, face-feature, as-byte, contact-id}
 
 -- the distance of an end from the line, above 0 in front of it

@@ -8,12 +8,13 @@ use lib.Ieee.{Float, binary32, ofBits, neg, add, sub, mul, le, lt}
 use Rattle.algebra.specs.Loops.{places}
 use Rattle.floats.specs.declared.b2_math.B2vec2.{B2vec2}
 use Rattle.floats.specs.declared.b2_math.B2Transform.{B2Transform}
-use Rattle.floats.specs.B2Common.{zero32, b2-max-float}
+use Rattle.rounding.specs.Literals.{zero32}
+use Rattle.floats.specs.B2Common.{b2-max-float}
 use Rattle.floats.specs.B2Math.{vec2, b2-min, b2-sub, b2-neg, b2-dot, b2-cross, b2-normalize}
 use Rattle.floats.specs.B2Math.{b2-mul-rot-by-vec2, b2-mul-transform-by-vec2}
-use Rattle.shapes.specs.declared.b2_polygon_shape.B2polygonShape.{B2polygonShape}
-use Rattle.shapes.specs.declared.b2_edge_shape.B2edgeShape.{B2edgeShape}
-use Rattle.shapes.specs.Outline.{point-at}
+use Rattle.shape_definitions.specs.declared.b2_polygon_shape.B2polygonShape.{B2polygonShape}
+use Rattle.shape_definitions.specs.declared.b2_edge_shape.B2edgeShape.{B2edgeShape}
+use Rattle.shape_definitions.specs.Outline.{point-at}
 use Rattle.contact_definitions.specs.declared.axis.Axis.{Axis}
 use Rattle.contact_definitions.specs.declared.axis.Axis.the-variants.{Apart, FaceA, FaceB}
 use Rattle.contact_definitions.specs.declared.b2_collide_edge.GaussRegion.{GaussRegion}
@@ -45,7 +46,7 @@ b2-compute-edge-separation xf poly v1 normal1 =
 
 -- ---- b2_compute_polygon_separation: the face of the outline that keeps both ends of the wall off most, by the lesser
 -- of their distances along the face's normal, reversed. Both searches begin at the largest float negated and a zero
--- normal; Box2D gives that the place -1, here 0, and no accepted input is left with it
+-- normal; Box2D gives that the place -1, here 0
 unfoldable pub outline-axis : B2Transform → B2polygonShape → B2vec2 → B2vec2 → ℕ → Axis
 outline-axis xf poly v1 v2 i =
     let n = b2-neg (placed-normal xf poly i) in

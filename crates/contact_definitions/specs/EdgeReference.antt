@@ -9,9 +9,9 @@ use Rattle.floats.specs.declared.b2_math.B2vec2.{B2vec2}
 use Rattle.floats.specs.declared.b2_math.B2Transform.{B2Transform}
 use Rattle.floats.specs.B2Math.{vec2, b2-sub, b2-neg, b2-dot}
 use Rattle.floats.specs.B2Math.{b2-mul-t-transform-by-vec2}
-use Rattle.shapes.specs.declared.b2_polygon_shape.B2polygonShape.{B2polygonShape}
-use Rattle.shapes.specs.declared.b2_edge_shape.B2edgeShape.{B2edgeShape}
-use Rattle.shapes.specs.Outline.{point-at, place-after}
+use Rattle.shape_definitions.specs.declared.b2_polygon_shape.B2polygonShape.{B2polygonShape}
+use Rattle.shape_definitions.specs.declared.b2_edge_shape.B2edgeShape.{B2edgeShape}
+use Rattle.shape_definitions.specs.Outline.{point-at, place-after}
 use Rattle.contact_definitions.specs.declared.axis.Axis.{Axis}
 use Rattle.contact_definitions.specs.declared.axis.Axis.the-variants.{Apart, FaceA, FaceB}
 use Rattle.contact_definitions.specs.declared.b2_collision.B2manifoldPoint.{B2manifoldPoint}

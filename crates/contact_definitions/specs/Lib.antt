@@ -1,4 +1,3 @@
-pub mod Refusal
 pub mod Searches
 pub mod Axis
 pub mod Manifold

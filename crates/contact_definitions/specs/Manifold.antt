@@ -8,10 +8,10 @@ use lib.ListN.{take, getD}
 use Rattle.algebra.specs.Buffer.{over}
 use Rattle.floats.specs.declared.b2_math.B2vec2.{B2vec2}
 use Rattle.floats.specs.declared.b2_math.B2Transform.{B2Transform}
-use Rattle.floats.specs.B2Common.{zero32}
+use Rattle.rounding.specs.Literals.{zero32}
 use Rattle.floats.specs.Ranges.{transform-in-range}
-use Rattle.shapes.specs.Refusal.{accepted, shape-out-of-range, placement-out-of-range, count-out-of-range}
-use Rattle.shapes.specs.Outline.{origin}
+use Rattle.shape_definitions.specs.Refusal.{accepted, shape-out-of-range, placement-out-of-range, count-out-of-range}
+use Rattle.shape_definitions.specs.Outline.{origin}
 use Rattle.contact_definitions.specs.declared.b2_collision.B2contactId.{B2contactId}
 use Rattle.contact_definitions.specs.declared.b2_collision.B2manifoldPoint.{B2manifoldPoint}
 use Rattle.contact_definitions.specs.declared.b2_collision.B2manifoldType.{B2manifoldType}

@@ -9,19 +9,20 @@ use lib.Ieee.{Float, binary32, sub, lt}
 use Rattle.algebra.specs.Buffer.{over}
 use Rattle.floats.specs.declared.b2_math.B2vec2.{B2vec2}
 use Rattle.floats.specs.declared.b2_math.B2Transform.{B2Transform}
-use Rattle.floats.specs.B2Common.{zero32, half32, one32}
+use Rattle.rounding.specs.Literals.{zero32, half32, one32}
 use Rattle.floats.specs.B2Math.{vec2, b2-add, b2-sub, b2-neg, b2-scale, b2-dot, b2-distance-vec2-squared, b2-normalize}
 use Rattle.floats.specs.B2Math.{b2-mul-rot-by-vec2, b2-mul-transform-by-vec2}
 use Rattle.floats.specs.Ranges.{radius-in-range, transform-in-range, local-normal-in-range, contact-point-in-range}
-use Rattle.shapes.specs.Refusal.{accepted, placement-out-of-range, count-out-of-range}
-use Rattle.shapes.specs.Outline.{origin, epsilon-squared}
+use Rattle.shape_definitions.specs.Refusal.{accepted, placement-out-of-range, count-out-of-range}
+use Rattle.floats.specs.B2Common.{epsilon-squared}
+use Rattle.shape_definitions.specs.Outline.{origin}
 use Rattle.contact_definitions.specs.declared.b2_collision.B2manifoldPoint.{B2manifoldPoint}
 use Rattle.contact_definitions.specs.declared.b2_collision.B2manifoldType.{B2manifoldType}
 use Rattle.contact_definitions.specs.declared.b2_collision.B2manifoldType.the-variants.{ECircles, EFaceA, EFaceB}
 use Rattle.contact_definitions.specs.declared.b2_collision.B2manifold.{B2manifold}
 use Rattle.contact_definitions.specs.declared.b2_collision.B2worldManifold.{B2worldManifold}
 use Rattle.contact_definitions.specs.declared.b2_collision.WorldAnswer.{WorldAnswer}
-use Rattle.contact_definitions.specs.Refusal.{contact-out-of-range}
+use Rattle.shape_definitions.specs.Refusal.{contact-out-of-range}
 use Rattle.contact_definitions.specs.Manifold.{manifold-point, counted-points}
 
 abbrev pub default-world-manifold : B2worldManifold

@@ -5,7 +5,8 @@ use mathlib.Core.Bool.{true, false}
 use Prim.Native.Nat.{ℕ}
 use lib.IntN.{pos, negsuc}
 use lib.Ieee.{Float, Format, fin, binary32, neg, add, sub, mul, div, le, ofBits, toBits}
-use Rattle.floats.specs.B2Common.{zero32, half32, one32, b2-max-float, b2-epsilon, b2-linear-slop, b2-polygon-radius}
+use Rattle.rounding.specs.Literals.{zero32, half32, one32}
+use Rattle.floats.specs.B2Common.{b2-max-float, b2-epsilon, b2-linear-slop, b2-polygon-radius}
 use Rattle.floats.specs.Ranges.{normal-limit, local-normal-limit, shape-limit, contact-limit}
 use Rattle.floats.specs.Ranges.{coordinate-in-range, radius-in-range}
 

@@ -10,15 +10,15 @@ use lib.Ieee.Bits.{is-false}
 use lib.Ieee.Fits.{and-i, and-l, and-r}
 use lib.Ieee.Scale.{finite}
 use Rattle.algebra.specs.Integer.{Z, whole, signed, opp, _≼_, Abs}
-use Rattle.floats.specs.Value.{metre, F32, mag, val}
+use Rattle.rounding.specs.Value.{metre, F32, mag, val}
 use Rattle.floats.specs.declared.b2_math.B2vec2.{B2vec2}
-use Rattle.floats.specs.B2Common.{zero32, one32}
+use Rattle.rounding.specs.Literals.{zero32, one32}
 use Rattle.floats.specs.Ranges.{within, vec2-within, normal-limit, local-normal-limit, shape-limit, contact-limit}
 use Rattle.floats.specs.Ranges.{radius-in-range}
-use Rattle.floats.proofs.Value.{metre-is, abs-mag, val-neg, neg-f32, AsFin, as-fin, f32-as-fin}
-use Rattle.floats.proofs.Comparison.{le-val, val-le}
-use Rattle.floats.proofs.Literals.{bits-sign, bits-field, bits-units, bits-f32, bits-mag, bits-val, zero-f32}
-use Rattle.floats.proofs.Literals.{zero-val}
+use Rattle.rounding.proofs.Value.{metre-is, abs-mag, val-neg, neg-f32, AsFin, as-fin, f32-as-fin}
+use Rattle.rounding.proofs.Comparison.{le-val, val-le}
+use Rattle.rounding.proofs.Literals.{bits-sign, bits-field, bits-units, bits-f32, bits-mag, bits-val, zero-f32}
+use Rattle.rounding.proofs.Literals.{zero-val}
 
 -- ---- no NaN and no infinity
 within-finite : {limit : Float} (x : Float) → AsFin limit → T (within limit x) → T (finite x)

@@ -1,15 +1,5 @@
--- The constants of b2_common.rs that the collision code uses, by their bit patterns, and the floats 0, 1/2 and 1. Definitions only.
+-- The constants of b2_common.rs that the collision code uses, by their bit patterns. Definitions only.
 use lib.Ieee.{Float, binary32, ofBits}
-
--- the literals 0.0, 0.5 and 1.0
-abbrev pub zero32 : Float
-zero32 = ofBits binary32 0
-
-abbrev pub half32 : Float
-half32 = ofBits binary32 0x3f00_0000
-
-abbrev pub one32 : Float
-one32 = ofBits binary32 0x3f80_0000
 
 -- (2^24 - 1) * 2^104, the largest finite f32
 abbrev pub b2-max-float : Float
@@ -18,6 +8,10 @@ b2-max-float = ofBits binary32 0x7f7f_ffff
 -- 1/2^23
 abbrev pub b2-epsilon : Float
 b2-epsilon = ofBits binary32 0x3400_0000
+
+-- its square: 1/2^46
+abbrev pub epsilon-squared : Float
+epsilon-squared = ofBits binary32 0x2880_0000
 
 -- 0.005, rounded: 5368709/2^30
 abbrev pub b2-linear-slop : Float

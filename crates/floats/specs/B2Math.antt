@@ -6,8 +6,9 @@ use Rattle.floats.specs.declared.b2_math.B2vec2.{B2vec2}
 use Rattle.floats.specs.declared.b2_math.Normalized.{Normalized}
 use Rattle.floats.specs.declared.b2_math.B2Rot.{B2Rot}
 use Rattle.floats.specs.declared.b2_math.B2Transform.{B2Transform}
-use Rattle.floats.specs.B2Common.{zero32, one32, b2-epsilon}
-use Rattle.floats.specs.Sqrt.{sqrt}
+use Rattle.rounding.specs.Literals.{zero32, one32}
+use Rattle.floats.specs.B2Common.{b2-epsilon}
+use Rattle.sqrt.specs.Sqrt.{sqrt}
 
 -- ---- numbers
 unfoldable pub b2-sqrt : Float → Float

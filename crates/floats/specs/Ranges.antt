@@ -4,7 +4,7 @@ use lib.Ieee.{Float, binary32, neg, le, ofBits}
 use Rattle.floats.specs.declared.b2_math.B2vec2.{B2vec2}
 use Rattle.floats.specs.declared.b2_math.B2Rot.{B2Rot}
 use Rattle.floats.specs.declared.b2_math.B2Transform.{B2Transform}
-use Rattle.floats.specs.B2Common.{zero32, one32}
+use Rattle.rounding.specs.Literals.{zero32, one32}
 
 -- |x| ≤ limit
 abbrev pub within : Float → Float → Bool

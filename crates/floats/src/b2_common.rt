@@ -1,7 +1,8 @@
 // Tuning constants, in metres (Box2D's b2_common.h).
 ghost use mathlib.Core.Path.{_≡_};
 ghost use mathlib.Core.List.{[], _∷_};
-ghost use Rattle.floats.specs.B2Common.{one32, b2-max-float, b2-epsilon, b2-linear-slop, b2-polygon-radius};
+ghost use Rattle.rounding.specs.Literals.{one32};
+ghost use Rattle.floats.specs.B2Common.{b2-max-float, b2-epsilon, b2-linear-slop, b2-polygon-radius};
 use crate::b2_settings::B2_LENGTH_UNITS_PER_METER;
 
 // The largest finite f32: (2^24 - 1) * 2^104.

@@ -9,7 +9,7 @@ ghost use Rattle.floats.specs.B2Math.{b2-mul-rot, b2-mul-t-rot, b2-mul-r
 ghost use Rattle.floats.specs.B2Math.{b2-mul-transform-by-vec2, b2-mul-t-transform-by-vec2};
 ghost use Rattle.floats.specs.B2Math.{b2-mul-transform, b2-mul-t-transform};
 use crate::b2_common::B2_EPSILON;
-use crate::root;
+use sqrt::root;
 
 pub struct B2vec2 {
     pub x: f32,
@@ -34,27 +34,11 @@ pub struct B2Transform {
     pub q: B2Rot,
 }
 
-// The square root, correctly rounded, by the kind of the operand: NaN, normal, below 0, infinity or -0, +0, subnormal.
+// The square root, correctly rounded.
 pub fn b2_sqrt(x: f32) -> f32
     ensures { λ r. ⌜ r ≡ b2-sqrt x ⌝ }
 {
-    if x != x {
-        return x;
-    }
-    let b = f32::to_bits(x) as u64;
-    if b >= root::LEADING {
-        if b < root::INFINITE {
-            return root::normal_root(b);
-        }
-        if b > root::SIGN {
-            return 0.0 / 0.0;
-        }
-        return x;
-    }
-    if b == 0 {
-        return x;
-    }
-    root::subnormal_root(b)
+    root::square_root(x)
 }
 
 // a where a < b, else b.

@@ -1,9 +1,7 @@
-// f32 arithmetic of the collision code: constants, bit patterns, range tests, the square root, vectors, rotations and
+// f32 arithmetic of the collision code: constants, bit patterns, range tests, vectors, rotations and
 // transforms. Each function equals its definition in specs/ on every input.
 pub mod b2_common;
 pub mod b2_math;
 pub mod b2_settings;
 pub mod bits;
-mod cubics;
 pub mod ranges;
-mod root;

@@ -16,12 +16,12 @@ use Rattle.floats.specs.declared.b2_math.B2vec2.{B2vec2}
 use Rattle.floats.specs.B2Common.{b2-polygon-radius}
 use Rattle.floats.specs.B2Math.{vec2, b2-sub, b2-dot, b2-cross, b2-length-squared, b2-distance-vec2-squared}
 use Rattle.floats.specs.Ranges.{point-in-range, radius-in-range}
-use Rattle.floats.proofs.Literals.{bits-sign, bits-field, bits-units, bits-dyadic}
+use Rattle.rounding.proofs.Literals.{bits-sign, bits-field, bits-units, bits-dyadic}
 use Rattle.hull.specs.Hull.{OnLine, ThreeDifferent}
-use Rattle.shapes.specs.declared.b2_polygon_shape.B2polygonShape.{B2polygonShape}
-use Rattle.shapes.specs.Outline.{origin, too-near, welded, comes-before, start, closer, next, row, edges, long-enough, fan}
-use Rattle.shapes.specs.Polygon.{outline-of-corners, outline-of-welded, b2-polygon-shape-set}
-use Rattle.shapes.specs.Validate.{polygon-in-range}
+use Rattle.shape_definitions.specs.declared.b2_polygon_shape.B2polygonShape.{B2polygonShape}
+use Rattle.shape_definitions.specs.Outline.{origin, too-near, welded, comes-before, start, closer, next, row, edges, long-enough, fan}
+use Rattle.shape_definitions.specs.Polygon.{outline-of-corners, outline-of-welded, b2-polygon-shape-set}
+use Rattle.shape_definitions.specs.Validate.{polygon-in-range}
 use Rattle.grid.specs.Grid.{grid-limit, GridNumber, GridPoint, GridList, values}
 use Rattle.grid.specs.Demand3.{ThreeToEight, HullRow, built-corners, refusal-of, outline-from}
 use Rattle.grid.proofs.Outline.{GridOutline}

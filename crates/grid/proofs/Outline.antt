@@ -17,11 +17,11 @@ use Rattle.algebra.proofs.Lists.{getD-mem, once-place}
 use Rattle.floats.specs.declared.b2_math.B2vec2.{B2vec2}
 use Rattle.floats.specs.B2Math.{b2-sub}
 use Rattle.floats.specs.Ranges.{point-in-range, radius-in-range, normal-in-range}
-use Rattle.shapes.specs.declared.b2_polygon_shape.B2polygonShape.{B2polygonShape}
-use Rattle.shapes.specs.declared.b2_polygon_shape.PolygonAnswer.{PolygonAnswer}
-use Rattle.shapes.specs.Outline.{origin, point-at, place-after, edges, edges-from, normal-of-edge, fan, centroid-of}
-use Rattle.shapes.specs.Polygon.{all-points, put-first, finished}
-use Rattle.shapes.specs.Validate.{polygon-in-range}
+use Rattle.shape_definitions.specs.declared.b2_polygon_shape.B2polygonShape.{B2polygonShape}
+use Rattle.shape_definitions.specs.declared.b2_polygon_shape.PolygonAnswer.{PolygonAnswer}
+use Rattle.shape_definitions.specs.Outline.{origin, point-at, place-after, edges, edges-from, normal-of-edge, fan, centroid-of}
+use Rattle.shape_definitions.specs.Polygon.{all-points, put-first, finished}
+use Rattle.shape_definitions.specs.Validate.{polygon-in-range}
 use Rattle.grid.specs.Grid.{GridPoint, GridList, value-point, values}
 use Rattle.grid.specs.Demand3.{refusal-of, outline-from}
 use Rattle.grid.proofs.Places.{getD-any}

@@ -8,9 +8,9 @@ use Rattle.algebra.specs.Plane.{Point}
 use Rattle.floats.specs.declared.b2_math.B2vec2.{B2vec2}
 use Rattle.floats.specs.Ranges.{radius-in-range}
 use Rattle.hull.proofs.Theorem.{one-hull}
-use Rattle.shapes.specs.declared.b2_polygon_shape.B2polygonShape.{B2polygonShape}
-use Rattle.shapes.specs.Refusal.{accepted}
-use Rattle.shapes.specs.Validate.{polygon-in-range}
+use Rattle.shape_definitions.specs.declared.b2_polygon_shape.B2polygonShape.{B2polygonShape}
+use Rattle.shape_definitions.specs.Refusal.{accepted}
+use Rattle.shape_definitions.specs.Validate.{polygon-in-range}
 use Rattle.grid.specs.Grid.{GridList}
 use Rattle.grid.specs.Demand3.{FirstSentence, HullRow, refusal-of, outline-from}
 use Rattle.grid.proofs.FirstSentence.{grid-list-verdict}

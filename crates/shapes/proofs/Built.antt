@@ -11,15 +11,16 @@ use lib.Seq.{length-take-le, take-at}
 use lib.Ieee.{binary32, div, lt}
 use borrow.Author.Tests.{lt-ltb, le-ltb}
 use Rattle.floats.specs.declared.b2_math.B2vec2.{B2vec2}
-use Rattle.floats.specs.B2Common.{one32, b2-epsilon}
+use Rattle.rounding.specs.Literals.{one32}
+use Rattle.floats.specs.B2Common.{b2-epsilon}
 use Rattle.floats.specs.B2Math.{b2-add, b2-scale}
 use Rattle.floats.specs.Ranges.{point-in-range}
-use Rattle.shapes.specs.declared.b2_polygon_shape.B2polygonShape.{B2polygonShape}
-use Rattle.shapes.specs.declared.outline.FanSum.{FanSum}
-use Rattle.shapes.specs.Refusal.{accepted, wrong-number-of-points, shape-out-of-range, too-few-after-welding}
-use Rattle.shapes.specs.Refusal.{walk-not-closed, edge-or-area-too-small}
-use Rattle.shapes.specs.Outline.{point-at, welded, row, edges, long-enough, normal-of-edge, fan}
-use Rattle.shapes.specs.Polygon.{
+use Rattle.shape_definitions.specs.declared.b2_polygon_shape.B2polygonShape.{B2polygonShape}
+use Rattle.shape_definitions.specs.declared.b2_polygon_shape.FanSum.{FanSum}
+use Rattle.shape_definitions.specs.Refusal.{accepted, wrong-number-of-points, shape-out-of-range, too-few-after-welding}
+use Rattle.shape_definitions.specs.Refusal.{walk-not-closed, edge-or-area-too-small}
+use Rattle.shape_definitions.specs.Outline.{point-at, welded, row, edges, long-enough, normal-of-edge, fan}
+use Rattle.shape_definitions.specs.Polygon.{
   refused,
   all-points,
   put-first,
@@ -30,7 +31,7 @@ use Rattle.shapes.specs.Polygon.{
   b2-polygon-shape-set,
   b2-polygon-shape-set-counted,
 }
-use Rattle.shapes.specs.Parts.{Walked, Faced}
+use Rattle.outline_builder.specs.Parts.{WalkResult, NormalsResult}
 
 -- ---- 1: the count
 module _ (old : B2polygonShape) (points : List B2vec2) (count : ℕ) where
@@ -66,15 +67,15 @@ module _ (old : B2polygonShape) (points : List B2vec2) (count : ℕ) where
 
 -- ---- a row of three corners or more: m of them stand in the first places, over the old vertices
 module _ (ps old : List B2vec2) (m : ℕ) (vs : List B2vec2) where
-  corners-are : (places : List ℕ) → Walked ps old (some places) m vs → take m vs ≡ map (point-at ps) places
+  corners-are : (places : List ℕ) → WalkResult ps old (some places) m vs → take m vs ≡ map (point-at ps) places
   corners-are places walked =
       ap (take m) (walked .1) ∙ take-at (map (point-at ps) places) _ m (length-map places (point-at ps) ∙ sym (walked .0))
 
-  corners-count : (o : Option (List ℕ)) → Walked ps old o m vs → 3 ≤ m → length (take m vs) ≡ m
+  corners-count : (o : Option (List ℕ)) → WalkResult ps old o m vs → 3 ≤ m → length (take m vs) ≡ m
   corners-count none walked enough = absurd (omega arith)
   corners-count (some places) walked enough = ap length (corners-are places walked) ∙ length-map places (point-at ps) ∙ sym (walked .0)
 
-  over-vertices : (o : Option (List ℕ)) → Walked ps old o m vs → 3 ≤ m → vs ≡ put-first (take m vs) old
+  over-vertices : (o : Option (List ℕ)) → WalkResult ps old o m vs → 3 ≤ m → vs ≡ put-first (take m vs) old
   over-vertices none walked enough = absurd (omega arith)
   over-vertices (some places) walked enough = walked .1 ∙ ap (λ (new : List B2vec2). put-first new old) (sym (corners-are places walked))
 
@@ -91,11 +92,11 @@ module _ (old : B2polygonShape) (ps : List B2vec2) where
 
   -- ---- 4: the walk
   module _ (before : List B2vec2) (m : ℕ) (vs : List B2vec2) where
-    not-closed : (o : Option (List ℕ)) → Walked ps before o m vs → m < 3 → refused walk-not-closed old ≡ outline-of-row old ps o
+    not-closed : (o : Option (List ℕ)) → WalkResult ps before o m vs → m < 3 → refused walk-not-closed old ≡ outline-of-row old ps o
     not-closed none walked few = refl
     not-closed (some places) walked few = let same = walked .0 in simp (lt-ltb (length places) 3 (omega arith))
 
-    of-corners : (o : Option (List ℕ)) → Walked ps before o m vs → 3 ≤ m → outline-of-corners old (take m vs) ≡ outline-of-row old ps o
+    of-corners : (o : Option (List ℕ)) → WalkResult ps before o m vs → 3 ≤ m → outline-of-corners old (take m vs) ≡ outline-of-row old ps o
     of-corners none walked enough = absurd (omega arith)
     of-corners (some places) walked enough =
         let same = walked .0 in
@@ -123,7 +124,7 @@ module _ (old : B2polygonShape) (points : List B2vec2) (count : ℕ) where
     }
 
     module _ (known : AfterWeld n ps) (enough : 3 ≤ n) (m : ℕ) (vs : List B2vec2)
-        (walked : Walked (take n ps) (old .«m_vertices») (row (take n ps)) m vs) where
+        (walked : WalkResult (take n ps) (old .«m_vertices») (row (take n ps)) m vs) where
       row-so : outline-of-row old (take n ps) (row (take n ps)) ≡ b2-polygon-shape-set-counted old points count
       row-so = let same = known .kept-length in of-row old (take n ps) (omega arith) ∙ known .kept-so
 
@@ -138,17 +139,17 @@ module _ (old : B2polygonShape) (points : List B2vec2) (count : ℕ) where
       }
 
 -- ---- 5: edges and area
-short-edge : (es old new : List B2vec2) (t : Bool) → Faced es old t false new → t ≡ false
+short-edge : (es old new : List B2vec2) (t : Bool) → NormalsResult es old t false new → t ≡ false
 short-edge es old new true faced = sym (faced .0)
 short-edge es old new false faced = refl
 
-pub long-edges : (es old new : List B2vec2) (t : Bool) → Faced es old t true new
+pub long-edges : (es old new : List B2vec2) (t : Bool) → NormalsResult es old t true new
     → (t ≡ true) × (new ≡ put-first (map normal-of-edge es) old)
 long-edges es old new true faced = (refl, faced .1)
 long-edges es old new false faced = absurd (subst T faced tt)
 
 module _ (old : B2polygonShape) (corners : List B2vec2) where
-  pub edge-too-short : (before new : List B2vec2) → Faced (edges corners) before (long-enough (edges corners)) false new
+  pub edge-too-short : (before new : List B2vec2) → NormalsResult (edges corners) before (long-enough (edges corners)) false new
       → refused edge-or-area-too-small old ≡ outline-of-corners old corners
   unfolding outline-of-corners
   edge-too-short before new faced = simp (short-edge (edges corners) before new (long-enough (edges corners)) faced)

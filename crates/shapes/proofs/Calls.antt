@@ -34,15 +34,15 @@ use denote.Triple.Clauses.{ensured, lasts}
 use Rattle.floats.specs.declared.b2_math.B2vec2.{B2vec2}
 use Rattle.floats.proofs.b2_math.B2vec2 as vec
 use Rattle.floats.proofs.b2_math.B2vec2.Laws as vec-laws
-use Rattle.shapes.specs.declared.b2_polygon_shape.B2polygonShape.{B2polygonShape}
-use Rattle.shapes.specs.declared.b2_polygon_shape.PolygonAnswer.{PolygonAnswer}
-use Rattle.shapes.specs.Outline.{point-at}
-use Rattle.shapes.specs.Polygon.{b2-polygon-shape-set-counted}
-use Rattle.shapes.proofs.b2_polygon_shape.B2polygonShape as polygon
-use Rattle.shapes.proofs.b2_polygon_shape.B2polygonShape.Laws as polygon-laws
-use Rattle.shapes.proofs.b2_polygon_shape.PolygonAnswer as answer
-use Rattle.shapes.proofs.places.point_or as point
-use Rattle.shapes.proofs.places.set_of_eight as eight
+use Rattle.shape_definitions.specs.declared.b2_polygon_shape.B2polygonShape.{B2polygonShape}
+use Rattle.shape_definitions.specs.declared.b2_polygon_shape.PolygonAnswer.{PolygonAnswer}
+use Rattle.shape_definitions.specs.Outline.{point-at}
+use Rattle.shape_definitions.specs.Polygon.{b2-polygon-shape-set-counted}
+use Rattle.shape_definitions.proofs.b2_polygon_shape.B2polygonShape as polygon
+use Rattle.shape_definitions.proofs.b2_polygon_shape.B2polygonShape.Laws as polygon-laws
+use Rattle.shape_definitions.proofs.b2_polygon_shape.PolygonAnswer as answer
+use Rattle.shapes.proofs.b2_polygon_shape.point_or as point
+use Rattle.shapes.proofs.b2_polygon_shape.set_of_eight as eight
 
 -- a point, the machine's value of it, and that it is its value
 pub record Read : Type 1 where
@@ -64,8 +64,8 @@ module _ {M : Type 1} (𝓤 : URA M) (H : Heap 𝓤) (A : Atoms 𝓤) (mem : Mem
   abbrev pub Point : Contract 𝓤
   Point = tripleOf 𝓤 H A point.signature (point.spec 𝓤 H A mem run)
 
-  abbrev pub Eight : Contract 𝓤
-  Eight = tripleOf 𝓤 H A eight.signature (eight.spec 𝓤 H A mem run)
+  abbrev pub EightPoints : Contract 𝓤
+  EightPoints = tripleOf 𝓤 H A eight.signature (eight.spec 𝓤 H A mem run)
 
   module _ (W : Given 𝓤 H A) (κ : Lft) (q : Share) (x : RefT (List B2vec2)) where
     abbrev pub Token : Item 𝓤
@@ -125,7 +125,7 @@ module _ {M : Type 1} (𝓤 : URA M) (H : Heap 𝓤) (A : Atoms 𝓤) (mem : Mem
       abbrev pub answered : PolygonAnswer
       answered = b2-polygon-shape-set-counted old (a0 .p ∷ a1 .p ∷ a2 .p ∷ a3 .p ∷ a4 .p ∷ a5 .p ∷ a6 .p ∷ a7 .p ∷ []) (length (now x))
 
-      abbrev pub to-eight : Eight .Ghost
+      abbrev pub to-eight : EightPoints .Ghost
       to-eight = (
         (
           tt,
@@ -149,7 +149,7 @@ module _ {M : Type 1} (𝓤 : URA M) (H : Heap 𝓤) (A : Atoms 𝓤) (mem : Mem
         tt,
       )
 
-      pub goes-eight : length (now x) < 2 ^ 64 → ent 𝓤 (sem 𝓤 H A (polygon.the-row .own old (value old ∷ []))) (Eight .pre to-eight)
+      pub goes-eight : length (now x) < 2 ^ 64 → ent 𝓤 (sem 𝓤 H A (polygon.the-row .own old (value old ∷ []))) (EightPoints .pre to-eight)
       goes-eight fits =
           let made = (laws.makes vec.the-type vec-laws.the-plain) 𝓤 H A in
           qed W (‵ (polygon.the-row .own old (value old ∷ [])) ∷ []) ∵ nothing ! $

@@ -6,11 +6,11 @@ use Prim.Native.Nat.{_≤_}
 use native.Mathlib.Omega.{arith}
 use lib.ListN.{length, take}
 use Rattle.floats.specs.declared.b2_math.B2vec2.{B2vec2}
-use Rattle.shapes.specs.declared.b2_polygon_shape.B2polygonShape.{B2polygonShape}
-use Rattle.shapes.specs.declared.b2_polygon_shape.PolygonAnswer.{PolygonAnswer}
-use Rattle.shapes.specs.Outline.{point-at}
-use Rattle.shapes.specs.Polygon.{b2-polygon-shape-set, b2-polygon-shape-set-counted}
-use Rattle.shapes.proofs.Counted.{counted-whole}
+use Rattle.shape_definitions.specs.declared.b2_polygon_shape.B2polygonShape.{B2polygonShape}
+use Rattle.shape_definitions.specs.declared.b2_polygon_shape.PolygonAnswer.{PolygonAnswer}
+use Rattle.shape_definitions.specs.Outline.{point-at}
+use Rattle.shape_definitions.specs.Polygon.{b2-polygon-shape-set, b2-polygon-shape-set-counted}
+use Rattle.shape_definitions.proofs.Counted.{counted-whole}
 
 -- the points at the first eight places, the origin past the end
 abbrev pub first-eight : List B2vec2 → List B2vec2

@@ -1,15 +1,4 @@
-pub mod FlatPoints
-pub mod Tests
-pub mod Over
-pub mod Walking
-pub mod Around
-pub mod Facing
-pub mod Turned
-pub mod AllPoints
 pub mod Built
-pub mod Counted
-pub mod Ends
 pub mod Sides
 pub mod Lent
 pub mod Calls
-pub mod Controls

@@ -15,11 +15,11 @@ use lib.Ieee.{Float, lt}
 use borrow.Author.Tests.{eqb-true, lt-ltb, le-ltb, not-false}
 use Rattle.algebra.proofs.Loops.{less-or-not}
 use Rattle.floats.specs.declared.b2_math.B2vec2.{B2vec2}
-use Rattle.floats.specs.B2Common.{zero32}
+use Rattle.rounding.specs.Literals.{zero32}
 use Rattle.floats.specs.B2Math.{vec2, b2-sub, b2-cross}
-use Rattle.shapes.specs.Outline.{point-at, place-after}
-use Rattle.shapes.specs.Validate.{not-right-of, corners-not-right, faces-convex}
-use Rattle.shapes.proofs.Ends.{first-end-not-right, second-end-not-right}
+use Rattle.shape_definitions.specs.Outline.{point-at, place-after}
+use Rattle.shape_definitions.specs.Validate.{not-right-of, corners-not-right, faces-convex}
+use Rattle.floats.proofs.Ends.{first-end-not-right, second-end-not-right}
 
 -- ---- coordinates
 pub coordinate-next : (f : B2vec2 → Float) (vs : List B2vec2) (xs : List Float) (j : ℕ) (d : B2vec2) → j < length vs → j < length xs

@@ -1,23 +1,11 @@
 // Walls (Box2D's b2_edge_shape.h): the segment from vertex 1 to vertex 2. A one-sided wall has ghost points before and after it.
 ghost use mathlib.Core.Path.{_≡_};
-ghost use Rattle.shapes.specs.Edge.{b2-set-one-sided, b2-set-two-sided};
+ghost use Rattle.shape_definitions.specs.Edge.{b2-set-one-sided, b2-set-two-sided};
 use floats::b2_math::B2vec2;
 use floats::ranges;
-
-pub struct B2edgeShape {
-    pub m_radius: f32,
-    pub m_vertex0: B2vec2,
-    pub m_vertex1: B2vec2,
-    pub m_vertex2: B2vec2,
-    pub m_vertex3: B2vec2,
-    pub m_one_sided: bool,
-}
-
-// What a call that makes a wall answers: 0 and the new wall, or the refusal and the wall that it was given.
-pub struct EdgeAnswer {
-    pub refusal: u8,
-    pub shape: B2edgeShape,
-}
+use shape_definitions::b2_edge_shape::B2edgeShape;
+use shape_definitions::b2_edge_shape::EdgeAnswer;
+use shape_definitions::refusal;
 
 // A wall from v1 to v2 that is met from one side, with the ghost points v0 and v3.
 pub fn b2_set_one_sided(
@@ -35,7 +23,7 @@ pub fn b2_set_one_sided(
     let in3 = ranges::point_in_range(v3);
     if in0 & in1 & in2 & in3 {
         return EdgeAnswer {
-            refusal: 0,
+            refusal: refusal::ACCEPTED,
             shape: B2edgeShape {
                 m_radius: old.m_radius,
                 m_vertex0: v0,
@@ -47,7 +35,7 @@ pub fn b2_set_one_sided(
         };
     }
     EdgeAnswer {
-        refusal: 2,
+        refusal: refusal::SHAPE_OUT_OF_RANGE,
         shape: old,
     }
 }
@@ -62,7 +50,7 @@ pub fn b2_set_two_sided(old: B2edgeShape, v1: B2vec2, v2: B2vec2) -> EdgeAnswer
         let v0 = old.m_vertex0;
         let v3 = old.m_vertex3;
         return EdgeAnswer {
-            refusal: 0,
+            refusal: refusal::ACCEPTED,
             shape: B2edgeShape {
                 m_radius: old.m_radius,
                 m_vertex0: v0,
@@ -74,7 +62,7 @@ pub fn b2_set_two_sided(old: B2edgeShape, v1: B2vec2, v2: B2vec2) -> EdgeAnswer
         };
     }
     EdgeAnswer {
-        refusal: 2,
+        refusal: refusal::SHAPE_OUT_OF_RANGE,
         shape: old,
     }
 }

@@ -1,12 +1,11 @@
 // Outlines (Box2D's b2_polygon_shape.h).
 ghost use mathlib.Core.Path.{_≡_};
-ghost use Rattle.shapes.specs.Polygon.{b2-polygon-shape-set-counted, b2-polygon-shape-set};
-ghost use Rattle.shapes.specs.Boxes.{b2-polygon-shape-set-as-box, b2-polygon-shape-set-as-box-angle};
-ghost use Rattle.shapes.specs.Validate.{b2-polygon-shape-validate};
+ghost use mathlib.Core.List.{[], _∷_};
+ghost use Rattle.shape_definitions.specs.Outline.{point-at};
+ghost use Rattle.shape_definitions.specs.Polygon.{put-first, b2-polygon-shape-set-counted, b2-polygon-shape-set};
+ghost use Rattle.shape_definitions.specs.Boxes.{b2-polygon-shape-set-as-box, b2-polygon-shape-set-as-box-angle};
+ghost use Rattle.shape_definitions.specs.Validate.{b2-polygon-shape-validate};
 use crate::convex;
-use crate::flat;
-use crate::outline;
-use crate::places;
 use crate::shape_ranges;
 use floats::b2_common::B2_EPSILON;
 use floats::b2_math;
@@ -15,26 +14,12 @@ use floats::b2_math::B2Transform;
 use floats::b2_math::B2vec2;
 use floats::b2_settings::B2_MAX_POLYGON_VERTICES;
 use floats::ranges;
-
-pub struct B2polygonShape {
-    pub m_radius: f32,
-    pub m_centroid: B2vec2,
-    pub m_vertices: [B2vec2; 8],
-    pub m_normals: [B2vec2; 8],
-    pub m_count: usize,
-}
-
-// What a call that makes an outline answers: 0 and the new outline, or the refusal and the outline that it was given.
-pub struct PolygonAnswer {
-    pub refusal: u8,
-    pub shape: B2polygonShape,
-}
-
-// What the convexity test answers: the refusal, 0 for none, and whether the outline is convex (no, where it is refused).
-pub struct Validity {
-    pub refusal: u8,
-    pub valid: bool,
-}
+use outline_builder::coordinates;
+use outline_builder::outline;
+use shape_definitions::b2_polygon_shape::B2polygonShape;
+use shape_definitions::b2_polygon_shape::PolygonAnswer;
+use shape_definitions::b2_polygon_shape::ValidateAnswer;
+use shape_definitions::refusal;
 
 // The outline of the first count points: weld, start, walk, normals, centroid.
 pub fn b2_polygon_shape_set_core(
@@ -46,20 +31,20 @@ pub fn b2_polygon_shape_set_core(
 {
     if count < 3 {
         return PolygonAnswer {
-            refusal: 1,
+            refusal: refusal::WRONG_NUMBER_OF_POINTS,
             shape: old,
         };
     }
     if count > B2_MAX_POLYGON_VERTICES {
         return PolygonAnswer {
-            refusal: 1,
+            refusal: refusal::WRONG_NUMBER_OF_POINTS,
             shape: old,
         };
     }
-    let given = flat::flat(points);
-    if !flat::in_range(&given, count) {
+    let given = coordinates::coordinates(points);
+    if !coordinates::in_range(&given, count) {
         return PolygonAnswer {
-            refusal: 2,
+            refusal: refusal::SHAPE_OUT_OF_RANGE,
             shape: old,
         };
     }
@@ -67,36 +52,36 @@ pub fn b2_polygon_shape_set_core(
     let n = outline::weld(&given, count, &mut ps);
     if n < 3 {
         return PolygonAnswer {
-            refusal: 3,
+            refusal: refusal::TOO_FEW_AFTER_WELDING,
             shape: old,
         };
     }
     let i0 = outline::start(&ps, n);
     let old_vertices = old.m_vertices;
-    let mut vs = flat::flat(old_vertices);
+    let mut vs = coordinates::coordinates(old_vertices);
     let m = outline::walk(&ps, n, i0, &mut vs);
     if m < 3 {
         return PolygonAnswer {
-            refusal: 4,
+            refusal: refusal::WALK_NOT_CLOSED,
             shape: old,
         };
     }
     let old_normals = old.m_normals;
-    let mut ns = flat::flat(old_normals);
+    let mut ns = coordinates::coordinates(old_normals);
     if !outline::normals(&vs, m, &mut ns) {
         return PolygonAnswer {
-            refusal: 5,
+            refusal: refusal::EDGE_OR_AREA_TOO_SMALL,
             shape: old,
         };
     }
     let sum = outline::fan(&vs, m);
     if sum.area > B2_EPSILON {
-        let s = flat::at(&vs, 0);
+        let s = coordinates::at(&vs, 0);
         let centroid = b2_math::b2_add(b2_math::b2_scale(1.0 / sum.area, sum.moment), s);
-        let vertices = flat::points(&vs);
-        let normals = flat::points(&ns);
+        let vertices = coordinates::points(&vs);
+        let normals = coordinates::points(&ns);
         return PolygonAnswer {
-            refusal: 0,
+            refusal: refusal::ACCEPTED,
             shape: B2polygonShape {
                 m_radius: old.m_radius,
                 m_centroid: centroid,
@@ -107,24 +92,65 @@ pub fn b2_polygon_shape_set_core(
         };
     }
     PolygonAnswer {
-        refusal: 5,
+        refusal: refusal::EDGE_OR_AREA_TOO_SMALL,
         shape: old,
     }
+}
+
+// The point at place i of a lent slice, or the origin past its end.
+pub fn point_or(vertices: &[B2vec2], i: usize) -> B2vec2
+    ensures { λ r. ⌜ r ≡ point-at (now (vertices .entry)) i ⌝ }
+{
+    if i < vertices.len() {
+        return vertices[i];
+    } else {
+        return B2vec2 { x: 0.0, y: 0.0 };
+    }
+}
+
+// The outline of count points, in eight places.
+pub fn set_of_eight(
+    old: B2polygonShape,
+    p0: B2vec2,
+    p1: B2vec2,
+    p2: B2vec2,
+    p3: B2vec2,
+    p4: B2vec2,
+    p5: B2vec2,
+    p6: B2vec2,
+    p7: B2vec2,
+    count: usize,
+) -> PolygonAnswer
+    ensures { λ r. ⌜ r ≡ b2-polygon-shape-set-counted old (p0 ∷ p1 ∷ p2 ∷ p3 ∷ p4 ∷ p5 ∷ p6 ∷ p7 ∷ []) count ⌝ }
+{
+    b2_polygon_shape_set_core(old, [p0, p1, p2, p3, p4, p5, p6, p7], count)
 }
 
 // The outline of the points of a lent slice.
 pub fn b2_polygon_shape_set(old: B2polygonShape, vertices: &[B2vec2]) -> PolygonAnswer
     ensures { λ r. ⌜ r ≡ b2-polygon-shape-set old (now (vertices .entry)) ⌝ }
 {
-    let p0 = places::point_or(vertices, 0);
-    let p1 = places::point_or(vertices, 1);
-    let p2 = places::point_or(vertices, 2);
-    let p3 = places::point_or(vertices, 3);
-    let p4 = places::point_or(vertices, 4);
-    let p5 = places::point_or(vertices, 5);
-    let p6 = places::point_or(vertices, 6);
-    let p7 = places::point_or(vertices, 7);
-    places::set_of_eight(old, p0, p1, p2, p3, p4, p5, p6, p7, vertices.len())
+    let p0 = point_or(vertices, 0);
+    let p1 = point_or(vertices, 1);
+    let p2 = point_or(vertices, 2);
+    let p3 = point_or(vertices, 3);
+    let p4 = point_or(vertices, 4);
+    let p5 = point_or(vertices, 5);
+    let p6 = point_or(vertices, 6);
+    let p7 = point_or(vertices, 7);
+    set_of_eight(old, p0, p1, p2, p3, p4, p5, p6, p7, vertices.len())
+}
+
+// Four points over the old ones.
+fn put_four(old: [B2vec2; 8], a: B2vec2, b: B2vec2, c: B2vec2, d: B2vec2) -> [B2vec2; 8]
+    ensures { λ r. ⌜ r ≡ put-first (a ∷ b ∷ c ∷ d ∷ []) old ⌝ }
+{
+    let mut new = old;
+    new[0] = a;
+    new[1] = b;
+    new[2] = c;
+    new[3] = d;
+    new
 }
 
 // A box of half-widths hx and hy around the origin.
@@ -135,20 +161,20 @@ pub fn b2_polygon_shape_set_as_box(old: B2polygonShape, hx: f32, hy: f32) -> Pol
     let hy_in = ranges::coordinate_in_range(hy);
     if !(hx_in & hy_in) {
         return PolygonAnswer {
-            refusal: 2,
+            refusal: refusal::SHAPE_OUT_OF_RANGE,
             shape: old,
         };
     }
     let old_vertices = old.m_vertices;
     let old_normals = old.m_normals;
-    let vs = places::put_four(
+    let vs = put_four(
         old_vertices,
         B2vec2 { x: -hx, y: -hy },
         B2vec2 { x: hx, y: -hy },
         B2vec2 { x: hx, y: hy },
         B2vec2 { x: -hx, y: hy },
     );
-    let ns = places::put_four(
+    let ns = put_four(
         old_normals,
         B2vec2 { x: 0.0, y: -1.0 },
         B2vec2 { x: 1.0, y: 0.0 },
@@ -156,7 +182,7 @@ pub fn b2_polygon_shape_set_as_box(old: B2polygonShape, hx: f32, hy: f32) -> Pol
         B2vec2 { x: -1.0, y: 0.0 },
     );
     PolygonAnswer {
-        refusal: 0,
+        refusal: refusal::ACCEPTED,
         shape: B2polygonShape {
             m_radius: old.m_radius,
             m_centroid: B2vec2 { x: 0.0, y: 0.0 },
@@ -182,27 +208,27 @@ pub fn b2_polygon_shape_set_as_box_angle(
     let center_in = ranges::point_in_range(center);
     if !(hx_in & hy_in & center_in) {
         return PolygonAnswer {
-            refusal: 2,
+            refusal: refusal::SHAPE_OUT_OF_RANGE,
             shape: old,
         };
     }
     if !ranges::rotation_in_range(q) {
         return PolygonAnswer {
-            refusal: 6,
+            refusal: refusal::PLACEMENT_OUT_OF_RANGE,
             shape: old,
         };
     }
     let xf = B2Transform { p: center, q: q };
     let old_vertices = old.m_vertices;
     let old_normals = old.m_normals;
-    let vs = places::put_four(
+    let vs = put_four(
         old_vertices,
         b2_math::b2_mul_transform_by_vec2(xf, B2vec2 { x: -hx, y: -hy }),
         b2_math::b2_mul_transform_by_vec2(xf, B2vec2 { x: hx, y: -hy }),
         b2_math::b2_mul_transform_by_vec2(xf, B2vec2 { x: hx, y: hy }),
         b2_math::b2_mul_transform_by_vec2(xf, B2vec2 { x: -hx, y: hy }),
     );
-    let ns = places::put_four(
+    let ns = put_four(
         old_normals,
         b2_math::b2_mul_rot_by_vec2(q, B2vec2 { x: 0.0, y: -1.0 }),
         b2_math::b2_mul_rot_by_vec2(q, B2vec2 { x: 1.0, y: 0.0 }),
@@ -210,7 +236,7 @@ pub fn b2_polygon_shape_set_as_box_angle(
         b2_math::b2_mul_rot_by_vec2(q, B2vec2 { x: -1.0, y: 0.0 }),
     );
     PolygonAnswer {
-        refusal: 0,
+        refusal: refusal::ACCEPTED,
         shape: B2polygonShape {
             m_radius: old.m_radius,
             m_centroid: center,
@@ -222,25 +248,25 @@ pub fn b2_polygon_shape_set_as_box_angle(
 }
 
 // Whether an outline is convex, by the rounded cross products.
-pub fn b2_polygon_shape_validate(shape: B2polygonShape) -> Validity
+pub fn b2_polygon_shape_validate(shape: B2polygonShape) -> ValidateAnswer
     ensures { λ r. ⌜ r ≡ b2-polygon-shape-validate shape ⌝ }
 {
     let count = shape.m_count;
     if count > B2_MAX_POLYGON_VERTICES {
-        return Validity {
-            refusal: 7,
+        return ValidateAnswer {
+            refusal: refusal::COUNT_OUT_OF_RANGE,
             valid: false,
         };
     }
     if !shape_ranges::polygon_in_range(shape) {
-        return Validity {
-            refusal: 2,
+        return ValidateAnswer {
+            refusal: refusal::SHAPE_OUT_OF_RANGE,
             valid: false,
         };
     }
     let vs = shape.m_vertices;
-    Validity {
-        refusal: 0,
+    ValidateAnswer {
+        refusal: refusal::ACCEPTED,
         valid: convex::faces_convex(vs, count),
     }
 }

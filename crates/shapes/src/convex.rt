@@ -6,12 +6,12 @@ ghost use mathlib.Core.List.{map, zipWith};
 ghost use Prim.Native.Nat.{_<_, _≤_};
 ghost use lib.ListN.{length};
 ghost use lib.Ieee.{lt};
-ghost use Rattle.floats.specs.B2Common.{zero32};
+ghost use Rattle.rounding.specs.Literals.{zero32};
 ghost use Rattle.floats.specs.B2Math.{vec2, b2-sub, b2-cross};
-ghost use Rattle.shapes.specs.Validate.{corners-not-right, faces-convex};
-use crate::outline;
+ghost use Rattle.shape_definitions.specs.Validate.{corners-not-right, faces-convex};
 use floats::b2_math;
 use floats::b2_math::B2vec2;
+use outline_builder::outline;
 
 // Whether v lies right of the line from p along e.
 fn right_of(p: B2vec2, e: B2vec2, v: B2vec2) -> bool
@@ -26,7 +26,7 @@ struct Coordinates {
     ys: [f32; 8],
 }
 
-fn apart(vs: [B2vec2; 8]) -> Coordinates
+fn split_coordinates(vs: [B2vec2; 8]) -> Coordinates
     ensures { λ r. ⌜ (r .xs ≡ map (λ v. v .x) vs) × (r .ys ≡ map (λ v. v .y) vs) ⌝ }
 {
     let mut xs = [0.0f32; 8];
@@ -68,7 +68,7 @@ pub fn faces_convex(vs: [B2vec2; 8], count: usize) -> bool
     requires { ⌜ count ≤ 8 ⌝ }
     ensures { λ r. ⌜ r ≡ faces-convex vs count count ⌝ }
 {
-    let both = apart(vs);
+    let both = split_coordinates(vs);
     let xs = both.xs;
     let ys = both.ys;
     let mut i = 0usize;

@@ -1,9 +1,5 @@
-// Circles, outlines and walls: their records, the outline builder, boxes, and the test that an outline is convex.
-pub mod b2_circle_shape;
+// Outlines, boxes, walls and the test that an outline is convex; each call tests its input and refuses what document 01 turns down.
 pub mod b2_edge_shape;
 pub mod b2_polygon_shape;
 mod convex;
-mod flat;
-mod outline;
-mod places;
 pub mod shape_ranges;

@@ -2,11 +2,11 @@
 ghost use mathlib.Core.Path.{_≡_};
 ghost use lib.ListN.{take};
 ghost use Rattle.floats.specs.Ranges.{vec2-within};
-ghost use Rattle.shapes.specs.Polygon.{all-points};
-ghost use Rattle.shapes.specs.Validate.{polygon-in-range};
-use crate::b2_polygon_shape::B2polygonShape;
+ghost use Rattle.shape_definitions.specs.Polygon.{all-points};
+ghost use Rattle.shape_definitions.specs.Validate.{polygon-in-range};
 use floats::b2_math::B2vec2;
 use floats::ranges;
+use shape_definitions::b2_polygon_shape::B2polygonShape;
 
 // Whether both coordinates of each of the first n points are within the limit. All eight are tested, so that the tests run side by side.
 fn points_within(limit: f32, ps: [B2vec2; 8], n: usize) -> bool

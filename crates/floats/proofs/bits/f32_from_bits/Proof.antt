@@ -3,7 +3,7 @@ use mathlib.Core.Path.{sym, _∙_, subst}
 use mathlib.Core.Bool.{Bool, not}
 use lib.Dec.{T}
 use borrow.Author.Needs.{needs}
-use Rattle.floats.proofs.Nan.{nan-pattern, zero-over-zero}
+use Rattle.rounding.proofs.Nan.{nan-pattern, zero-over-zero}
 use Rattle.floats.proofs.bits.f32_from_bits.Statement.{statement}
 use Rattle.floats.proofs.bits.f32_from_bits.Tie as tie
 

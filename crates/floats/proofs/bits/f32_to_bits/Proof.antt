@@ -1,7 +1,7 @@
 -- `f32_to_bits` computes its definition: 7fc00000 for the NaN. Assumes nothing.
 use lib.Ieee.{toBits}
 use borrow.Author.Needs.{needs}
-use Rattle.floats.proofs.Nan.{nan-of-differs, not-nan-of-same}
+use Rattle.rounding.proofs.Nan.{nan-of-differs, not-nan-of-same}
 use Rattle.floats.proofs.bits.f32_to_bits.Statement.{statement}
 use Rattle.floats.proofs.bits.f32_to_bits.Tie as tie
 

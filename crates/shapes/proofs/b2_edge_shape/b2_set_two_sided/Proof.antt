@@ -1,8 +1,8 @@
 -- Both points are in range, or not. Assumes nothing.
 use mathlib.Core.Bool.{_&&_}
 use Rattle.floats.specs.Ranges.{point-in-range}
-use Rattle.shapes.specs.Edge.{b2-set-two-sided}
-use Rattle.shapes.proofs.Tests.{chosen, unchosen}
+use Rattle.shape_definitions.specs.Edge.{b2-set-two-sided}
+use Rattle.outline_builder.proofs.Tests.{chosen, unchosen}
 use borrow.Author.Needs.{needs}
 use Rattle.shapes.proofs.b2_edge_shape.b2_set_two_sided.Statement.{statement}
 use Rattle.shapes.proofs.b2_edge_shape.b2_set_two_sided.Tie as tie

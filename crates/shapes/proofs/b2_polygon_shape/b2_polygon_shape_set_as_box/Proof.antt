@@ -2,8 +2,8 @@
 use mathlib.Core.Bool.{_&&_}
 use borrow.Author.Tests.{not-true, not-false}
 use Rattle.floats.specs.Ranges.{coordinate-in-range}
-use Rattle.shapes.specs.Boxes.{b2-polygon-shape-set-as-box}
-use Rattle.shapes.proofs.Tests.{chosen, unchosen}
+use Rattle.shape_definitions.specs.Boxes.{b2-polygon-shape-set-as-box}
+use Rattle.outline_builder.proofs.Tests.{chosen, unchosen}
 use borrow.Author.Needs.{needs}
 use Rattle.shapes.proofs.b2_polygon_shape.b2_polygon_shape_set_as_box.Statement.{statement}
 use Rattle.shapes.proofs.b2_polygon_shape.b2_polygon_shape_set_as_box.Tie as tie

@@ -2,8 +2,8 @@
 use mathlib.Core.Path.{_∙_}
 use mathlib.Core.Bool.{not, _&&_}
 use Rattle.floats.specs.Ranges.{coordinate-in-range, point-in-range, rotation-in-range}
-use Rattle.shapes.specs.Boxes.{b2-polygon-shape-set-as-box-angle}
-use Rattle.shapes.proofs.Tests.{chosen, unchosen}
+use Rattle.shape_definitions.specs.Boxes.{b2-polygon-shape-set-as-box-angle}
+use Rattle.outline_builder.proofs.Tests.{chosen, unchosen}
 use borrow.Author.Needs.{needs}
 use Rattle.shapes.proofs.b2_polygon_shape.b2_polygon_shape_set_as_box_angle.Statement.{
   statement,

@@ -8,12 +8,12 @@ use lib.ListN.{take}
 use borrow.Author.Tests.{not-true, not-false}
 use Rattle.floats.specs.declared.b2_math.B2vec2.{B2vec2}
 use Rattle.floats.specs.Ranges.{point-in-range}
-use Rattle.shapes.specs.declared.b2_polygon_shape.B2polygonShape.{B2polygonShape}
-use Rattle.shapes.specs.Outline.{welded, row, edges, long-enough}
-use Rattle.shapes.specs.Polygon.{all-points}
-use Rattle.shapes.specs.Flat.{points-in}
-use Rattle.shapes.specs.Parts.{Walked, Faced}
-use Rattle.shapes.proofs.Tests.{at-first-place}
+use Rattle.shape_definitions.specs.declared.b2_polygon_shape.B2polygonShape.{B2polygonShape}
+use Rattle.shape_definitions.specs.Outline.{welded, row, edges, long-enough}
+use Rattle.shape_definitions.specs.Polygon.{all-points}
+use Rattle.outline_builder.specs.Coordinates.{points-in}
+use Rattle.outline_builder.specs.Parts.{WalkResult, NormalsResult}
+use Rattle.outline_builder.proofs.Tests.{at-first-place}
 use Rattle.shapes.proofs.Built.{too-few-points, too-many-points, out-of-range, too-few-kept, walk-not-back}
 use Rattle.shapes.proofs.Built.{AfterWeld, AfterWalk, after-weld, after-walk, edge-too-short, long-edges, area-too-small, outline-built}
 use borrow.Author.Needs.{needs}
@@ -26,7 +26,7 @@ first-of i = i .before .before .before .before .before
 
 inside-is : (i : tie.After-in-range) → all-points point-in-range (take (first-of i .args .count) (first-of i .args .points)) ≡ i .in-range .result
 inside-is i =
-    ap (λ (l : List B2vec2). all-points point-in-range (take (first-of i .args .count) l)) (sym (i .before .before .flat .ensures .1))
+    ap (λ (l : List B2vec2). all-points point-in-range (take (first-of i .args .count) l)) (sym (i .before .before .coordinates .ensures .1))
     ∙ sym (i .in-range .ensures)
 
 -- ---- after welding
@@ -44,7 +44,7 @@ at-weld d =
     let count = start .args .count in
     after-weld _ _ count _ _ (omega arith) (omega arith) (start .good .1 .0 .1 .0 .1)
     (inside-is inside ∙ not-false _ (d .before .before .before .if3 .left)) (d .weld .ensures .0) (d .weld .ensures .1)
-    (d .weld .ensures .2 ∙ ap (λ (l : List B2vec2). welded (take count l)) (given .flat .ensures .1))
+    (d .weld .ensures .2 ∙ ap (λ (l : List B2vec2). welded (take count l)) (given .coordinates .ensures .1))
 
 -- ---- after the walk
 abbrev weld-of : tie.After-walk → tie.After-weld
@@ -54,12 +54,12 @@ abbrev corners : tie.After-walk → List B2vec2
 corners w = points-in (w .walk .last .1 .1 .1 .0)
 
 walked : (w : tie.After-walk)
-    → Walked (take (weld-of w .weld .result) (kept (weld-of w))) (start-of (weld-of w) .args .old .«m_vertices»)
+    → WalkResult (take (weld-of w .weld .result) (kept (weld-of w))) (start-of (weld-of w) .args .old .«m_vertices»)
     (row (take (weld-of w .weld .result) (kept (weld-of w)))) (w .walk .result) (corners w)
 walked w =
     let d = weld-of w in
     let ps = take (d .weld .result) (kept d) in
-    subst (λ (old : List B2vec2). Walked ps old (row ps) (w .walk .result) (corners w)) (w .before .before .before .flat2 .ensures .1)
+    subst (λ (old : List B2vec2). WalkResult ps old (row ps) (w .walk .result) (corners w)) (w .before .before .before .coordinates2 .ensures .1)
     (w .walk .ensures .2)
 
 at-walk : (w : tie.After-walk) → 3 ≤ w .walk .result
@@ -82,11 +82,11 @@ abbrev faces : tie.After-normals → List B2vec2
 faces f = points-in (f .normals .last .1 .1 .0)
 
 faced : (f : tie.After-normals) (t : Bool) → f .normals .result ≡ t
-    → Faced (edges (row-of f)) (old-of f .«m_normals») (long-enough (edges (row-of f))) t (faces f)
+    → NormalsResult (edges (row-of f)) (old-of f .«m_normals») (long-enough (edges (row-of f))) t (faces f)
 faced f t answer =
-    subst (λ (u : Bool). Faced (edges (row-of f)) (old-of f .«m_normals») (long-enough (edges (row-of f))) u (faces f)) answer
-    (subst (λ (old : List B2vec2). Faced (edges (row-of f)) old (long-enough (edges (row-of f))) (f .normals .result) (faces f))
-    (f .before .before .before .flat3 .ensures .1) (f .normals .ensures .1))
+    subst (λ (u : Bool). NormalsResult (edges (row-of f)) (old-of f .«m_normals») (long-enough (edges (row-of f))) u (faces f)) answer
+    (subst (λ (old : List B2vec2). NormalsResult (edges (row-of f)) old (long-enough (edges (row-of f))) (f .normals .result) (faces f))
+    (f .before .before .before .coordinates3 .ensures .1) (f .normals .ensures .1))
 
 known : (f : tie.After-normals)
     → AfterWalk (old-of f) (start-of (weld-of (walk-of f)) .args .points) (start-of (weld-of (walk-of f)) .args .count)
@@ -99,11 +99,11 @@ returns c = too-few-points _ _ _ (c .if1 .taken)
 returns-2 : tie.Need-returns-2
 returns-2 c = too-many-points _ _ _ (c .if2 .taken)
 
-flat-requires : tie.Need-flat-requires
-flat-requires c κs = search needs
+coordinates-requires : tie.Need-coordinates-requires
+coordinates-requires c κs = search needs
 
 in-range-requires : tie.Need-in-range-requires
-in-range-requires c κs = (omega arith, c .before .flat .ensures .0)
+in-range-requires c κs = (omega arith, c .before .coordinates .ensures .0)
 
 returns-3 : tie.Need-returns-3
 returns-3 c =
@@ -113,7 +113,7 @@ returns-3 c =
 
 weld-requires : tie.Need-weld-requires
 unfolding points-in
-weld-requires c κs = (omega arith, c .before .before .before .before .before .flat .ensures .0, refl)
+weld-requires c κs = (omega arith, c .before .before .before .before .before .coordinates .ensures .0, refl)
 
 returns-4 : tie.Need-returns-4
 returns-4 c =
@@ -124,8 +124,8 @@ returns-4 c =
 start-requires : tie.Need-start-requires
 start-requires c κs = search needs
 
-flat-requires-2 : tie.Need-flat-requires-2
-flat-requires-2 c κs = search needs
+coordinates-requires-2 : tie.Need-coordinates-requires-2
+coordinates-requires-2 c κs = search needs
 
 walk-requires : tie.Need-walk-requires
 walk-requires c κs =
@@ -134,7 +134,7 @@ walk-requires c κs =
     let d = start .before .before .before in
     let fewer = d .weld .ensures .0 in
     let not-more = d .before .before .before .before .before .before .before .if2 .left in
-    (omega arith, start .start .ensures .0, start .start .ensures .1, d .weld .ensures .1, vertices .flat2 .ensures .0)
+    (omega arith, start .start .ensures .0, start .start .ensures .1, d .weld .ensures .1, vertices .coordinates2 .ensures .0)
 
 returns-5 : tie.Need-returns-5
 returns-5 c =
@@ -142,13 +142,13 @@ returns-5 c =
     let enough = w .before .before .before .before .before .before .before in
     walk-not-back _ _ _ _ _ (at-weld (weld-of w)) (enough .if4 .left) _ _ (walked w) (c .if5 .taken)
 
-flat-requires-3 : tie.Need-flat-requires-3
-flat-requires-3 c κs = search needs
+coordinates-requires-3 : tie.Need-coordinates-requires-3
+coordinates-requires-3 c κs = search needs
 
 normals-requires : tie.Need-normals-requires
 normals-requires c κs =
     let w = c .before .before .before .before .before in
-    (w .walk .ensures .0, w .walk .ensures .1, c .before .before .flat3 .ensures .0)
+    (w .walk .ensures .0, w .walk .ensures .1, c .before .before .coordinates3 .ensures .0)
 
 returns-6 : tie.Need-returns-6
 returns-6 c =
@@ -205,16 +205,16 @@ b2-polygon-shape-set-core-spec =
     (tie.spec
     returns
     returns-2
-    flat-requires
+    coordinates-requires
     in-range-requires
     returns-3
     weld-requires
     returns-4
     start-requires
-    flat-requires-2
+    coordinates-requires-2
     walk-requires
     returns-5
-    flat-requires-3
+    coordinates-requires-3
     normals-requires
     returns-6
     fan-requires

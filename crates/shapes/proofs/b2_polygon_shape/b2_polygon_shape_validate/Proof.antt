@@ -3,8 +3,8 @@ use mathlib.Core.Path.{refl, _∙_}
 use mathlib.Core.Bool.{not}
 use lib.Dec.{ltb}
 use borrow.Author.Tests.{lt-ltb, le-ltb}
-use Rattle.shapes.specs.Validate.{polygon-in-range, b2-polygon-shape-validate}
-use Rattle.shapes.proofs.Tests.{chosen, unchosen}
+use Rattle.shape_definitions.specs.Validate.{polygon-in-range, b2-polygon-shape-validate}
+use Rattle.outline_builder.proofs.Tests.{chosen, unchosen}
 use borrow.Author.Needs.{needs}
 use Rattle.shapes.proofs.b2_polygon_shape.b2_polygon_shape_validate.Statement.{statement}
 use Rattle.shapes.proofs.b2_polygon_shape.b2_polygon_shape_validate.Tie as tie

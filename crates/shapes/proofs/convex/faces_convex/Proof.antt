@@ -7,7 +7,7 @@ use native.Mathlib.Omega.{arith}
 use lib.ListN.{length, length-map}
 use borrow.Author.Tests.{not-true}
 use Rattle.floats.specs.B2Math.{vec2}
-use Rattle.shapes.specs.Validate.{faces-convex}
+use Rattle.shape_definitions.specs.Validate.{faces-convex}
 use Rattle.shapes.proofs.Sides.{faces-next, faces-failed, joined-faces}
 use borrow.Author.Needs.{needs}
 use Rattle.shapes.proofs.convex.faces_convex.Statement.{statement}
@@ -19,8 +19,8 @@ Inv-loop count xs ys i₀ i = (i ≤ count) × (count ≤ 8) × (faces-convex (z
 abbrev μ-loop : tie.MeasureT-loop
 μ-loop count xs ys i₀ i = count - i
 
-apart-requires : tie.Need-apart-requires Inv-loop μ-loop
-apart-requires c κs = search needs
+split-coordinates-requires : tie.Need-split-coordinates-requires Inv-loop μ-loop
+split-coordinates-requires c κs = search needs
 
 loop-holds : tie.Need-loop-holds Inv-loop μ-loop
 unfolding faces-convex
@@ -33,8 +33,8 @@ some-right-requires c κs =
     let eight = both .before .good .0 .1 .0 .1 in (
       omega arith,
       omega arith,
-      ap length (both .apart .ensures .0) ∙ length-map vs (λ v. v .x) ∙ eight,
-      ap length (both .apart .ensures .1) ∙ length-map vs (λ v. v .y) ∙ eight,
+      ap length (both .split-coordinates .ensures .0) ∙ length-map vs (λ v. v .x) ∙ eight,
+      ap length (both .split-coordinates .ensures .1) ∙ length-map vs (λ v. v .y) ∙ eight,
     )
 
 returns : tie.Need-returns Inv-loop μ-loop
@@ -44,7 +44,7 @@ returns c =
     let args = both .before .args in
     let fails = not-true _ (sym (c .before .some-right .ensures) ∙ c .if1 .taken) in
     sym (faces-failed _ (args .count) (loop .loop .i) (args .count) (omega arith) fails)
-    ∙ joined-faces (args .vs) _ _ (args .count) (both .apart .ensures .0) (both .apart .ensures .1)
+    ∙ joined-faces (args .vs) _ _ (args .count) (both .split-coordinates .ensures .0) (both .split-coordinates .ensures .1)
 
 add-i : tie.Need-add-i Inv-loop μ-loop
 add-i c = search needs
@@ -65,7 +65,7 @@ returns-2 c =
     let args = both .before .args in
     let all : loop .loop .i ≡ args .count = omega arith in
     sym (loop .loop .inv .2) ∙ ap (faces-convex _ (args .count)) all
-    ∙ joined-faces (args .vs) _ _ (args .count) (both .apart .ensures .0) (both .apart .ensures .1)
+    ∙ joined-faces (args .vs) _ _ (args .count) (both .split-coordinates .ensures .0) (both .split-coordinates .ensures .1)
 
 pub faces-convex-spec : {M : Type 1} → statement M
 faces-convex-spec =
@@ -73,7 +73,7 @@ faces-convex-spec =
     (tie.spec
     Inv-loop
     μ-loop
-    apart-requires
+    split-coordinates-requires
     loop-holds
     some-right-requires
     returns

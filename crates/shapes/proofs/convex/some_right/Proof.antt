@@ -8,7 +8,7 @@ use native.Mathlib.Omega.{arith}
 use lib.ListN.{length}
 use borrow.Author.Needs.{needs}
 use Rattle.floats.specs.B2Math.{vec2}
-use Rattle.shapes.specs.Validate.{corners-not-right}
+use Rattle.shape_definitions.specs.Validate.{corners-not-right}
 use Rattle.shapes.proofs.Sides.{corners-next, right-is}
 use Rattle.shapes.proofs.convex.some_right.Statement.{statement}
 use Rattle.shapes.proofs.convex.some_right.Tie as tie

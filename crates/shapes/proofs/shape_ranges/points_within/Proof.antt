@@ -6,8 +6,8 @@ use native.Mathlib.Omega.{arith}
 use lib.ListN.{length, take, length-take}
 use lib.Seq.{take-all}
 use Rattle.floats.specs.Ranges.{vec2-within}
-use Rattle.shapes.specs.Polygon.{all-points}
-use Rattle.shapes.proofs.AllPoints.{all-masked}
+use Rattle.shape_definitions.specs.Polygon.{all-points}
+use Rattle.shape_definitions.proofs.AllPoints.{all-masked}
 use borrow.Author.Needs.{needs}
 use Rattle.shapes.proofs.shape_ranges.points_within.Statement.{statement}
 use Rattle.shapes.proofs.shape_ranges.points_within.Tie as tie

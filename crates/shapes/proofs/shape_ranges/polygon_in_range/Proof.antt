@@ -1,6 +1,6 @@
 -- Each part of the test has its own function. Assumes nothing.
 use Rattle.floats.specs.Ranges.{point-in-range, normal-in-range}
-use Rattle.shapes.specs.Validate.{polygon-in-range}
+use Rattle.shape_definitions.specs.Validate.{polygon-in-range}
 use borrow.Author.Needs.{needs}
 use Rattle.shapes.proofs.shape_ranges.polygon_in_range.Statement.{statement}
 use Rattle.shapes.proofs.shape_ranges.polygon_in_range.Tie as tie

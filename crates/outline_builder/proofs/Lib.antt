@@ -1,0 +1,5 @@
+pub mod CoordinatePoints
+pub mod Tests
+pub mod Walking
+pub mod Around
+pub mod Facing

@@ -1,0 +1,4 @@
+pub mod Over
+pub mod AllPoints
+pub mod Counted
+pub mod Controls

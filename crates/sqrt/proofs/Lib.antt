@@ -1,0 +1,9 @@
+pub mod WholeRoot
+pub mod RoundedRoot
+pub mod RootPattern
+pub mod SqrtCases
+pub mod SqrtLaw
+pub mod SqrtOrder
+pub mod Theorem
+pub mod Witness
+pub mod Controls

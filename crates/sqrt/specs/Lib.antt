@@ -1,0 +1,2 @@
+pub mod Sqrt
+pub mod Root

@@ -1,0 +1,3 @@
+// The correctly rounded square root.
+mod cubics;
+pub mod root;

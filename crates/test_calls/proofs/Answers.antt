@@ -1,0 +1,65 @@
+-- Each entry's words, from what its calls promise, and the answer to a malformed request. Assumes nothing.
+use Prim.Native.Nat.{ℕ, _<_, _≤_}
+use mathlib.Core.Path.{_≡_, sym, _∙_}
+use mathlib.Core.List.{List, [], _∷_}
+use borrow.Author.Tests.{eq-eqb, ne-eqb, lt-ltb, le-ltb}
+use lib.ListN.{length}
+use lib.Ieee.{Float}
+use Rattle.floats.specs.declared.b2_math.Normalized.{Normalized}
+use Rattle.floats.specs.B2Math.{vec2, b2-sqrt, b2-normalize}
+use Rattle.test_calls.specs.Words.{word-at}
+use Rattle.test_calls.specs.Records.{float-at, bits}
+use Rattle.test_calls.specs.Entries.{normalized-words, root-answer, normalize-answer, shape-answer, answer}
+
+pub root-words : (request : List ℕ) (x root : Float) (w : ℕ) → length request ≡ 8 → x ≡ float-at request 1 → root ≡ b2-sqrt x
+    → w ≡ bits root
+    → 0 ∷ w ∷ [] ≡ root-answer request
+unfolding root-answer
+root-words request x root w size x-is root-is w-is = simp (eq-eqb _ _ size, w-is, root-is, x-is)
+
+pub root-malformed : (request : List ℕ) → (length request ≡ 8 → ⊥) → root-answer request ≡ []
+unfolding root-answer
+root-malformed request size = simp (ne-eqb _ _ size)
+
+pub normalize-words : (request : List ℕ) (x y : Float) (n : Normalized) (l u v : ℕ) → length request ≡ 12 → x ≡ float-at request 1
+    → y ≡ float-at request 2 → n ≡ b2-normalize (vec2 x y) → l ≡ bits (n .length) → u ≡ bits (n .v .x) → v ≡ bits (n .v .y)
+    → 0 ∷ l ∷ u ∷ v ∷ [] ≡ normalize-answer request
+unfolding normalize-answer
+normalize-words request x y n l u v size x-is y-is n-is l-is u-is v-is = simp (eq-eqb _ _ size, l-is, u-is, v-is, n-is, x-is, y-is)
+
+pub normalize-malformed : (request : List ℕ) → (length request ≡ 12 → ⊥) → normalize-answer request ≡ []
+unfolding normalize-answer
+normalize-malformed request size = simp (ne-eqb _ _ size)
+
+-- ---- which entry answers
+pub answers-as : (number entry : ℕ) (request : List ℕ) → entry ≡ number → shape-answer number request ≡ shape-answer entry request
+answers-as number entry request is = rw is
+
+pub no-shape : (entry : ℕ) (request : List ℕ) → (entry ≡ 1 → ⊥) → (entry ≡ 2 → ⊥) → (entry ≡ 3 → ⊥) → (entry ≡ 4 → ⊥) → (entry ≡ 5 → ⊥)
+    → (entry ≡ 6 → ⊥) → shape-answer entry request ≡ []
+unfolding shape-answer
+no-shape entry request no-1 no-2 no-3 no-4 no-5 no-6 =
+    simp (ne-eqb _ _ no-1, ne-eqb _ _ no-2, ne-eqb _ _ no-3, ne-eqb _ _ no-4, ne-eqb _ _ no-5, ne-eqb _ _ no-6)
+
+pub no-entry : (request : List ℕ) → length request < 4 → answer request ≡ []
+unfolding answer
+no-entry request short = simp (lt-ltb _ _ short)
+
+module _ (request : List ℕ) (entry : ℕ) (room : 4 ≤ length request) (entry-is : entry ≡ word-at request 0) where
+  pub root-entry : entry ≡ 15 → root-answer request ≡ answer request
+  unfolding answer
+  root-entry is = simp (le-ltb _ _ room, eq-eqb _ _ (sym entry-is ∙ is))
+
+  pub normalize-entry : entry ≡ 16 → normalize-answer request ≡ answer request
+  unfolding answer
+  normalize-entry is = simp (le-ltb _ _ room, sym entry-is ∙ is)
+
+  pub shape-entry : (entry ≡ 15 → ⊥) → (entry ≡ 16 → ⊥) → shape-answer entry request ≡ answer request
+  unfolding answer
+  shape-entry no-15 no-16 =
+      simp (
+        le-ltb _ _ room,
+        entry-is,
+        ne-eqb _ _ (λ (e : word-at request 0 ≡ 15). no-15 (entry-is ∙ e)),
+        ne-eqb _ _ (λ (e : word-at request 0 ≡ 16). no-16 (entry-is ∙ e)),
+      )
