@@ -10,3 +10,7 @@ pub mod ClipCases
 pub mod WorldCases
 pub mod StateCases
 pub mod Controls
+pub mod Counts
+pub mod CircleCounts
+pub mod FaceCounts
+pub mod Theorem

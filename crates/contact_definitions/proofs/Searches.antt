@@ -1,4 +1,5 @@
--- The searches of specs/Searches, a place at a time, for code that runs them over the places below a count. Assumes nothing.
+-- The searches of specs/Searches, a place at a time, for code that runs them over the places below a count. Assumes
+-- nothing.
 use mathlib.Core.Path.{_≡_, refl, sym, _∙_, ap}
 use mathlib.Core.Bool.{Bool, true, false, cond, _||_, or-true}
 use mathlib.Core.List.{List, [], _∷_, map}
