@@ -23,8 +23,8 @@ use Rattle.contact_definitions.specs.B2CollideCircle.{b2-collide-polygon
 use Rattle.contact_definitions.specs.Manifold.{with-local-point, with-count, with-one-point, contact-id}
 use Rattle.contact_definitions.specs.Manifold.{manifold-accepted, manifold-refused}
 use Rattle.contact_definitions.specs.Searches.{some-below, first-greatest}
-use Rattle.contact_definitions.proofs.Numbers.{+1, +4, +9, -1, -15, -2, -20, -3½, -4, -53, -62, -¼, -½, -¾, 1½}
-use Rattle.contact_definitions.proofs.Numbers.{5½, ¼, ½, ¾}
+use Rattle.contact_definitions.proofs.Numbers.{+1, +2, +4, +9, -1, -15, -2, -20, -3½, -4, -53, -62, -¼, -½, -¾}
+use Rattle.contact_definitions.proofs.Numbers.{1½, 1¾, 5½, ¼, ½, ¾}
 use Rattle.contact_definitions.proofs.Given.{after, box, circle, counting-box, eight-tenths, first, float}
 use Rattle.contact_definitions.proofs.Given.{given, kept-second, moved, no-point, placed, six-tenths, triangle}
 use Rattle.contact_definitions.proofs.Given.{unmoved}
@@ -69,15 +69,15 @@ pub record PolygonCircleCases : Type 0 where
       ≡ manifold-accepted (after EFaceA 1 (vec2 zero32 +1) (vec2 zero32 ½) (first (vec2 ½ ¼) (contact-id 0 0 0 0))
       kept-second)
   -- out of a face, over its first corner, within the radius
-  pub at-first-corner : b2-collide-polygon-and-circle (given EFaceB) (box +1 ½) unmoved (circle ¼ (vec2 ¼ ¼)) (moved
-      ¾ ½)
-      ≡ manifold-accepted (after EFaceA 1 (vec2 zero32 +1) (vec2 +1 ½) (first (vec2 ¼ ¼) (contact-id 0 0 0 0))
-      kept-second)
+  pub at-first-corner : b2-collide-polygon-and-circle (given EFaceB) (box ½ +1) unmoved (circle +2 (vec2 ¼ ½))
+      (moved ½ +2)
+      ≡ manifold-accepted (after EFaceA 1 (vec2 (float 0x3e28_5835) (float 0x3f7c_8450)) (vec2 ½ +1)
+      (first (vec2 ¼ ½) (contact-id 0 0 0 0)) kept-second)
   -- over its second corner
-  pub at-second-corner : b2-collide-polygon-and-circle (given EFaceB) (box ½ +1) unmoved (circle ¾ (vec2 ½ ½))
-      (moved ¼ ½)
-      ≡ manifold-accepted (after EFaceA 1 (vec2 +1 zero32) (vec2 ½ +1) (first (vec2 ½ ½) (contact-id 0 0 0 0))
-      kept-second)
+  pub at-second-corner : b2-collide-polygon-and-circle (given EFaceB) (box +1 ½) unmoved (circle 1¾ (vec2 ½ ½))
+      (moved +2 ¼)
+      ≡ manifold-accepted (after EFaceA 1 (vec2 (float 0x3f7c_8450) (float 0x3e28_5835)) (vec2 +1 ½)
+      (first (vec2 ½ ½) (contact-id 0 0 0 0)) kept-second)
   -- over the face
   pub at-face : b2-collide-polygon-and-circle (given EFaceB) (box +1 ½) unmoved (circle ¼ (vec2 ¼ ¼)) (moved ¼ ½)
       ≡ manifold-accepted (after EFaceA 1 (vec2 zero32 +1) (vec2 zero32 ½) (first (vec2 ¼ ¼) (contact-id 0 0 0 0))

@@ -88,6 +88,10 @@ pub record EdgeCircleCases : Type 0 where
       unmoved
       ≡ manifold-accepted (after EFaceA 1 (vec2 (float 0x8000_0000) (float 0x1c80_0000)) origin
       (first (vec2 (float 0x1c00_0000) (float 0x447a_0000)) (contact-id 0 0 1 0)) kept-second)
+  -- a wall of one point has ends alone
+  pub wall-of-one-point : b2-collide-edge-and-circle (given EFaceB) (two-sided (vec2 +1 ½) (vec2 +1 ½)) unmoved
+      (circle ¾ (vec2 ½ ¼)) (moved ¼ -¼)
+      ≡ manifold-accepted (after ECircles 1 origin (vec2 +1 ½) (first (vec2 ½ ¼) (contact-id 0 0 0 0)) kept-second)
   -- a ghost point that is NaN, of a one-sided wall
   pub ghost-point-refused : b2-collide-edge-and-circle (given EFaceB) (one-sided (vec2 nan zero32) origin
       (vec2 +1 zero32) (vec2 +2 zero32)) (placed zero32 zero32 1½ +1) (circle +1 origin) unmoved
@@ -119,6 +123,7 @@ edge-circle-cases = record {
   turned = refl;
   wall-is-too-short = refl;
   reciprocal-overflows = refl;
+  wall-of-one-point = refl;
   ghost-point-refused = refl;
   placement-refused = refl;
 }

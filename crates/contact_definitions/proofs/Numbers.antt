@@ -40,6 +40,9 @@ abbrev pub 1½ : Float
 abbrev pub -1½ : Float
 -1½ = fin true 3 (negsuc 0)
 
+abbrev pub 1¾ : Float
+1¾ = fin false 7 (negsuc 1)
+
 abbrev pub -1¾ : Float
 -1¾ = fin true 7 (negsuc 1)
 
