@@ -83,15 +83,18 @@ one-sided v0 v1 v2 v3 = record {
   «m_one_sided» = true;
 }
 
-abbrev pub two-sided : B2vec2 → B2vec2 → B2edgeShape
-two-sided v1 v2 = record {
-  «m_radius» = b2-polygon-radius;
+abbrev pub thick-wall : Float → B2vec2 → B2vec2 → B2edgeShape
+thick-wall radius v1 v2 = record {
+  «m_radius» = radius;
   «m_vertex0» = vec2 nan nan;
   «m_vertex1» = v1;
   «m_vertex2» = v2;
   «m_vertex3» = vec2 nan nan;
   «m_one_sided» = false;
 }
+
+abbrev pub two-sided : B2vec2 → B2vec2 → B2edgeShape
+two-sided v1 v2 = thick-wall b2-polygon-radius v1 v2
 
 -- ---- manifolds: a kind, a count, normal, point, and two points. The impulses are 3, 4 and 11, 12, given and kept
 abbrev pub first : B2vec2 → B2contactId → B2manifoldPoint

@@ -9,6 +9,8 @@ pub mod EdgePolygonCases
 pub mod ClipCases
 pub mod WorldCases
 pub mod StateCases
+pub mod TieCases
+pub mod RefusalCases
 pub mod Controls
 pub mod Counts
 pub mod CircleCounts

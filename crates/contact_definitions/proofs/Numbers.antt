@@ -61,6 +61,9 @@ abbrev pub -2½ : Float
 abbrev pub 2¾ : Float
 2¾ = fin false 11 (negsuc 1)
 
+abbrev pub -2¾ : Float
+-2¾ = fin true 11 (negsuc 1)
+
 abbrev pub +3 : Float
 +3 = fin false 3 (pos 0)
 
