@@ -19,6 +19,8 @@ pub mod UnitFactors
 pub mod Squares
 pub mod Null
 pub mod Sign
+pub mod TimesOne
+pub mod ProductSign
 pub mod Quotient
 pub mod Reciprocal
 pub mod Dot

@@ -7,8 +7,9 @@ use Prim.Native.Nat.{ℕ, zero, suc, _*_, _^_, _≤_, _<_}
 use native.Mathlib.Nat.{mul-comm, mul-pos}
 use native.Mathlib.Omega.{arith}
 use mathlib.Core.Bool.{Bool, true, false, cond}
+use lib.IntN.{ℤ}
 use lib.Dec.{T, ltb}
-use lib.Ieee.{Float, fits, nan, inf, fin, binary32, odd, units, add, sub, mul, div}
+use lib.Ieee.{Float, fits, nan, inf, fin, binary32, up, down, unlike, odd, units, round, add, sub, mul, div}
 use lib.Ieee.Fits.{round-is, round-fits}
 use lib.Ieee.Positive.{first-pos}
 use lib.Ieee.Scale.{overflow, finite}
@@ -30,6 +31,14 @@ units-sign s q k = by-test (ltb (q * 2 ^ k) (overflow binary32)) q
     by-test true (suc q) = refl
     by-test false q = refl
 
+round-sign : (s : Bool) (w c : ℕ) → sign (round binary32 s w c) ≡ s
+round-sign s w c = ap sign (round-is binary32 s w c) ∙ units-sign s (kept-digits w c) (dropped w c)
+
+-- of a product of finite numbers, a zero too
+pub product-sign : (s t : Bool) (m n : ℕ) (e d : ℤ) → sign (mul binary32 (fin s m e) (fin t n d)) ≡ unlike s t
+unfolding mul
+product-sign s t m n e d = round-sign (unlike s t) (m * up e * (n * up d)) (down e * down d)
+
 finite-of-mag : (z : Float) → 0 < mag z → T (finite z)
 finite-of-mag nan h = absurd (omega arith)
 finite-of-mag (inf s) h = absurd (omega arith)
@@ -40,8 +49,7 @@ module _ {z : Float} {num : Z} {den : ℕ} (r : Rounds z num den) where
   rounds-sign =
       val-signed z
       ∙ ap (λ (s : Bool). signed s (mag z))
-      (ap sign (r .is ∙ round-is binary32 (r .negative) (r .size) den)
-      ∙ units-sign (r .negative) (kept-digits (r .size) den) (dropped (r .size) den))
+      (ap sign (r .is) ∙ round-sign (r .negative) (r .size) den)
 
   size-pos : 0 < mag z → 0 < r .size
   size-pos z-pos =

@@ -1,0 +1,141 @@
+-- The search for the face that a circle's centre is farthest out of, a face at a time: what is known after the places below i, and how it
+-- begins, goes on and ends. Assumes nothing.
+use mathlib.Core.Path.{_≡_, refl, sym, _∙_, ap, ap₂}
+use mathlib.Core.Bool.{Bool, true, false, cond}
+use mathlib.Core.List.{List, map}
+use Prim.Native.Nat.{ℕ, _+_, _-_, _≤_, _<_}
+use native.Mathlib.Nat.{sub-zero}
+use native.Mathlib.Omega.{arith}
+use lib.ListN.{length, getD}
+use lib.Ieee.{Float, neg, lt}
+use Rattle.algebra.specs.Loops.{places, scan}
+use Rattle.floats.specs.declared.b2_math.B2vec2.{B2vec2}
+use Rattle.floats.specs.B2Common.{b2-max-float}
+use Rattle.floats.specs.B2Math.{b2-sub, b2-dot}
+use Rattle.shape_definitions.specs.Outline.{point-at, place-after}
+use Rattle.algebra.proofs.Lists.{getD-within}
+use Rattle.contact_definitions.specs.declared.axis.Best.{Best}
+use Rattle.contact_definitions.specs.Searches.{some-below, valued, is-greater, first-greatest}
+use Rattle.contact_definitions.proofs.Searches.{scan-step, scan-done, some-here, none-next}
+use Rattle.circles.specs.declared.b2_collide_circle.Side.{Side}
+use Rattle.circles.specs.Meetings.{out-of-face, FaceAt, SideOf}
+
+abbrev best-at : ℕ → Float → Best
+best-at index separation = record { place = index; value = separation }
+
+module _ (vs ns : List B2vec2) (count : ℕ) (c : B2vec2) (radius : Float) where
+  -- the best face of the places below i is `index`, and c is out of none of them by more than the radius
+  pub record SoFar (index : ℕ) (separation : Float) (v1 normal : B2vec2) (i : ℕ) : Type 0 where
+    pub vs-eight : length vs ≡ 8
+    pub ns-eight : length ns ≡ 8
+    pub few : count ≤ 8
+    pub done : i ≤ count
+    pub in-count : index < count
+    pub v1-is : v1 ≡ point-at vs index
+    pub normal-is : normal ≡ point-at ns index
+    pub none-out : some-below (λ k. lt radius (out-of-face vs ns c k)) i ≡ false
+    pub best-is : scan is-greater (best-at index separation) (map (valued (out-of-face vs ns c)) (places i (count - i)))
+        ≡ first-greatest (out-of-face vs ns c) count
+
+  pub sides-begin : (v n d : B2vec2) → length vs ≡ 8 → length ns ≡ 8 → 0 < count → count ≤ 8 → v ≡ getD vs 0 d → n ≡ getD ns 0 d
+      → SoFar 0 (neg b2-max-float) v n 0
+  unfolding some-below first-greatest
+  sides-begin v n d vs-eight ns-eight some few v-is n-is = record {
+    vs-eight = vs-eight;
+    ns-eight = ns-eight;
+    few = few;
+    done = omega arith;
+    in-count = some;
+    v1-is = v-is ∙ getD-within vs 0 d _ (omega arith);
+    normal-is = n-is ∙ getD-within ns 0 d _ (omega arith);
+    none-out = refl;
+    best-is = ap (λ (k : ℕ). scan is-greater (best-at 0 (neg b2-max-float)) (map (valued (out-of-face vs ns c)) (places 0 k)))
+        (sub-zero count);
+  }
+
+  -- v and n are read at place i, and s is how far c is out of that face
+  module _ (index : ℕ) (separation : Float) (v1 normal : B2vec2) (i : ℕ) (so-far : SoFar index separation v1 normal i) (within : i < count)
+      (v n d e : B2vec2) (s : Float) (v-is : v ≡ getD vs i d) (n-is : n ≡ getD ns i d) (e-is : e ≡ b2-sub c v) (s-is : s ≡ b2-dot n e) where
+    v-here : v ≡ point-at vs i
+    v-here = let eight = so-far .vs-eight in let few = so-far .few in v-is ∙ getD-within vs i d _ (omega arith)
+
+    n-here : n ≡ point-at ns i
+    n-here = let eight = so-far .ns-eight in let few = so-far .few in n-is ∙ getD-within ns i d _ (omega arith)
+
+    s-here : s ≡ out-of-face vs ns c i
+    s-here = s-is ∙ ap₂ b2-dot n-here (e-is ∙ ap (b2-sub c) v-here)
+
+    pub side-outside : lt radius s ≡ true → SideOf vs ns count c radius (record { outside = true; separation = s; v1 = v; v2 = v; normal = n })
+    side-outside far = record {
+      outside-is = sym (some-here (λ k. lt radius (out-of-face vs ns c k)) i count within (ap (lt radius) (sym s-here) ∙ far));
+      face = λ never. absurd (true-is-not-false never);
+    }
+      where
+        true-is-not-false : true ≡ false → ⊥
+        true-is-not-false h = let z : _≡_ {A = ℕ} 0 1 = cc in omega arith
+
+    module _ (near : lt radius s ≡ false) where
+      none : some-below (λ k. lt radius (out-of-face vs ns c k)) (i + 1) ≡ false
+      none = none-next (λ k. lt radius (out-of-face vs ns c k)) i (so-far .none-out) (ap (lt radius) (sym s-here) ∙ near)
+
+      stepped : scan is-greater (cond (lt separation (out-of-face vs ns c i)) (valued (out-of-face vs ns c) i) (best-at index separation))
+          (map (valued (out-of-face vs ns c)) (places (i + 1) (count - (i + 1)))) ≡ first-greatest (out-of-face vs ns c) count
+      stepped =
+          scan-step is-greater (valued (out-of-face vs ns c)) (best-at index separation) i count
+          (first-greatest (out-of-face vs ns c) count) within (so-far .best-is)
+
+      pub side-taken : lt separation s ≡ true → SoFar i s v n (i + 1)
+      side-taken more = record {
+        vs-eight = so-far .vs-eight;
+        ns-eight = so-far .ns-eight;
+        few = so-far .few;
+        done = omega arith;
+        in-count = within;
+        v1-is = v-here;
+        normal-is = n-here;
+        none-out = none;
+        best-is = ap (λ (x : Float). scan is-greater (best-at i x) (map (valued (out-of-face vs ns c)) (places (i + 1) (count - (i + 1)))))
+            s-here
+            ∙ ap (λ (t : Bool). scan is-greater (cond t (valued (out-of-face vs ns c) i) (best-at index separation))
+            (map (valued (out-of-face vs ns c)) (places (i + 1) (count - (i + 1)))))
+            (sym (ap (lt separation) (sym s-here) ∙ more))
+            ∙ stepped;
+      }
+
+      pub side-left : lt separation s ≡ false → SoFar index separation v1 normal (i + 1)
+      side-left less = record {
+        vs-eight = so-far .vs-eight;
+        ns-eight = so-far .ns-eight;
+        few = so-far .few;
+        done = omega arith;
+        in-count = so-far .in-count;
+        v1-is = so-far .v1-is;
+        normal-is = so-far .normal-is;
+        none-out = none;
+        best-is = ap (λ (t : Bool). scan is-greater (cond t (valued (out-of-face vs ns c) i) (best-at index separation))
+            (map (valued (out-of-face vs ns c)) (places (i + 1) (count - (i + 1)))))
+            (sym (ap (lt separation) (sym s-here) ∙ less))
+            ∙ stepped;
+      }
+
+  -- all places are done: v2 is the corner after the best face's first
+  pub side-found : (index : ℕ) (separation : Float) (v1 normal : B2vec2) (i next : ℕ) (v2 d : B2vec2)
+      → SoFar index separation v1 normal i → count ≤ i → next < count → next ≡ place-after count index → v2 ≡ getD vs next d
+      → SideOf vs ns count c radius (record { outside = false; separation = separation; v1 = v1; v2 = v2; normal = normal })
+  side-found index separation v1 normal i next v2 d so-far past next-in next-is v2-is =
+      let eight = so-far .vs-eight in
+      let few = so-far .few in
+      let done = so-far .done in
+      let all : i ≡ count = omega arith in
+      let best = scan-done is-greater (valued (out-of-face vs ns c)) (best-at index separation) i count
+      (first-greatest (out-of-face vs ns c) count) past (so-far .best-is) in
+      record {
+        outside-is = sym (ap (some-below (λ k. lt radius (out-of-face vs ns c k))) (sym all) ∙ so-far .none-out);
+        face = λ _. record {
+          separation-is = ap (λ (b : Best). b .value) best;
+          v1-is = so-far .v1-is ∙ ap (λ (b : Best). point-at vs (b .place)) best;
+          v2-is = v2-is ∙ getD-within vs next d _ (omega arith) ∙ ap (point-at vs) next-is
+              ∙ ap (λ (b : Best). point-at vs (place-after count (b .place))) best;
+          normal-is = so-far .normal-is ∙ ap (λ (b : Best). point-at ns (b .place)) best;
+        };
+      }

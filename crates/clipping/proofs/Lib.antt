@@ -1,0 +1,4 @@
+pub mod Two
+pub mod Ends
+pub mod Scale
+pub mod Points

@@ -1,0 +1,20 @@
+-- The kind by the flag. Assumes nothing.
+use mathlib.Core.Path.{_∙_, ap}
+use Rattle.contact_definitions.specs.Manifold.{with-count, with-kind}
+use borrow.Author.Needs.{needs}
+use Rattle.clipping.proofs.manifolds.only_kind.Statement.{statement}
+use Rattle.clipping.proofs.manifolds.only_kind.Tie as tie
+
+kind-of-requires : tie.Need-kind-of-requires
+kind-of-requires c κs = search needs
+
+made-anew-requires : tie.Need-made-anew-requires
+made-anew-requires c κs = search needs
+
+returns : tie.Need-returns
+returns c =
+    let kind-of′ = c .before .kind-of in
+    simp (c .made-anew .ensures, kind-of′ .ensures)
+
+pub only-kind-spec : {M : Type 1} → statement M
+only-kind-spec = tie.close (tie.spec kind-of-requires made-anew-requires returns)

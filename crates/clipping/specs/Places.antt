@@ -1,0 +1,9 @@
+-- What a clip leaves: its ends over the two output places, and their number. Definitions only.
+use mathlib.Core.List.{List}
+use lib.ListN.{length}
+use Rattle.algebra.specs.Buffer.{over}
+use Rattle.contact_definitions.specs.declared.b2_collision.B2clipVertex.{B2clipVertex}
+use Rattle.clipping.specs.declared.clip.Clip.{Clip}
+
+abbrev pub left-over : List B2clipVertex → List B2clipVertex → Clip
+left-over left old = record { out = over left old; count = length left }

@@ -1,0 +1,94 @@
+// A segment clipped to a line, by cases, with stores at constant places (the core of Box2D's b2_clip_segment_to_line).
+ghost use mathlib.Core.Path.{_≡_};
+ghost use Rattle.contact_definitions.specs.Clip.{clip-distance, crossing, clipped};
+ghost use Rattle.clipping.specs.Places.{left-over};
+use contact_definitions::b2_collision::B2clipVertex;
+use contact_definitions::b2_collision::B2contactFeature;
+use contact_definitions::b2_collision::B2contactId;
+use floats::b2_math::B2vec2;
+use floats::b2_math::b2_add;
+use floats::b2_math::b2_dot;
+use floats::b2_math::b2_scale;
+use floats::b2_math::b2_sub;
+
+// The output places, and how many ends were written there.
+pub struct Clip {
+    pub out: [B2clipVertex; 2],
+    pub count: usize,
+}
+
+// The distance of an end from the line.
+pub fn clip_distance(n: B2vec2, offset: f32, e: B2clipVertex) -> f32
+    ensures { λ r. ⌜ r ≡ clip-distance n offset e ⌝ }
+{
+    b2_dot(n, e.v) - offset
+}
+
+// The point where the segment from a to b crosses the line, from which they lie d0 and d1.
+pub fn cut(a: B2clipVertex, b: B2clipVertex, d0: f32, d1: f32, index: usize) -> B2clipVertex
+    ensures { λ r. ⌜ r ≡ crossing a b d0 d1 index ⌝ }
+{
+    let interp = d0 / (d0 - d1);
+    let v = b2_add(a.v, b2_scale(interp, b2_sub(b.v, a.v)));
+    B2clipVertex {
+        v,
+        id: B2contactId {
+            cf: B2contactFeature {
+                index_a: (index % 256) as u8,
+                index_b: a.id.cf.index_b,
+                type_a: 0,
+                type_b: 1,
+            },
+        },
+    }
+}
+
+// What is left of the segment vs, over the places of out. An end that is left on the one side and a crossing are two,
+// never three, and where no end is left there is no crossing.
+pub fn clip_ends(
+    out: [B2clipVertex; 2],
+    vs: [B2clipVertex; 2],
+    n: B2vec2,
+    offset: f32,
+    index: usize,
+) -> Clip
+    ensures { λ r. ⌜ r ≡ left-over (clipped vs n offset index) out ⌝ }
+{
+    let a = vs[0];
+    let b = vs[1];
+    let d0 = clip_distance(n, offset, a);
+    let d1 = clip_distance(n, offset, b);
+    if d0 <= 0.0 {
+        if d1 <= 0.0 {
+            return Clip {
+                out: [a, b],
+                count: 2,
+            };
+        }
+        if d0 * d1 < 0.0 {
+            return Clip {
+                out: [a, cut(a, b, d0, d1, index)],
+                count: 2,
+            };
+        }
+        let o = out[1];
+        return Clip {
+            out: [a, o],
+            count: 1,
+        };
+    }
+    if d1 <= 0.0 {
+        if d0 * d1 < 0.0 {
+            return Clip {
+                out: [b, cut(a, b, d0, d1, index)],
+                count: 2,
+            };
+        }
+        let o = out[1];
+        return Clip {
+            out: [b, o],
+            count: 1,
+        };
+    }
+    Clip { out, count: 0 }
+}

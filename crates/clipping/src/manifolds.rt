@@ -1,0 +1,142 @@
+// Manifolds made anew from old ones: vectors are handed on coordinate by coordinate, so that none is copied as a whole.
+ghost use mathlib.Core.Path.{_≡_};
+ghost use mathlib.Core.Bool.{cond};
+ghost use Rattle.contact_definitions.specs.Manifold.{contact-id, swapped-id, with-local-point};
+ghost use Rattle.contact_definitions.specs.Manifold.{with-count, with-kind, with-one-point};
+ghost use Rattle.contact_definitions.specs.declared.b2_collision.B2manifoldType.the-variants.{EFaceA, EFaceB};
+use contact_definitions::b2_collision::B2contactFeature;
+use contact_definitions::b2_collision::B2contactId;
+use contact_definitions::b2_collision::B2manifold;
+use contact_definitions::b2_collision::B2manifoldPoint;
+use contact_definitions::b2_collision::B2manifoldType;
+use floats::b2_math::B2vec2;
+
+// m with another kind and count.
+pub fn made_anew(m: B2manifold, manifold_type: B2manifoldType, point_count: usize) -> B2manifold
+    ensures { λ r. ⌜ r ≡ with-kind (with-count m «point_count») «manifold_type» ⌝ }
+{
+    let p0 = m.points[0];
+    let p1 = m.points[1];
+    let id = p0.id;
+    let q0 = B2manifoldPoint {
+        local_point: B2vec2 {
+            x: p0.local_point.x,
+            y: p0.local_point.y,
+        },
+        normal_impulse: p0.normal_impulse,
+        tangent_impulse: p0.tangent_impulse,
+        id,
+    };
+    B2manifold {
+        points: [q0, p1],
+        local_normal: B2vec2 {
+            x: m.local_normal.x,
+            y: m.local_normal.y,
+        },
+        local_point: B2vec2 {
+            x: m.local_point.x,
+            y: m.local_point.y,
+        },
+        manifold_type,
+        point_count,
+    }
+}
+
+// m without points.
+pub fn no_points(m: B2manifold) -> B2manifold
+    ensures { λ r. ⌜ r ≡ with-count m 0 ⌝ }
+{
+    let t = m.manifold_type;
+    made_anew(m, t, 0)
+}
+
+// Face B where flip, else face A.
+pub fn kind_of(flip: bool) -> B2manifoldType
+    ensures { λ r. ⌜ r ≡ cond flip EFaceB EFaceA ⌝ }
+{
+    if flip {
+        B2manifoldType::EFaceB
+    } else {
+        B2manifoldType::EFaceA
+    }
+}
+
+// m without points, and with the kind of a face.
+pub fn only_kind(m: B2manifold, flip: bool) -> B2manifold
+    ensures { λ r. ⌜ r ≡ with-kind (with-count m 0) (cond flip EFaceB EFaceA) ⌝ }
+{
+    made_anew(m, kind_of(flip), 0)
+}
+
+// m with one point, at a circle's centre.
+pub fn circle_point(
+    m: B2manifold,
+    t: B2manifoldType,
+    local_normal: B2vec2,
+    local_point: B2vec2,
+    centre: B2vec2,
+    index_a: u8,
+    type_a: u8,
+) -> B2manifold
+    ensures { λ r. ⌜ r ≡ with-one-point m t «local_normal» «local_point» centre (contact-id «index_a» 0 «type_a» 0) ⌝ }
+{
+    let p = m.points[0];
+    let p1 = m.points[1];
+    let p0 = B2manifoldPoint {
+        local_point: centre,
+        normal_impulse: p.normal_impulse,
+        tangent_impulse: p.tangent_impulse,
+        id: B2contactId {
+            cf: B2contactFeature {
+                index_a,
+                index_b: 0,
+                type_a,
+                type_b: 0,
+            },
+        },
+    };
+    B2manifold {
+        points: [p0, p1],
+        local_normal,
+        local_point,
+        manifold_type: t,
+        point_count: 1,
+    }
+}
+
+// The features with A and B exchanged.
+pub fn swapped(id: B2contactId) -> B2contactId
+    ensures { λ r. ⌜ r ≡ swapped-id id ⌝ }
+{
+    let f = id.cf;
+    B2contactId {
+        cf: B2contactFeature {
+            index_a: f.index_b,
+            index_b: f.index_a,
+            type_a: f.type_b,
+            type_b: f.type_a,
+        },
+    }
+}
+
+// The id swapped whole, or as it is: a choice byte by byte costs a shift for each byte.
+pub fn flipped(id: B2contactId, flip: bool) -> B2contactId
+    ensures { λ r. ⌜ r ≡ cond flip (swapped-id id) id ⌝ }
+{
+    if flip {
+        return swapped(id);
+    }
+    id
+}
+
+// An old point with another place and id.
+pub fn point_of(old: B2manifoldPoint, local_point: B2vec2, id: B2contactId) -> B2manifoldPoint
+    ensures { λ r. ⌜ r ≡ with-local-point old «local_point» id ⌝ }
+{
+    B2manifoldPoint {
+        local_point,
+        normal_impulse: old.normal_impulse,
+        tangent_impulse: old.tangent_impulse,
+        id,
+    }
+}

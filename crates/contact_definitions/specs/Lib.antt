@@ -1,0 +1,12 @@
+pub mod Searches
+pub mod Axis
+pub mod Manifold
+pub mod Clip
+pub mod PointStates
+pub mod WorldManifold
+pub mod ReferenceFace
+pub mod B2CollideCircle
+pub mod B2CollidePolygon
+pub mod EdgeAxis
+pub mod EdgeReference
+pub mod B2CollideEdge
