@@ -37,26 +37,26 @@ pub record PolygonsCases : Type 0 where
   pub apart-by-a : b2-collide-polygons (given EFaceB) (box ½ +1) unmoved (box ½ +1) (moved 1¼ ¼)
       ≡ manifold-accepted (no-point EFaceB)
   -- apart by a face of B alone
-  pub apart-by-b : b2-collide-polygons (given EFaceA) (box +1 ½) unmoved (box ½ +1) (placed +2 ¼ six-tenths
-      eight-tenths)
+  pub apart-by-b : b2-collide-polygons (given EFaceA) (box +1 ½) unmoved (box ½ +1)
+      (placed +2 ¼ six-tenths eight-tenths)
       ≡ manifold-accepted (no-point EFaceA)
   -- face A
-  pub two-on-a : b2-collide-polygons (given EFaceB) (box ½ +1) (moved -¾ ¼) (box +1 ½) (placed -¾ ¼ eight-tenths
-      six-tenths)
+  pub two-on-a : b2-collide-polygons (given EFaceB) (box ½ +1) (moved -¾ ¼) (box +1 ½)
+      (placed -¾ ¼ eight-tenths six-tenths)
       ≡ manifold-accepted (after EFaceA 2 (vec2 +1 (float 0x8000_0000)) (vec2 ½ zero32)
       (first (vec2 -1 ½) (contact-id 1 3 1 0)) (second (vec2 (float 0x3f66_6666) ½) (contact-id 2 2 0 1)))
-  pub one-on-a : b2-collide-polygons (given ECircles) (box ½ +1) unmoved (box ½ +1) (placed +1 ¼ six-tenths
-      eight-tenths)
+  pub one-on-a : b2-collide-polygons (given ECircles) (box ½ +1) unmoved (box ½ +1)
+      (placed +1 ¼ six-tenths eight-tenths)
       ≡ manifold-accepted (after EFaceA 1 (vec2 +1 (float 0x8000_0000)) (vec2 ½ zero32)
       (first (vec2 -½ +1) (contact-id 1 3 1 0)) kept-second)
   -- face B: indices and types change sides
   pub two-on-b : b2-collide-polygons (given EFaceA) (box +1 ½) (placed ½ ¾ eight-tenths six-tenths) (box +1 ½)
       (placed ¼ -½ six-tenths eight-tenths)
       ≡ manifold-accepted (after EFaceB 2 (vec2 zero32 +1) (vec2 zero32 ½)
-      (first (vec2 (float 0xbf80_0001) -½) (contact-id 0 2 0 1))
-      (second (vec2 (float 0xbd95_554c) (float 0xbf00_0001)) (contact-id 0 2 1 0)))
-  pub one-on-b : b2-collide-polygons (given ECircles) (box ½ +1) unmoved (box +1 ½) (placed -½ ½ eight-tenths
-      six-tenths)
+      (first (vec2 (float 0xbf80_0001) -½) (contact-id 0 2 0 1)) (second (vec2 (float 0xbd95_554c)
+      (float 0xbf00_0001)) (contact-id 0 2 1 0)))
+  pub one-on-b : b2-collide-polygons (given ECircles) (box ½ +1) unmoved (box +1 ½)
+      (placed -½ ½ eight-tenths six-tenths)
       ≡ manifold-accepted (after EFaceB 1 (vec2 zero32 -1) (vec2 zero32 -½)
       (first (vec2 -½ +1) (contact-id 3 0 0 1)) kept-second)
   -- radii of 0.25. The clip to the first side leaves less than two ends: only the kind is written
@@ -75,11 +75,11 @@ pub record PolygonsCases : Type 0 where
   pub count-of-b-first : b2-collide-polygons (given EFaceB) (thick-box -1 +1 +1) (placed zero32 zero32 1½ +1)
       (counting-box 9 +1 +1 +1) unmoved
       ≡ manifold-refused count-out-of-range (given EFaceB)
-  pub shape-of-b-second : b2-collide-polygons (given EFaceB) (box +1 +1) (placed zero32 zero32 1½ +1) (thick-box -1
-      +1 +1) unmoved
+  pub shape-of-b-second : b2-collide-polygons (given EFaceB) (box +1 +1) (placed zero32 zero32 1½ +1)
+      (thick-box -1 +1 +1) unmoved
       ≡ manifold-refused shape-out-of-range (given EFaceB)
-  pub placement-of-b-last : b2-collide-polygons (given EFaceB) (box +1 +1) unmoved (box +1 +1) (placed zero32 zero32
-      1½ +1)
+  pub placement-of-b-last : b2-collide-polygons (given EFaceB) (box +1 +1) unmoved (box +1 +1)
+      (placed zero32 zero32 1½ +1)
       ≡ manifold-refused placement-out-of-range (given EFaceB)
 
 pub polygons-cases : PolygonsCases
@@ -108,26 +108,26 @@ polygons-cases = record {
 
 pub record AxisCases : Type 0 where
   -- the pair of two-on-b: the face of A and that of B, and the edge of A that meets it
-  pub separation-of-a : b2-find-max-separation (box +1 ½) (placed ½ ¾ eight-tenths six-tenths) (box +1 ½) (placed ¼
-      -½ six-tenths eight-tenths)
+  pub separation-of-a : b2-find-max-separation (box +1 ½) (placed ½ ¾ eight-tenths six-tenths) (box +1 ½)
+      (placed ¼ -½ six-tenths eight-tenths)
       ≡ record { place = 0; value = (float 0xbf35_c290) }
-  pub separation-of-b : b2-find-max-separation (box +1 ½) (placed ¼ -½ six-tenths eight-tenths) (box +1 ½) (placed ½
-      ¾ eight-tenths six-tenths)
+  pub separation-of-b : b2-find-max-separation (box +1 ½) (placed ¼ -½ six-tenths eight-tenths) (box +1 ½)
+      (placed ½ ¾ eight-tenths six-tenths)
       ≡ record { place = 2; value = (float 0xbed1_eb86) }
-  pub incident-edge : b2-find-incident-edge (box +1 ½) (placed ¼ -½ six-tenths eight-tenths) 2 (box +1 ½) (placed ½
-      ¾ eight-tenths six-tenths)
-      ≡ (record { v = (vec2 (float 0x3e99_9999) (float 0xbeb3_3334)); id = (contact-id 2 0 1 0) }) ∷ (record
-      { v = (vec2 1½ 1¼); id = (contact-id 2 1 1 0) }) ∷ []
+  pub incident-edge : b2-find-incident-edge (box +1 ½) (placed ¼ -½ six-tenths eight-tenths) 2 (box +1 ½)
+      (placed ½ ¾ eight-tenths six-tenths)
+      ≡ (record { v = (vec2 (float 0x3e99_9999) (float 0xbeb3_3334)); id = (contact-id 2 0 1 0) }) ∷
+      (record { v = (vec2 1½ 1¼); id = (contact-id 2 1 1 0) }) ∷ []
   -- the axis search answers face B there, face A for two-on-a, and apart by A and by B
   pub face-of-b : polygons-axis (float 0x3ca3_d70a) (box +1 ½) (placed ½ ¾ eight-tenths six-tenths) (box +1 ½)
       (placed ¼ -½ six-tenths eight-tenths)
       ≡ FaceB (float 0xbed1_eb86) zero32 +1 2
-  pub face-of-a : polygons-axis (float 0x3ca3_d70a) (box ½ +1) (moved -¾ ¼) (box +1 ½) (placed -¾ ¼ eight-tenths
-      six-tenths)
+  pub face-of-a : polygons-axis (float 0x3ca3_d70a) (box ½ +1) (moved -¾ ¼) (box +1 ½)
+      (placed -¾ ¼ eight-tenths six-tenths)
       ≡ FaceA -1½ +1 zero32 1
   pub apart-of-a : polygons-axis (float 0x3ca3_d70a) (box ½ +1) unmoved (box ½ +1) (moved 1¼ ¼) ≡ Apart ¼
-  pub apart-of-b : polygons-axis (float 0x3ca3_d70a) (box +1 ½) unmoved (box ½ +1) (placed +2 ¼ six-tenths
-      eight-tenths)
+  pub apart-of-b : polygons-axis (float 0x3ca3_d70a) (box +1 ½) unmoved (box ½ +1)
+      (placed +2 ¼ six-tenths eight-tenths)
       ≡ Apart (float 0x3e19_999a)
 
 pub axis-cases : AxisCases

@@ -75,23 +75,23 @@ octagon = record {
 
 pub record CircleTies : Type 0 where
   -- the centre as far out of two faces: the first
-  pub first-face-of-two : b2-collide-polygon-and-circle (given ECircles) (box ½ ½) unmoved (circle ¼ origin) (placed
-      ¼ ¼ +1 zero32)
+  pub first-face-of-two : b2-collide-polygon-and-circle (given ECircles) (box ½ ½) unmoved (circle ¼ origin)
+      (placed ¼ ¼ +1 zero32)
       ≡ manifold-accepted (after EFaceA 1 (vec2 +1 zero32) (vec2 ½ zero32) (first origin (contact-id 0 0 0 0))
       kept-second)
   -- over the line through the first corner: at the corner
-  pub at-the-corner-line : b2-collide-polygon-and-circle (given ECircles) (box ½ ½) unmoved (circle ¾
-      (vec2 zero32 ½)) (moved -¾ zero32)
+  pub at-the-corner-line : b2-collide-polygon-and-circle (given ECircles) (box ½ ½) unmoved
+      (circle ¾ (vec2 zero32 ½)) (moved -¾ zero32)
       ≡ manifold-accepted (after EFaceA 1 (vec2 -1 zero32) (vec2 -½ ½) (first (vec2 zero32 ½) (contact-id 0 0 0 0))
       kept-second)
   -- out of a face by 2^-24 is inside
-  pub hardly-outside : b2-collide-polygon-and-circle (given ECircles) (box ½ ½) unmoved (circle ½
-      (vec2 (float 0x3f00_0001) ½)) unmoved
+  pub hardly-outside : b2-collide-polygon-and-circle (given ECircles) (box ½ ½) unmoved
+      (circle ½ (vec2 (float 0x3f00_0001) ½)) unmoved
       ≡ manifold-accepted (after EFaceA 1 (vec2 +1 zero32) (vec2 ½ zero32)
       (first (vec2 (float 0x3f00_0001) ½) (contact-id 0 0 0 0)) kept-second)
   -- eight corners are taken
-  pub eight-corners : b2-collide-polygon-and-circle (given EFaceB) octagon unmoved (circle ½ (vec2 ¼ -¼)) (moved +1
-      ¾)
+  pub eight-corners : b2-collide-polygon-and-circle (given EFaceB) octagon unmoved (circle ½ (vec2 ¼ -¼))
+      (moved +1 ¾)
       ≡ manifold-accepted (after EFaceA 1 (vec2 +1 zero32) (vec2 +1 ½) (first (vec2 ¼ -¼) (contact-id 0 0 0 0))
       kept-second)
 
@@ -117,11 +117,11 @@ pub record PolygonTies : Type 0 where
       ≡ manifold-accepted (after EFaceB 2 (vec2 zero32 +1) (vec2 zero32 +2) (first (vec2 ¾ -¾) (contact-id 0 2 0 1))
       (second origin (contact-id 1 2 0 1)))
   -- B ahead of A by less than the tolerance
-  pub tolerance-holds : b2-collide-polygons (given ECircles) (box ½ ½) unmoved (box ½ ½) (placed ½ -1
-      (neg six-tenths) eight-tenths)
-      ≡ manifold-accepted (after EFaceA 2 (vec2 zero32 -1) (vec2 zero32 -½)
-      (first (vec2 (float 0xbf00_0001) (float 0x3f00_0001)) (contact-id 0 3 1 0))
-      (second (vec2 (float 0xbeb3_3336) (float 0x3f00_0001)) (contact-id 1 2 0 1)))
+  pub tolerance-holds : b2-collide-polygons (given ECircles) (box ½ ½) unmoved (box ½ ½)
+      (placed ½ -1 (neg six-tenths) eight-tenths)
+      ≡ manifold-accepted (after EFaceA 2 (vec2 zero32 -1) (vec2 zero32 -½) (first (vec2 (float 0xbf00_0001)
+      (float 0x3f00_0001)) (contact-id 0 3 1 0)) (second (vec2 (float 0xbeb3_3336) (float 0x3f00_0001)) (contact-id
+      1 2 0 1)))
   -- two edges as much against the face: the first
   pub first-incident-edge : b2-collide-polygons (given ECircles) (box ½ ½) unmoved (triangle b2-polygon-radius
       (vec2 ½ (float 0x3daa_aab0)) ((vec2 1½ -½) ∷ (vec2 zero32 +1) ∷ (vec2 zero32 -¼) ∷ []) ((vec2
@@ -142,8 +142,8 @@ pub record PolygonTies : Type 0 where
       (first (vec2 -½ (float 0xbe8a_3d70)) (contact-id 0 3 0 1))
       (second (vec2 -½ (float 0x3e8a_3d70)) (contact-id 1 3 0 1)))
   -- both apart by exactly the skins
-  pub apart-by-the-skins : b2-collide-polygons (given ECircles) (thick-box ¼ +1 ½) unmoved (thick-box ¼ ½ +1) (moved
-      +2 ¼)
+  pub apart-by-the-skins : b2-collide-polygons (given ECircles) (thick-box ¼ +1 ½) unmoved (thick-box ¼ ½ +1)
+      (moved +2 ¼)
       ≡ manifold-accepted (after EFaceA 2 (vec2 +1 (float 0x8000_0000)) (vec2 +1 zero32)
       (first (vec2 -½ -1) (contact-id 1 0 1 0)) (second (vec2 -½ ¾) (contact-id 2 3 0 1)))
 
@@ -172,13 +172,13 @@ pub record EdgeTies : Type 0 where
       ≡ manifold-accepted (after ECircles 1 origin (vec2 zero32 1½) (first (vec2 -¼ -¼) (contact-id 0 0 0 0))
       kept-second)
   -- greater by less than 0.001, and the outline's axis, greater by less than 2 in 100
-  pub absolute-tolerance-holds : b2-collide-edge-and-polygon (given ECircles) (two-sided (vec2 -1¼ -1)
-      (vec2 1½ zero32)) unmoved (box ½ +2) (placed (float 0xbee0_0000) ¼ +1 zero32)
+  pub absolute-tolerance-holds : b2-collide-edge-and-polygon (given ECircles)
+      (two-sided (vec2 -1¼ -1) (vec2 1½ zero32)) unmoved (box ½ +2) (placed (float 0xbee0_0000) ¼ +1 zero32)
       ≡ manifold-accepted (after EFaceA 1 (vec2 (float 0xbeae_f8f3) (float 0x3f70_964e)) (vec2 -1¼ -1)
       (first (vec2 -½ -2) (contact-id 0 0 1 0)) kept-second)
   -- both sides of the wall alike: side 0, and the centroid on the wall's line is not behind it
-  pub first-side-of-the-wall : b2-collide-edge-and-polygon (given ECircles) (one-sided (vec2 -½ ½) (vec2 1½ ¼)
-      (vec2 -½ ¼) (vec2 ¾ -1)) unmoved (box ½ +1) (moved zero32 ¼)
+  pub first-side-of-the-wall : b2-collide-edge-and-polygon (given ECircles)
+      (one-sided (vec2 -½ ½) (vec2 1½ ¼) (vec2 -½ ¼) (vec2 ¾ -1)) unmoved (box ½ +1) (moved zero32 ¼)
       ≡ manifold-accepted (after EFaceA 2 (vec2 zero32 +1) (vec2 1½ ¼) (first (vec2 -½ -1) (contact-id 0 0 1 0))
       (second (vec2 ½ -1) (contact-id 0 1 1 0)))
   -- beyond the neighbour by a sine from 0.1 to 0.2
@@ -191,8 +191,8 @@ pub record EdgeTies : Type 0 where
       ≡ manifold-accepted (after EFaceB 1 (vec2 zero32 -1) (vec2 -1 -½) (first (vec2 zero32 ¾) (contact-id 0 1 1 0))
       kept-second)
   -- two faces keep the wall off alike: the first
-  pub first-face-of-the-outline : b2-collide-edge-and-polygon (given ECircles) (two-sided (vec2 +1 zero32)
-      (vec2 -1½ ¾)) unmoved (box ½ ½) (placed +1 zero32 +1 zero32)
+  pub first-face-of-the-outline : b2-collide-edge-and-polygon (given ECircles)
+      (two-sided (vec2 +1 zero32) (vec2 -1½ ¾)) unmoved (box ½ ½) (placed +1 zero32 +1 zero32)
       ≡ manifold-accepted (after EFaceB 2 (vec2 +1 zero32) (vec2 ½ -½) (first (vec2 +1 zero32) (contact-id 1 0 1 0))
       (second (vec2 ½ (float 0x3e19_9998)) (contact-id 1 2 1 0)))
   -- walls in one line count as convex
