@@ -5,12 +5,14 @@ use mathlib.Core.List.{[], _∷_}
 use lib.Ieee.{neg, add, sub, mul, div, le, lt, eq, ofBits}
 use Rattle.rounding.specs.Literals.{zero32}
 use Rattle.sqrt.specs.Sqrt.{root-digits, whole-root, rounded-root, sqrt}
+use Rattle.floats.specs.B2Common.{b2-polygon-radius}
 use Rattle.floats.specs.B2Math.{b2-sqrt, b2-add, b2-sub, b2-neg, b2-scale, b2-dot, b2-cross-vec-by-scalar}
 use Rattle.floats.specs.B2Math.{b2-length-squared, b2-length, b2-normalize, b2-mul-t-rot, b2-mul-rot-by-vec2}
 use Rattle.floats.specs.B2Math.{b2-mul-t-rot-by-vec2, b2-mul-transform-by-vec2, b2-mul-t-transform-by-vec2}
 use Rattle.floats.specs.B2Math.{b2-mul-t-transform, vec2}
 use Rattle.floats.specs.Ranges.{point-in-range, radius-in-range, rotation-in-range, transform-in-range}
 use Rattle.floats.specs.Ranges.{normal-in-range}
+use Rattle.shape_definitions.specs.Outline.{origin}
 use Rattle.shape_definitions.specs.Refusal.{count-out-of-range, placement-out-of-range, shape-out-of-range}
 use Rattle.shape_definitions.specs.Validate.{polygon-in-range}
 use Rattle.contact_definitions.specs.declared.axis.Axis.the-variants.{Apart, FaceA, FaceB}
@@ -27,10 +29,10 @@ use Rattle.contact_definitions.specs.Manifold.{manifold-accepted, manifo
 use Rattle.contact_definitions.specs.ReferenceFace.{clipped-to-sides, only, points-from, with-points}
 use Rattle.contact_definitions.specs.ReferenceFace.{manifold-of-ends}
 use Rattle.contact_definitions.specs.Searches.{least, first-greatest, first-least}
-use Rattle.contact_definitions.proofs.Numbers.{+1, +2, -1, -1½, -2½, -½, -¾, 1¼, 1½, ¼, ½, ¾}
+use Rattle.contact_definitions.proofs.Numbers.{+1, +2, -1, -1½, -1¾, -2½, -¼, -½, -¾, 1¼, 1½, ¼, ½, ¾}
 use Rattle.contact_definitions.proofs.Given.{after, box, counting-box, eight-tenths, first, float, given}
 use Rattle.contact_definitions.proofs.Given.{kept-first, kept-second, moved, no-point, placed, second}
-use Rattle.contact_definitions.proofs.Given.{six-tenths, thick-box, unmoved}
+use Rattle.contact_definitions.proofs.Given.{six-tenths, thick-box, triangle, unmoved}
 
 pub record PolygonsCases : Type 0 where
   -- apart by a face of A
@@ -55,10 +57,11 @@ pub record PolygonsCases : Type 0 where
       ≡ manifold-accepted (after EFaceB 2 (vec2 zero32 +1) (vec2 zero32 ½)
       (first (vec2 (float 0xbf80_0001) -½) (contact-id 0 2 0 1)) (second (vec2 (float 0xbd95_554c)
       (float 0xbf00_0001)) (contact-id 0 2 1 0)))
-  pub one-on-b : b2-collide-polygons (given ECircles) (box ½ +1) unmoved (box +1 ½)
-      (placed -½ ½ eight-tenths six-tenths)
-      ≡ manifold-accepted (after EFaceB 1 (vec2 zero32 -1) (vec2 zero32 -½)
-      (first (vec2 -½ +1) (contact-id 3 0 0 1)) kept-second)
+  pub one-on-b : b2-collide-polygons (given ECircles) (triangle b2-polygon-radius (vec2 -¾ (float 0xbdaa_aaab))
+      (origin ∷ (vec2 -¾ zero32) ∷ (vec2 -1½ -¼) ∷ []) ((vec2 zero32 +1) ∷ (vec2 (float 0xbea1_e89b)
+      (float 0x3f72_dce8)) ∷ (vec2 (float 0x3e28_5835) (float 0xbf7c_8450)) ∷ [])) unmoved (box ½ ½) (moved -1¾ -½)
+      ≡ manifold-accepted (after EFaceB 1 (vec2 +1 (float 0x8000_0000)) (vec2 ½ zero32)
+      (first (vec2 -1½ -¼) (contact-id 2 1 0 1)) kept-second)
   -- radii of 0.25. The clip to the first side leaves less than two ends: only the kind is written
   pub kind-alone-first-side : b2-collide-polygons (given ECircles) (thick-box ¼ ½ ½) unmoved (thick-box ¼ ½ ½)
       (moved -1½ -1½)
