@@ -55,7 +55,7 @@ pub record EdgePolygonCases : Type 0 where
       (box +1 +1) (placed 1¼ zero32 +1 zero32)
       ≡ manifold-accepted (after EFaceA 2 (vec2 (float 0x3f1f_ec04) (float 0x3f47_e705)) (vec2 zero32 ½)
       (first (vec2 -1 +1) (contact-id 0 3 1 0)) (second (vec2 -1 (float 0x3ecc_ccce)) (contact-id 1 3 0 1)))
-  -- and by less than 0.001
+  -- the outline's axis is the greater by less than 0.001
   pub one-on-the-wall : b2-collide-edge-and-polygon (given ECircles) (two-sided (vec2 -1¼ -1) (vec2 1½ zero32))
       unmoved (box ½ +2) (placed (float 0xbee0_0000) ¼ +1 zero32)
       ≡ manifold-accepted (after EFaceA 1 (vec2 (float 0xbeae_f8f3) (float 0x3f70_964e)) (vec2 -1¼ -1)

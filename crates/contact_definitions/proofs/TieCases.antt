@@ -110,7 +110,7 @@ circle-ties = record {
 }
 
 pub record PolygonTies : Type 0 where
-  -- three corners against four, and three corners against four
+  -- three corners against four
   pub three-against-four-incident : b2-collide-polygons (given ECircles) (triangle b2-polygon-radius
       (vec2 (float 0x3f6a_aaaa) ¼) ((vec2 1½ -¼) ∷ (vec2 ¾ ½) ∷ (vec2 ½ ½) ∷ []) ((vec2 (float 0x3f35_04f4)
       (float 0x3f35_04f4)) ∷ (vec2 zero32 +1) ∷ (vec2 (neg six-tenths) (neg eight-tenths)) ∷ [])) unmoved (box ½ ½)
