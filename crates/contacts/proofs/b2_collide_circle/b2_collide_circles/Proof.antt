@@ -1,41 +1,41 @@
+-- Accepted, or by the ranges. Assumes nothing.
+use mathlib.Core.Path.{_∙_, ap}
+use Rattle.contact_definitions.specs.Manifold.{manifold-accepted}
+use Rattle.contact_definitions.specs.B2CollideCircle.{b2-collide-circles}
+use Rattle.contacts.proofs.Refused.{all-in-range, not-in-range}
 use borrow.Author.Needs.{needs}
 use Rattle.contacts.proofs.b2_collide_circle.b2_collide_circles.Statement.{statement}
 use Rattle.contacts.proofs.b2_collide_circle.b2_collide_circles.Tie as tie
-use Rattle.contacts.proofs.b2_collide_circle.b2_collide_circles.Reads as reads
-use Rattle.contacts.proofs.b2_collide_circle.b2_collide_circles.Lts as lts
-use Rattle.contacts.proofs.answers.accepted.Reads as accepted-reads
-use Rattle.contacts.proofs.answers.out_of_range.Reads as out-of-range-reads
-use Rattle.contacts.proofs.answers.placements_in_range.Reads as placements-in-range-reads
-use Rattle.contacts.proofs.b2_collide_circle.circles_in_range.Reads as circles-in-range-reads
-use Rattle.contacts.proofs.b2_collide_circle.circles_manifold.Reads as circles-manifold-reads
 
--- src/b2_collide_circle.rt:58:9
 circles-in-range-requires : tie.Need-circles-in-range-requires
 circles-in-range-requires c κs = search needs
 
--- src/b2_collide_circle.rt:59:9
 placements-in-range-requires : tie.Need-placements-in-range-requires
 placements-in-range-requires c κs = search needs
 
--- src/b2_collide_circle.rt:61:34
 circles-manifold-requires : tie.Need-circles-manifold-requires
 circles-manifold-requires c κs = search needs
 
--- src/b2_collide_circle.rt:61:9
 accepted-requires : tie.Need-accepted-requires
 accepted-requires c κs = search needs
 
--- src/b2_collide_circle.rt:61:9
 returns : tie.Need-returns
-returns c = ?
+unfolding b2-collide-circles
+returns c =
+    let made = c .before in
+    let both = made .before in
+    c .accepted .ensures ∙ ap manifold-accepted (made .circles-manifold .ensures)
+    ∙ all-in-range _ _ _ _ _ _ _ (both .before .before .circles-in-range .ensures) (both .before .placements-in-range .ensures) (both .if1 .taken)
 
--- src/b2_collide_circle.rt:63:5
 out-of-range-requires : tie.Need-out-of-range-requires
 out-of-range-requires c κs = search needs
 
--- src/b2_collide_circle.rt:49:1
 returns-2 : tie.Need-returns-2
-returns-2 c = ?
+unfolding b2-collide-circles
+returns-2 c =
+    let neither = c .before in
+    not-in-range _ _ _ _ _ _ _ (neither .before .before .circles-in-range .ensures) (neither .before .placements-in-range .ensures) _ (neither .if1 .left)
+    (c .out-of-range .ensures)
 
 pub b2-collide-circles-spec : {M : Type 1} → statement M
 b2-collide-circles-spec =
