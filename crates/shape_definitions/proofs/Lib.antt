@@ -2,3 +2,4 @@ pub mod Over
 pub mod AllPoints
 pub mod Counted
 pub mod Controls
+pub mod RangeCases

@@ -1,7 +1,8 @@
--- Walls, b2_set_one_sided and b2_set_two_sided: the radius is kept, and by the second the ghost points too. Refusal 2. Definitions only.
-use mathlib.Core.Bool.{Bool, true, false, cond, _&&_}
+-- Walls, b2_set_one_sided and b2_set_two_sided: the radius is kept, and by the second the ghost points too. Refusal 2. And which numbers
+-- of a given wall a call takes (document 01, "Ranges"). Definitions only.
+use mathlib.Core.Bool.{Bool, true, false, not, cond, _&&_, _||_}
 use Rattle.floats.specs.declared.b2_math.B2vec2.{B2vec2}
-use Rattle.floats.specs.Ranges.{point-in-range}
+use Rattle.floats.specs.Ranges.{point-in-range, radius-in-range}
 use Rattle.shape_definitions.specs.declared.b2_edge_shape.B2edgeShape.{B2edgeShape}
 use Rattle.shape_definitions.specs.declared.b2_edge_shape.EdgeAnswer.{EdgeAnswer}
 use Rattle.shape_definitions.specs.Refusal.{accepted, shape-out-of-range}
@@ -29,3 +30,9 @@ b2-set-one-sided old v0 v1 v2 v3 =
 unfoldable pub b2-set-two-sided : B2edgeShape → B2vec2 → B2vec2 → EdgeAnswer
 b2-set-two-sided old v1 v2 =
     cond (point-in-range v1 && point-in-range v2) (wall old false (old .«m_vertex0») v1 v2 (old .«m_vertex3»)) (wall-refused old)
+
+-- ghost points count only where the wall is one-sided
+unfoldable pub edge-in-range : B2edgeShape → Bool
+edge-in-range edge =
+    radius-in-range (edge .«m_radius») && point-in-range (edge .«m_vertex1») && point-in-range (edge .«m_vertex2»)
+    && (not (edge .«m_one_sided») || point-in-range (edge .«m_vertex0») && point-in-range (edge .«m_vertex3»))

@@ -4,3 +4,4 @@ pub mod Polygon
 pub mod Boxes
 pub mod Validate
 pub mod Edge
+pub mod Circle

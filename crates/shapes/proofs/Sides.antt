@@ -39,7 +39,7 @@ unfolding zipWith
 joined-coordinates [] = refl
 joined-coordinates (v ∷ vs) = ap (_∷_ v) (joined-coordinates vs)
 
-joined-at : (xs ys : List Float) (j : ℕ) (d : Float) → j < length xs → j < length ys
+pub joined-at : (xs ys : List Float) (j : ℕ) (d : Float) → j < length xs → j < length ys
     → vec2 (getD xs j d) (getD ys j d) ≡ point-at (zipWith vec2 xs ys) j
 unfolding zipWith
 joined-at [] ys j d in-xs in-ys = absurd (omega arith)
@@ -96,21 +96,10 @@ module _ (vs : List B2vec2) (count i : ℕ) where
     ) (kept (not (corners-not-right vs count i count)) here)
   ]
 
--- from the coordinates that the code reads
-pub right-is : (xs ys : List Float) (count i next j : ℕ) (d : Float) (e : B2vec2) (here : Bool) → i < length xs → i < length ys
-    → next < length xs → next < length ys → j < length xs → j < length ys → next ≡ place-after count i
-    → e ≡ b2-sub (vec2 (getD xs next d) (getD ys next d)) (vec2 (getD xs i d) (getD ys i d))
-    → here ≡ lt (b2-cross e (b2-sub (vec2 (getD xs j d) (getD ys j d)) (vec2 (getD xs i d) (getD ys i d)))) zero32
-    → here ≡ right-at (zipWith vec2 xs ys) count i j
-right-is xs ys count i next j d e here i-xs i-ys next-xs next-ys j-xs j-ys next-is e-is here-is =
-    rw (
-      here-is,
-      e-is,
-      joined-at xs ys next d next-xs next-ys,
-      joined-at xs ys i d i-xs i-ys,
-      joined-at xs ys j d j-xs j-ys,
-      ← next-is,
-    ) refl
+-- from the corners that the code reads
+pub right-is : (vs : List B2vec2) (count i j next : ℕ) (p q v e : B2vec2) (here : Bool) → p ≡ point-at vs i → next ≡ place-after count i
+    → q ≡ point-at vs next → e ≡ b2-sub q p → v ≡ point-at vs j → here ≡ lt (b2-cross e (b2-sub v p)) zero32 → here ≡ right-at vs count i j
+right-is vs count i j next p q v e here p-is next-is q-is e-is v-is here-is = rw (here-is, e-is, q-is, p-is, v-is, next-is) refl
 
 -- ---- faces
 pub joined-faces : (vs : List B2vec2) (xs ys : List Float) (count : ℕ) → xs ≡ map (λ v. v .x) vs → ys ≡ map (λ v. v .y) vs

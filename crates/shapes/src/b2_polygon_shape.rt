@@ -6,7 +6,6 @@ ghost use Rattle.shape_definitions.specs.Polygon.{put-first, b2-polygon-shape-s
 ghost use Rattle.shape_definitions.specs.Boxes.{b2-polygon-shape-set-as-box, b2-polygon-shape-set-as-box-angle};
 ghost use Rattle.shape_definitions.specs.Validate.{b2-polygon-shape-validate};
 use crate::convex;
-use crate::shape_ranges;
 use floats::b2_common::B2_EPSILON;
 use floats::b2_math;
 use floats::b2_math::B2Rot;
@@ -20,6 +19,7 @@ use shape_definitions::b2_polygon_shape::B2polygonShape;
 use shape_definitions::b2_polygon_shape::PolygonAnswer;
 use shape_definitions::b2_polygon_shape::ValidateAnswer;
 use shape_definitions::refusal;
+use shape_ranges::polygon_range;
 
 // The outline of the first count points: weld, start, walk, normals, centroid.
 pub fn b2_polygon_shape_set_core(
@@ -258,7 +258,7 @@ pub fn b2_polygon_shape_validate(shape: B2polygonShape) -> ValidateAnswer
             valid: false,
         };
     }
-    if !shape_ranges::polygon_in_range(shape) {
+    if !polygon_range::polygon_in_range(shape) {
         return ValidateAnswer {
             refusal: refusal::SHAPE_OUT_OF_RANGE,
             valid: false,

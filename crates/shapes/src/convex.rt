@@ -8,6 +8,7 @@ ghost use lib.ListN.{length};
 ghost use lib.Ieee.{lt};
 ghost use Rattle.rounding.specs.Literals.{zero32};
 ghost use Rattle.floats.specs.B2Math.{vec2, b2-sub, b2-cross};
+ghost use Rattle.shape_definitions.specs.Outline.{point-at};
 ghost use Rattle.shape_definitions.specs.Validate.{corners-not-right, faces-convex};
 use floats::b2_math;
 use floats::b2_math::B2vec2;
@@ -41,22 +42,25 @@ fn split_coordinates(vs: [B2vec2; 8]) -> Coordinates
     Coordinates { xs: xs, ys: ys }
 }
 
+// The corner at place j.
+fn corner(xs: &[f32; 8], ys: &[f32; 8], j: usize) -> B2vec2
+    requires { ⌜ (j < 8) × (length (now xs) ≡ 8) × (length (now ys) ≡ 8) ⌝ }
+    ensures { λ r. ⌜ r ≡ point-at (zipWith vec2 (now (xs .entry)) (now (ys .entry))) j ⌝ }
+{
+    B2vec2 { x: xs[j], y: ys[j] }
+}
+
 // Whether some of the first count corners lies right of the face from i; its ends, which are corners too, do not.
 fn some_right(xs: &[f32; 8], ys: &[f32; 8], count: usize, i: usize) -> bool
     requires { ⌜ (count ≤ 8) × (i < count) × (length (now xs) ≡ 8) × (length (now ys) ≡ 8) ⌝ }
     ensures { λ r. ⌜ r ≡ not (corners-not-right (zipWith vec2 (now (xs .entry)) (now (ys .entry))) count i count) ⌝ }
 {
-    let next = outline::after(i, count);
-    let p = B2vec2 { x: xs[i], y: ys[i] };
-    let q = B2vec2 {
-        x: xs[next],
-        y: ys[next],
-    };
-    let e = b2_math::b2_sub(q, p);
+    let p = corner(xs, ys, i);
+    let e = b2_math::b2_sub(corner(xs, ys, outline::after(i, count)), p);
     let mut right = false;
     let mut j = 0usize;
     while j < 8 {
-        let here = right_of(p, e, B2vec2 { x: xs[j], y: ys[j] });
+        let here = right_of(p, e, corner(xs, ys, j));
         right = right | (here & (j < count));
         j += 1;
     }

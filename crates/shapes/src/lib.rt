@@ -2,4 +2,3 @@
 pub mod b2_edge_shape;
 pub mod b2_polygon_shape;
 mod convex;
-pub mod shape_ranges;

@@ -7,8 +7,8 @@ use lib.ListN.{length}
 use lib.Ieee.{Float}
 use Rattle.floats.specs.declared.b2_math.Normalized.{Normalized}
 use Rattle.floats.specs.B2Math.{vec2, b2-sqrt, b2-normalize}
-use Rattle.test_calls.specs.Words.{word-at}
-use Rattle.test_calls.specs.Records.{float-at, bits}
+use Rattle.wire_records.specs.Words.{word-at}
+use Rattle.wire_records.specs.Records.{float-at, bits}
 use Rattle.test_calls.specs.Entries.{normalized-words, root-answer, normalize-answer, shape-answer, answer}
 
 pub root-words : (request : List ℕ) (x root : Float) (w : ℕ) → length request ≡ 8 → x ≡ float-at request 1 → root ≡ b2-sqrt x

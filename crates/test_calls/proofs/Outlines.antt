@@ -15,10 +15,10 @@ use Rattle.shape_definitions.specs.Polygon.{b2-polygon-shape-set, b2-polygon-sh
 use Rattle.shape_definitions.specs.Boxes.{b2-polygon-shape-set-as-box, b2-polygon-shape-set-as-box-angle}
 use Rattle.shape_definitions.specs.Validate.{b2-polygon-shape-validate}
 use Rattle.shape_definitions.proofs.Counted.{counted-whole}
-use Rattle.test_calls.specs.Words.{word-at}
-use Rattle.test_calls.specs.Records.{float-at, vector-at, points-at, rotation-at, polygon-at, flag}
+use Rattle.wire_records.specs.Words.{word-at}
+use Rattle.wire_records.specs.Records.{float-at, vector-at, points-at, rotation-at, polygon-at, flag}
 use Rattle.test_calls.specs.Entries.{outline-answer, set-answer, box-answer, box-angle-answer, validate-answer}
-use Rattle.test_calls.proofs.Rows.{length-points}
+use Rattle.wire_records.proofs.Rows.{length-points}
 
 module _ (request : List ℕ) where
   pub set-short : length request < 152 → set-answer request ≡ []

@@ -9,8 +9,8 @@ use Rattle.floats.specs.declared.b2_math.B2vec2.{B2vec2}
 use Rattle.shape_definitions.specs.declared.b2_edge_shape.B2edgeShape.{B2edgeShape}
 use Rattle.shape_definitions.specs.declared.b2_edge_shape.EdgeAnswer.{EdgeAnswer}
 use Rattle.shape_definitions.specs.Edge.{b2-set-one-sided, b2-set-two-sided}
-use Rattle.test_calls.specs.Words.{word-at}
-use Rattle.test_calls.specs.Records.{vector-at, edge-at}
+use Rattle.wire_records.specs.Words.{word-at}
+use Rattle.wire_records.specs.Records.{vector-at, edge-at}
 use Rattle.test_calls.specs.Entries.{wall-answer, one-sided-answer, two-sided-answer}
 
 module _ (request : List ℕ) where

@@ -14,9 +14,9 @@ use Rattle.shape_definitions.specs.Polygon.{b2-polygon-shape-set}
 use Rattle.shape_definitions.specs.Boxes.{b2-polygon-shape-set-as-box, b2-polygon-shape-set-as-box-angle}
 use Rattle.shape_definitions.specs.Validate.{b2-polygon-shape-validate}
 use Rattle.shape_definitions.specs.Edge.{b2-set-one-sided, b2-set-two-sided}
-use Rattle.test_calls.specs.Words.{word-at}
-use Rattle.test_calls.specs.Records.{float-at, vector-at, points-at, rotation-at, polygon-at, edge-at}
-use Rattle.test_calls.specs.Records.{bits, flag, polygon-words, edge-words}
+use Rattle.wire_records.specs.Words.{word-at}
+use Rattle.wire_records.specs.Records.{float-at, vector-at, points-at, rotation-at, polygon-at, edge-at}
+use Rattle.wire_records.specs.Records.{bits, flag, polygon-words, edge-words}
 
 -- ---- shapes: an answer is the refusal, and the record after the call
 abbrev pub outline-answer : PolygonAnswer → List ℕ

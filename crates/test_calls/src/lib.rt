@@ -1,13 +1,12 @@
-// The door for tests and benchmarks: every entry point behind a number, on byte slices.
-ghost use Rattle.test_calls.specs.Words.{Written};
+// The C entry points for tests: every entry behind a number, on byte slices.
+ghost use Rattle.wire_records.specs.Words.{Written};
 ghost use Rattle.test_calls.specs.Entries.{root-answer, normalize-answer, answer};
 use floats::b2_math;
 use floats::b2_math::B2vec2;
 use floats::bits;
+use wire_records::words;
 
-mod records;
 mod shape_entries;
-mod words;
 
 // 15, x: the root.
 fn root(input: &[u8], out: &mut [u8]) -> u32

@@ -1,13 +1,13 @@
 // The entries that make and test shapes: the number of words written, 0 for a malformed request or an output too short.
 ghost use mathlib.Core.Path.{_≡_};
 ghost use Prim.Native.Nat.{_≤_};
-ghost use Rattle.test_calls.specs.Words.{Written};
+ghost use Rattle.wire_records.specs.Words.{Written};
 ghost use Rattle.test_calls.specs.Entries.{set-answer, box-answer, box-angle-answer, validate-answer};
 ghost use Rattle.test_calls.specs.Entries.{one-sided-answer, two-sided-answer, shape-answer};
-use crate::records;
-use crate::words;
 use shapes::b2_edge_shape;
 use shapes::b2_polygon_shape;
+use wire_records::records;
+use wire_records::words;
 
 fn at_most_eight(n: usize) -> usize
     ensures { λ r. ⌜ (r ≤ n) × (r ≤ 8) × (n ≤ 8 → r ≡ n) ⌝ }

@@ -14,39 +14,21 @@ use Rattle.shapes.proofs.convex.some_right.Statement.{statement}
 use Rattle.shapes.proofs.convex.some_right.Tie as tie
 
 abbrev Inv-loop : tie.InvT-loop
-Inv-loop xs ys count i next p e right₀ j₀ right j =
+Inv-loop xs ys count i p e right₀ j₀ right j =
     (j ≤ 8) × (length xs ≡ 8) × (length ys ≡ 8) × (count ≤ 8)
     × (right ≡ not (corners-not-right (zipWith vec2 xs ys) count i (min j count)))
 
 abbrev μ-loop : tie.MeasureT-loop
-μ-loop xs ys count i next p e right₀ j₀ right j = 8 - j
+μ-loop xs ys count i p e right₀ j₀ right j = 8 - j
+
+corner-requires : tie.Need-corner-requires Inv-loop μ-loop
+corner-requires c κs = search needs
 
 after-requires : tie.Need-after-requires Inv-loop μ-loop
 after-requires c κs = search needs
 
-mul-t12 : tie.Need-mul-t12 Inv-loop μ-loop
-mul-t12 c = search needs
-
-element-copy-out-t15 : tie.Need-element-copy-out-t15 Inv-loop μ-loop
-element-copy-out-t15 c = search needs
-
-mul-t16 : tie.Need-mul-t16 Inv-loop μ-loop
-mul-t16 c = search needs
-
-element-copy-out-t19 : tie.Need-element-copy-out-t19 Inv-loop μ-loop
-element-copy-out-t19 c = search needs
-
-mul-t12-2 : tie.Need-mul-t12-2 Inv-loop μ-loop
-mul-t12-2 c = search needs
-
-element-copy-out-t19-2 : tie.Need-element-copy-out-t19-2 Inv-loop μ-loop
-element-copy-out-t19-2 c = search needs
-
-mul-t16-2 : tie.Need-mul-t16-2 Inv-loop μ-loop
-mul-t16-2 c = search needs
-
-element-copy-out-t15-2 : tie.Need-element-copy-out-t15-2 Inv-loop μ-loop
-element-copy-out-t15-2 c = search needs
+corner-requires-2 : tie.Need-corner-requires-2 Inv-loop μ-loop
+corner-requires-2 c κs = search needs
 
 b2-sub-requires : tie.Need-b2-sub-requires Inv-loop μ-loop
 b2-sub-requires c κs = search needs
@@ -54,20 +36,11 @@ b2-sub-requires c κs = search needs
 loop-holds : tie.Need-loop-holds Inv-loop μ-loop
 unfolding corners-not-right
 loop-holds c =
-    let start = c .before .before .before .before .before .before in
+    let start = c .before .before .before .before in
     (omega arith, start .pre .2, start .pre .3, omega arith, simp (min-eq-left {n = 0} {m = start .args .count} (omega arith)))
 
-mul-t25 : tie.Need-mul-t25 Inv-loop μ-loop
-mul-t25 c = search needs
-
-element-copy-out-t28 : tie.Need-element-copy-out-t28 Inv-loop μ-loop
-element-copy-out-t28 c = search needs
-
-mul-t29 : tie.Need-mul-t29 Inv-loop μ-loop
-mul-t29 c = search needs
-
-element-copy-out-t32 : tie.Need-element-copy-out-t32 Inv-loop μ-loop
-element-copy-out-t32 c = search needs
+corner-requires-3 : tie.Need-corner-requires-3 Inv-loop μ-loop
+corner-requires-3 c κs = search needs
 
 right-of-requires : tie.Need-right-of-requires Inv-loop μ-loop
 right-of-requires c κs = search needs
@@ -80,27 +53,26 @@ loop-less c = search needs
 
 loop-again : tie.Need-loop-again Inv-loop μ-loop
 loop-again c =
-    let loop = c .before .before .before .before in
+    let loop = c .before .before .before in
     let edge = loop .before in
-    let start = edge .before .before .before .before .before .before in
-    let after = edge .before .before .before .before .before in
-    let xs = start .args .xs .now in
-    let ys = start .args .ys .now in
+    let start = edge .before .before .before .before in
+    let vs = zipWith vec2 (start .args .xs .now) (start .args .ys .now) in
     let count = start .args .count in
     let i = start .args .i in (
       omega arith,
       loop .loop .inv .1,
       loop .loop .inv .2,
       omega arith,
-      corners-next (zipWith vec2 xs ys) count i (loop .loop .j) _ _ (loop .loop .inv .4)
-          (right-is xs ys count i _ (loop .loop .j) _ _ _ (omega arith) (omega arith) (omega arith) (omega arith) (omega arith) (omega arith)
-          (after .after .ensures .1) (edge .b2-sub .ensures) (c .right-of .ensures)),
+      corners-next vs count i (loop .loop .j) _ _ (loop .loop .inv .4)
+          (right-is vs count i (loop .loop .j) _ _ _ _ _ _ (edge .before .before .before .corner .ensures)
+          (edge .before .before .after .ensures .1) (edge .before .corner2 .ensures) (edge .b2-sub .ensures)
+          (c .before .corner3 .ensures) (c .right-of .ensures)),
     )
 
 returns : tie.Need-returns Inv-loop μ-loop
 returns c =
     let loop = c .before .loop in
-    let args = c .before .before .before .before .before .before .before .before .args in
+    let args = c .before .before .before .before .before .before .args in
     loop .inv .4
     ∙ ap (λ k. not (corners-not-right (zipWith vec2 (args .xs .now) (args .ys .now)) (args .count) (args .i) k))
     (min-eq-right {n = args .count} {m = loop .j} (omega arith))
@@ -111,21 +83,12 @@ some-right-spec =
     (tie.spec
     Inv-loop
     μ-loop
+    corner-requires
     after-requires
-    mul-t12
-    element-copy-out-t15
-    mul-t16
-    element-copy-out-t19
-    mul-t12-2
-    element-copy-out-t19-2
-    mul-t16-2
-    element-copy-out-t15-2
+    corner-requires-2
     b2-sub-requires
     loop-holds
-    mul-t25
-    element-copy-out-t28
-    mul-t29
-    element-copy-out-t32
+    corner-requires-3
     right-of-requires
     add-j
     loop-less

@@ -1,6 +1,6 @@
 -- `call` answers what the entry of its number answers, and nothing under another number. Assumes nothing.
 use Rattle.test_calls.specs.Entries.{shape-answer}
-use Rattle.test_calls.proofs.Bytes.{nothing-written, written-as}
+use Rattle.wire_records.proofs.Bytes.{nothing-written, written-as}
 use Rattle.test_calls.proofs.Answers.{answers-as, no-shape}
 use borrow.Author.Needs.{needs}
 use Rattle.test_calls.proofs.shape_entries.call.Statement.{statement}

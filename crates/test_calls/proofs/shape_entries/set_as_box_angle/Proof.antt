@@ -1,5 +1,5 @@
 -- Entry 3 answers a box that is turned and moved, or nothing to a request of another length. Assumes nothing.
-use Rattle.test_calls.proofs.Bytes.{nothing-written, written-as}
+use Rattle.wire_records.proofs.Bytes.{nothing-written, written-as}
 use Rattle.test_calls.proofs.Outlines.{box-angle-malformed, box-angle-words}
 use borrow.Author.Needs.{needs}
 use Rattle.test_calls.proofs.shape_entries.set_as_box_angle.Statement.{statement}

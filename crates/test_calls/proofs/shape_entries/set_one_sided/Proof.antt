@@ -1,5 +1,5 @@
 -- Entry 5 answers a wall that is met from one side, or nothing to another length or flag. Assumes nothing.
-use Rattle.test_calls.proofs.Bytes.{nothing-written, written-as}
+use Rattle.wire_records.proofs.Bytes.{nothing-written, written-as}
 use Rattle.test_calls.proofs.Walls.{one-sided-malformed, one-sided-unflagged, one-sided-words}
 use borrow.Author.Needs.{needs}
 use Rattle.test_calls.proofs.shape_entries.set_one_sided.Statement.{statement}

@@ -1,5 +1,5 @@
 -- Entry 6 answers a wall that is met from both sides, or nothing to another length or flag. Assumes nothing.
-use Rattle.test_calls.proofs.Bytes.{nothing-written, written-as}
+use Rattle.wire_records.proofs.Bytes.{nothing-written, written-as}
 use Rattle.test_calls.proofs.Walls.{two-sided-malformed, two-sided-unflagged, two-sided-words}
 use borrow.Author.Needs.{needs}
 use Rattle.test_calls.proofs.shape_entries.set_two_sided.Statement.{statement}

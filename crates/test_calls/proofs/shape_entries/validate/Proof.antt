@@ -1,5 +1,5 @@
 -- Entry 4 answers whether an outline is convex, or nothing to a request of another length. Assumes nothing.
-use Rattle.test_calls.proofs.Bytes.{nothing-written, written-as}
+use Rattle.wire_records.proofs.Bytes.{nothing-written, written-as}
 use Rattle.test_calls.proofs.Outlines.{validate-malformed, validate-words}
 use borrow.Author.Needs.{needs}
 use Rattle.test_calls.proofs.shape_entries.validate.Statement.{statement}

@@ -1,0 +1,2 @@
+pub mod FourPlaces
+pub mod InTurn
