@@ -1,5 +1,5 @@
--- Rows of points, read and written one after the other: one more point behind the first k. Assumes nothing.
-use Prim.Native.Nat.{ℕ, zero, suc, _+_, _*_, _≤_, _<_}
+-- Rows of points, written one after the other: one more point behind the first k. Assumes nothing.
+use Prim.Native.Nat.{ℕ, suc, _+_, _*_, _<_}
 use mathlib.Core.Path.{_≡_, refl, sym, _∙_, ap}
 use mathlib.Core.List.{List, [], _∷_, _++_, append-assoc}
 use native.Mathlib.Omega.{arith}
@@ -8,33 +8,11 @@ use lib.ListN.{length, take, set, getD, length-set}
 use lib.Seq.{take-all, take-suc, take-suc-set}
 use Rattle.floats.specs.declared.b2_math.B2vec2.{B2vec2}
 use Rattle.shape_definitions.specs.declared.b2_polygon_shape.B2polygonShape.{B2polygonShape}
-use Rattle.wire_records.specs.Records.{bits, low-word, vector-at, points-at, points-words, polygon-words}
+use Rattle.wire_records.specs.Records.{bits, low-word, points-words, polygon-words}
 
 -- all of an array, by its first places
 pub whole-row : {A : Type 0} (n : ℕ) (l m : List A) → take n l ≡ m → length l ≡ n → l ≡ m
 whole-row n l m first size = sym (take-all n l (omega arith)) ∙ first
-
--- ---- reading
-points-next : (request : List ℕ) (i k : ℕ) → points-at request i (suc k) ≡ points-at request i k ++ (vector-at request (i + 2 * k) ∷ [])
-unfolding points-at
-points-next request i zero =
-    let same : i ≡ i + 2 * 0 = omega arith in
-    ap (λ (n : ℕ). vector-at request n ∷ []) same
-points-next request i (suc k) =
-    let same : i + 2 + 2 * k ≡ i + 2 * suc k = omega arith in
-    ap (_∷_ (vector-at request i))
-    (points-next request (i + 2) k ∙ ap (λ (n : ℕ). points-at request (i + 2) k ++ (vector-at request n ∷ [])) same)
-
-pub point-read : (request : List ℕ) (i k : ℕ) (ps : List B2vec2) (v : B2vec2) → k < length ps → v ≡ vector-at request (i + 2 * k)
-    → take k ps ≡ points-at request i k → take (k + 1) (set ps k v) ≡ points-at request i (k + 1)
-point-read request i k ps v within v-is so-far =
-    rw add-one (take-suc-set ps k v within ∙ ap (λ (l : List B2vec2). l ++ (v ∷ [])) so-far
-    ∙ ap (λ (p : B2vec2). points-at request i k ++ (p ∷ [])) v-is ∙ sym (points-next request i k))
-
-pub length-points : (request : List ℕ) (i n : ℕ) → length (points-at request i n) ≡ n
-unfolding points-at
-length-points request i zero = refl
-length-points request i (suc n) = ap suc (length-points request (i + 2) n)
 
 -- ---- writing
 words-next : (ps : List B2vec2) (p : B2vec2) → points-words (ps ++ (p ∷ [])) ≡ points-words ps ++ (bits (p .x) ∷ bits (p .y) ∷ [])
