@@ -117,7 +117,7 @@ pub fn put_polygon(out: &mut [u8], answer: PolygonAnswer) -> u32
 {
     let s = answer.shape;
     let mut head = [0u32; 37];
-    head[0] = words::wide(answer.refusal);
+    head[0] = fields::wide(answer.refusal);
     head[1] = bits::f32_to_bits(s.m_radius);
     head[2] = bits::f32_to_bits(s.m_centroid.x);
     head[3] = bits::f32_to_bits(s.m_centroid.y);
@@ -135,7 +135,7 @@ pub fn put_edge(out: &mut [u8], answer: EdgeAnswer) -> u32
 {
     let s = answer.shape;
     let whole = [
-        words::wide(answer.refusal),
+        fields::wide(answer.refusal),
         bits::f32_to_bits(s.m_radius),
         flag(s.m_one_sided),
         bits::f32_to_bits(s.m_vertex0.x),

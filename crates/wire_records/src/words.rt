@@ -5,12 +5,6 @@ ghost use lib.ListN.{length};
 ghost use Rattle.wire_records.specs.Words.{word-at, Written};
 use lines::fields;
 
-pub fn wide(b: u8) -> u32
-    ensures { λ r. ⌜ (r ≡ b) × (r < 256) ⌝ }
-{
-    b as u32
-}
-
 // The word at place i of a request.
 pub fn word(bytes: &[u8], i: usize) -> u32
     requires { ⌜ 4 * i + 4 ≤ length (now bytes) ⌝ }
