@@ -17,6 +17,14 @@ one-place j n within = ap (places j) count ∙ ap (λ (k : ℕ). j ∷ places k 
     count : n - j ≡ suc (n - (j + 1))
     count = omega arith
 
+-- all of n are left at place 0
+pub scan-starts : {A : Type 0} (test : A → A → Bool) (f : ℕ → A) (candidate : A) (n : ℕ)
+    → scan test candidate (map f (places 0 (n - 0))) ≡ scan test candidate (map f (places 0 n))
+scan-starts test f candidate n = ap (λ (k : ℕ). scan test candidate (map f (places 0 k))) all
+  where
+    all : n - 0 ≡ n
+    all = omega arith
+
 -- ---- a scan of the values of f, from place j on: n - j are left
 module _ {A : Type 0} (test : A → A → Bool) (f : ℕ → A) (candidate answer : A) (j n : ℕ)
     (so-far : scan test candidate (map f (places j (n - j))) ≡ answer) where
