@@ -30,6 +30,12 @@ module _ {A : Type 0} where
       go : {m : List A} → Two m → getD m 0 c ≡ getD m 0 d
       go (two a b) = refl
 
+  pub second-place : (l : List A) (c d : A) → length l ≡ 2 → getD l 1 c ≡ getD l 1 d
+  second-place l c d h = go (two-of l h)
+    where
+      go : {m : List A} → Two m → getD m 1 c ≡ getD m 1 d
+      go (two a b) = refl
+
   -- one over the first place, two over both
   pub one-over : (l : List A) (a d : A) → length l ≡ 2 → a ∷ getD l 1 d ∷ [] ≡ over (a ∷ []) l
   one-over l a d h = go (two-of l h)
