@@ -1,7 +1,7 @@
 -- The axis, from the two faces that the code has found: apart by A's, apart by B's, on a face of B, on a face of A.
 -- Assumes nothing.
-use mathlib.Core.Path.{_≡_, refl, sym, ap, ap₂, _∙_}
-use mathlib.Core.Bool.{Bool, true, false}
+use mathlib.Core.Path.{_≡_, refl, sym, ap, _∙_}
+use mathlib.Core.Bool.{true, false}
 use mathlib.Core.List.{List, []}
 use Prim.Native.Nat.{ℕ}
 use lib.Ieee.{Float, binary32, add, lt}
@@ -11,10 +11,11 @@ use Rattle.floats.specs.B2Math.{b2-mul-t-transform}
 use Rattle.shape_definitions.specs.Outline.{point-at}
 use Rattle.contact_definitions.specs.declared.axis.Best.{Best}
 use Rattle.contact_definitions.specs.declared.axis.Axis.{Axis}
-use Rattle.contact_definitions.specs.declared.axis.Axis.the-variants.{Apart, FaceA, FaceB}
+use Rattle.contact_definitions.specs.declared.axis.Axis.the-variants.{Apart}
 use Rattle.contact_definitions.specs.Searches.{first-greatest}
 use Rattle.contact_definitions.specs.Axis.{face-a, face-b}
-use Rattle.contact_definitions.specs.B2CollidePolygon.{face-separation, b2-find-max-separation, tolerance, axis-of, polygons-axis}
+use Rattle.contact_definitions.specs.B2CollidePolygon.{face-separation, b2-find-max-separation, tolerance, axis-of}
+use Rattle.contact_definitions.specs.B2CollidePolygon.{polygons-axis}
 use Rattle.axis_search.specs.declared.rows.FarthestFace.{FarthestFace}
 use Rattle.axis_search.specs.Rows.{faced}
 use Rattle.axis_search.specs.Outlines.{outlined}
@@ -35,9 +36,11 @@ pub found : (v1s n1s : List B2vec2) (count1 : ℕ) (xf1 : B2Transform) (v2s n2s 
 unfolding b2-find-max-separation face-separation
 found v1s n1s count1 xf1 v2s n2s count2 xf2 xf r xf-is r-is = record {
   best = ap best-of r-is
-      ∙ ap (λ (t : B2Transform). first-greatest (face-separation t (outlined v1s n1s count1) (outlined v2s n2s count2)) count1)
+      ∙ ap (λ (t : B2Transform). first-greatest (face-separation t (outlined v1s n1s count1) (outlined v2s n2s
+      count2)) count1)
       xf-is;
-  normal-there = ap (λ (f : FarthestFace). f .normal) r-is ∙ sym (ap (λ (f : FarthestFace). point-at n1s (f .place)) r-is);
+  normal-there = ap (λ (f : FarthestFace). f .normal) r-is ∙ sym (ap (λ (f : FarthestFace). point-at n1s (f .place))
+      r-is);
 }
 
 -- ---- the choice
@@ -50,20 +53,21 @@ module _ (total : Float) (va na : List B2vec2) (ca : ℕ) (xa : B2Transform) (vb
   unfolding polygons-axis axis-of
   apart-by-a above = rw (← (a-found .best), above) refl
 
-  module _ (b : FarthestFace) (b-found : Found vb nb cb xb va na ca xa b) (not-above : lt total (a .value) ≡ false) where
-    pub apart-by-b : lt total (b .value) ≡ true → Apart (b .value) ≡ axis
-    unfolding polygons-axis axis-of
-    apart-by-b above = rw (← (a-found .best), ← (b-found .best), not-above, above) refl
-
-    module _ (nor-above : lt total (b .value) ≡ false) where
-      pub on-face-b : lt (add binary32 (a .value) tolerance) (b .value) ≡ true
-          → face-b (b .value) (b .normal) (b .place) ≡ axis
+  module _ (b : FarthestFace) (b-found : Found vb nb cb xb va na ca xa b) (not-above : lt total (a .value) ≡ false)
+    where
+      pub apart-by-b : lt total (b .value) ≡ true → Apart (b .value) ≡ axis
       unfolding polygons-axis axis-of
-      on-face-b above =
-          rw (← (a-found .best), ← (b-found .best), not-above, nor-above, above, b-found .normal-there) refl
+      apart-by-b above = rw (← (a-found .best), ← (b-found .best), not-above, above) refl
 
-      pub on-face-a : lt (add binary32 (a .value) tolerance) (b .value) ≡ false
-          → face-a (a .value) (a .normal) (a .place) ≡ axis
-      unfolding polygons-axis axis-of
-      on-face-a not-over =
-          rw (← (a-found .best), ← (b-found .best), not-above, nor-above, not-over, a-found .normal-there) refl
+      module _ (nor-above : lt total (b .value) ≡ false) where
+        pub on-face-b : lt (add binary32 (a .value) tolerance) (b .value) ≡ true
+            → face-b (b .value) (b .normal) (b .place) ≡ axis
+        unfolding polygons-axis axis-of
+        on-face-b above =
+            rw (← (a-found .best), ← (b-found .best), not-above, nor-above, above, b-found .normal-there) refl
+
+        pub on-face-a : lt (add binary32 (a .value) tolerance) (b .value) ≡ false
+            → face-a (a .value) (a .normal) (a .place) ≡ axis
+        unfolding polygons-axis axis-of
+        on-face-a not-over =
+            rw (← (a-found .best), ← (b-found .best), not-above, nor-above, not-over, a-found .normal-there) refl

@@ -1,6 +1,7 @@
--- Rows, a place at a time: what stands at the places below i after a store at i, and what stands past it. Assumes nothing.
+-- Rows, a place at a time: what stands at the places below i after a store at i, and what stands past it. Assumes
+-- nothing.
 use mathlib.Core.Path.{_≡_, refl, sym, ap, ap₂, _∙_}
-use mathlib.Core.Logic.{_⊎_, inl, inr}
+use mathlib.Core.Logic.{inl, inr}
 use mathlib.Core.List.{List, [], _∷_}
 use Prim.Native.Nat.{ℕ, zero, suc, _+_, _<_, _≤_}
 use native.Mathlib.Omega.{arith}

@@ -1,5 +1,5 @@
 -- The greatest of the least distances in the rows is the greatest separation. Assumes nothing.
-use mathlib.Core.Path.{_≡_, refl, sym, ap, ap₂, _∙_}
+use mathlib.Core.Path.{_≡_, ap, ap₂, _∙_}
 use mathlib.Core.List.{List, [], map}
 use Prim.Native.Nat.{ℕ, _+_, _-_, _<_, _≤_}
 use native.Mathlib.Omega.{arith}
@@ -15,7 +15,7 @@ use Rattle.contact_definitions.specs.Searches.{below-value, least, first-greate
 use Rattle.contact_definitions.specs.B2CollidePolygon.{face-separation}
 use Rattle.contact_definitions.proofs.Searches.{scan-starts, scanned, scanned-all, first-greatest-same}
 use Rattle.axis_search.specs.declared.rows.FarthestFace.{FarthestFace}
-use Rattle.axis_search.specs.Rows.{Eight, at, vector-at, FaceRows, lesser, distance-at, least-from, LeastRow, faced}
+use Rattle.axis_search.specs.Rows.{Eight, at, FaceRows, lesser, distance-at, least-from, LeastRow, faced}
 use Rattle.axis_search.specs.Outlines.{outlined}
 use Rattle.axis_search.proofs.Places.{getD-within}
 

@@ -1,5 +1,5 @@
--- Rows of eight numbers: one coordinate of the normal, or of the first corner, of each face of an outline in the frame of
--- the other. Places from a count on are worked out and never read. Definitions only.
+-- Rows of eight numbers: one coordinate of the normal, or of the first corner, of each face of an outline in the frame
+-- of the other. Places from a count on are worked out and never read. Definitions only.
 use mathlib.Core.Path.{_≡_}
 use mathlib.Core.Bool.{cond}
 use mathlib.Core.List.{List, map}
@@ -48,10 +48,11 @@ unfoldable pub least-from : Float → (ℕ → Float) → ℕ → Float
 least-from m f count = scan below-value m (map f (places 0 count))
 
 -- every one of the first n faces has its least distance from the corners v2s, begun at what stood in its place
-pub record LeastRow (nxs nys xs ys : List Float) (v2s : List B2vec2) (count2 n : ℕ) (old row : List Float) : Type 0 where
-  pub size : Eight row
-  pub least-at : (i : ℕ) → i < n
-      → at row i ≡ least-from (at old i) (λ j. distance-at nxs nys xs ys (point-at v2s j) i) count2
+pub record LeastRow (nxs nys xs ys : List Float) (v2s : List B2vec2) (count2 n : ℕ) (old row : List Float) : Type 0
+  where
+    pub size : Eight row
+    pub least-at : (i : ℕ) → i < n
+        → at row i ≡ least-from (at old i) (λ j. distance-at nxs nys xs ys (point-at v2s j) i) count2
 
 -- ---- the greatest separation, with the normal there
 abbrev pub faced : List B2vec2 → Best → FarthestFace

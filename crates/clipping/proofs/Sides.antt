@@ -3,7 +3,7 @@ use mathlib.Core.Path.{_≡_, refl, sym, ap, _∙_}
 use mathlib.Core.List.{List, [], _∷_}
 use Prim.Native.Nat.{ℕ, _<_, _≤_}
 use native.Mathlib.Omega.{arith}
-use lib.ListN.{length, getD}
+use lib.ListN.{length}
 use lib.Ieee.{Float}
 use Rattle.algebra.specs.Buffer.{over}
 use Rattle.floats.specs.declared.b2_math.B2vec2.{B2vec2}
@@ -15,7 +15,8 @@ use Rattle.clipping.specs.Places.{left-over}
 use Rattle.clipping.proofs.Two.{Two, two, two-of, two-over}
 
 -- ---- two ends over two places are themselves
-pub over-both : {A : Type 0} (left old : List A) → length old ≡ 2 → 2 ≤ length left → length left ≤ 2 → over left old ≡ left
+pub over-both : {A : Type 0} (left old : List A) → length old ≡ 2 → 2 ≤ length left → length left ≤ 2 → over left old
+    ≡ left
 over-both left old old-two enough few = go (two-of left (omega arith))
   where
     go : {l : List _} → Two l → over l old ≡ l

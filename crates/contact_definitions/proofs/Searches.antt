@@ -2,13 +2,12 @@
 -- below the count are searched alike. Assumes nothing.
 use mathlib.Core.Path.{_≡_, refl, sym, ap, ap₂, _∙_}
 use mathlib.Core.Bool.{Bool, true, false, cond}
-use mathlib.Core.List.{List, [], _∷_, map}
+use mathlib.Core.List.{List, _∷_, map}
 use Prim.Native.Nat.{ℕ, zero, suc, _+_, _-_, _<_, _≤_}
 use native.Mathlib.Numerals.{add-one}
 use native.Mathlib.Omega.{arith}
-use lib.Ieee.{Float, lt}
+use lib.Ieee.{Float}
 use Rattle.algebra.specs.Loops.{places, scan}
-use Rattle.contact_definitions.specs.declared.axis.Best.{Best}
 use Rattle.contact_definitions.specs.Searches.{least, valued, first-greatest, first-least}
 
 one-place : (j n : ℕ) → j < n → places j (n - j) ≡ j ∷ places (j + 1) (n - (j + 1))

@@ -8,7 +8,6 @@ use lib.ListN.{length, getD}
 use Rattle.algebra.specs.Buffer.{over}
 use Rattle.floats.specs.declared.b2_math.B2vec2.{B2vec2}
 use Rattle.contact_definitions.specs.declared.b2_collision.B2manifoldPoint.{B2manifoldPoint}
-use Rattle.contact_definitions.specs.declared.b2_collision.B2manifoldType.{B2manifoldType}
 use Rattle.contact_definitions.specs.declared.b2_collision.B2manifold.{B2manifold}
 use Rattle.contact_definitions.specs.declared.b2_collision.B2clipVertex.{B2clipVertex}
 use Rattle.contact_definitions.specs.Manifold.{default-point}
@@ -21,11 +20,13 @@ use Rattle.outline_pairs.specs.declared.kept.Kept.{Kept}
 use Rattle.outline_pairs.specs.Kept.{kept-ends, points-of, points-kept}
 
 -- ---- points of a manifold are points of its places
-points-same : (made : B2manifoldPoint → B2clipVertex → B2manifoldPoint) (m : B2manifold) (i : ℕ) (ends : List B2clipVertex)
+points-same : (made : B2manifoldPoint → B2clipVertex → B2manifoldPoint) (m : B2manifold) (i : ℕ) (ends : List
+    B2clipVertex)
     → points-of made (m .points) i ends ≡ points-from made m i ends
 unfolding points-from
 points-same made m i [] = refl
-points-same made m i (end ∷ ends) = ap (_∷_ (made (getD (m .points) i default-point) end)) (points-same made m (suc i) ends)
+points-same made m i (end ∷ ends) = ap (_∷_ (made (getD (m .points) i default-point) end)) (points-same made m (suc
+    i) ends)
 
 module _ (m : B2manifold) (normal point : B2vec2) (near : B2clipVertex → Bool)
     (made : B2manifoldPoint → B2clipVertex → B2manifoldPoint) where
@@ -105,7 +106,8 @@ module _ (made : B2manifoldPoint → B2clipVertex → B2manifoldPoint) (old : Li
       → q ≡ made (getD old 1 d) e1 → _≡_ {A = Kept} (record { points = p ∷ q ∷ []; count = 2 }) kept
   both-near first second p q p-is q-is =
       kept-of (p ∷ q ∷ []) (e0 ∷ e1 ∷ []) (rw (first, second))
-      (ap₂ (λ (a b : B2manifoldPoint). a ∷ b ∷ []) (p-is ∙ ap (λ (o : B2manifoldPoint). made o e0) (first-place old d default-point old-two))
+      (ap₂ (λ (a b : B2manifoldPoint). a ∷ b ∷ []) (p-is ∙ ap (λ (o : B2manifoldPoint). made o e0) (first-place old d
+      default-point old-two))
       (q-is ∙ ap (λ (o : B2manifoldPoint). made o e1) (second-place old d default-point old-two))
       ∙ two-over old _ _ old-two)
 

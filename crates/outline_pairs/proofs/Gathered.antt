@@ -1,6 +1,6 @@
 -- The reference face and the incident edge, from what the code reads. Assumes nothing.
-use mathlib.Core.Path.{_≡_, refl, sym, ap, ap₂, _∙_}
-use mathlib.Core.Bool.{Bool, true, false, cond}
+use mathlib.Core.Path.{_≡_, refl, ap, _∙_}
+use mathlib.Core.Bool.{Bool, cond}
 use mathlib.Core.List.{List}
 use Prim.Native.Nat.{ℕ, _<_}
 use lib.ListN.{length, getD}
@@ -27,7 +27,7 @@ use Rattle.contact_definitions.specs.B2CollidePolygon.{
 use Rattle.axis_search.proofs.Places.{getD-within}
 use Rattle.outline_pairs.specs.declared.faces.Corner.{Corner}
 use Rattle.outline_pairs.specs.declared.faces.Face.{Face}
-use Rattle.outline_pairs.specs.Faces.{corner-of, against, face-with, face-of}
+use Rattle.outline_pairs.specs.Faces.{corner-of, face-of}
 use Rattle.outline_pairs.specs.Kept.{named-by}
 use Rattle.outline_pairs.specs.OnFace.{manifold-on-face}
 
@@ -90,7 +90,8 @@ pub on-face : (m : B2manifold) (total : Float) (flip : Bool) (poly1 : B2polygonS
     → r ≡ manifold-on-face m f total
     → r ≡ outline-manifold (with-kind (with-count m 0) (cond flip EFaceB EFaceA)) (named-by flip) total poly1 xf1 edge
     poly2 xf2
-unfolding manifold-on-face face-of outline-manifold outline-face local-tangent face-middle b2-find-incident-edge incident-end incident-place
+unfolding manifold-on-face face-of outline-manifold outline-face local-tangent face-middle b2-find-incident-edge
+    incident-end incident-place
 on-face m total flip poly1 xf1 poly2 xf2 edge normal f r normal-is f-is r-is =
     r-is ∙ ap (λ (g : Face). manifold-on-face m g total) f-is
     ∙ ap (λ (n : B2vec2). manifold-on-face m

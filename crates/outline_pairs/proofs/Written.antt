@@ -1,14 +1,13 @@
 -- The manifold on a face, from the parts that the code has worked out one by one. Assumes nothing.
-use mathlib.Core.Path.{_≡_, refl, sym, ap, ap₂, _∙_}
-use mathlib.Core.Bool.{Bool, true, false, cond}
-use mathlib.Core.List.{List, [], _∷_}
-use Prim.Native.Nat.{ℕ, _<_, _≤_}
+use mathlib.Core.Path.{_≡_, refl, ap, ap₂, _∙_}
+use mathlib.Core.Bool.{Bool, cond}
+use mathlib.Core.List.{List}
+use Prim.Native.Nat.{_<_, _≤_}
 use lib.ListN.{length, getD}
 use lib.Ieee.{Float}
 use Rattle.floats.specs.declared.b2_math.B2vec2.{B2vec2}
 use Rattle.rounding.specs.Literals.{half32, one32}
 use Rattle.floats.specs.B2Math.{b2-add, b2-scale, b2-cross-vec-by-scalar}
-use Rattle.contact_definitions.specs.declared.b2_collision.B2manifoldPoint.{B2manifoldPoint}
 use Rattle.contact_definitions.specs.declared.b2_collision.B2manifoldType.{B2manifoldType}
 use Rattle.contact_definitions.specs.declared.b2_collision.B2manifoldType.the-variants.{EFaceA, EFaceB}
 use Rattle.contact_definitions.specs.declared.b2_collision.B2manifold.{B2manifold}
@@ -48,7 +47,8 @@ module _ (m : B2manifold) (f : Face) (total : Float) (tangent : B2vec2) (face : 
 
   left-is : c ≡ left-over left (incident-ends f)
   unfolding clipped-to-sides
-  left-is = c-is ∙ ap₂ (λ (g : B2referenceFace) (l : List B2clipVertex). left-over (clipped-to-sides g l) l) placed-is ends-is
+  left-is = c-is ∙ ap₂ (λ (g : B2referenceFace) (l : List B2clipVertex). left-over (clipped-to-sides g l) l)
+      placed-is ends-is
 
   abbrev kinded : B2manifold
   kinded = with-kind (with-count m 0) (cond (f .flip) EFaceB EFaceA)

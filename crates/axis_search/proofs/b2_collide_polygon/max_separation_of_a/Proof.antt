@@ -17,26 +17,28 @@ face-rows-requires c κs = (omega arith, refl, refl, refl, refl)
 
 lower-all-requires : tie.Need-lower-all-requires
 lower-all-requires c κs =
-    let face-rows′ = c .before .before .before .before .before .face-rows in
-    let rows = face-rows′ .ensures in
+    let face-rows = c .before .before .before .before .before .face-rows in
+    let rows = face-rows .ensures in
     (omega arith, omega arith, rows .nxs-size, rows .nys-size, rows .xs-size, rows .ys-size, refl)
 
 greatest-requires : tie.Need-greatest-requires
 greatest-requires c κs =
-    let lower-all′ = c .before .lower-all in
-    (omega arith, omega arith, lower-all′ .ensures .size)
+    let lower-all = c .before .lower-all in
+    (omega arith, omega arith, lower-all .ensures .size)
 
 returns : tie.Need-returns
 returns c =
-    let lower-all′ = c .before .before .lower-all in
-    let face-rows′ = c .before .before .before .before .before .before .before .before .face-rows in
-    let padded′ = c .before .before .before .before .before .before .before .before .before .before .before .before .before .padded in
-    let args′ = c .before .before .before .before .before .before .before .before .before .before .before .before .before .before .args in
-    let args = args′ in (
+    let lower-all = c .before .before .lower-all in
+    let at-face-rows = c .before .before .before .before .before .before .before .before in
+    let face-rows = at-face-rows .face-rows in
+    let at-padded = at-face-rows .before .before .before .before .before in
+    let padded = at-padded .padded in
+    let args = at-padded .before .args in (
       c .greatest .ensures .0,
-      greatest-separation (args .xf) (args .v1s) (args .n1s) (args .v2s) (args .count1) (args .count2) (padded′ .result) _ _ _ _ _ _
-          (face-rows′ .ensures) (omega arith) (λ i below. getD-replicate 8 i b2-max-float nan (omega arith))
-          (lower-all′ .ensures) _ (c .greatest .ensures .1),
+      greatest-separation (args .xf) (args .v1s) (args .n1s) (args .v2s) (args .count1) (args .count2)
+          (padded .result) _ _ _ _ _ _
+          (face-rows .ensures) (omega arith) (λ i below. getD-replicate 8 i b2-max-float nan (omega arith))
+          (lower-all .ensures) _ (c .greatest .ensures .1),
     )
 
 pub max-separation-of-a-spec : {M : Type 1} → statement M

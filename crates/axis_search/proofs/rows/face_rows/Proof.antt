@@ -85,27 +85,28 @@ loop-less c = search needs
 loop-again : tie.Need-loop-again Inv-loop μ-loop
 loop-again c =
     let b2-mul-rot-by-vec2′ = c .before .before .b2-mul-rot-by-vec2 in
-    let loop′ = c .before .before .before .before .before .loop in
-    let args′ = c .before .before .before .before .before .before .args in
-    let i = loop′ .i in
-    let inv = loop′ .inv in (
+    let loop = c .before .before .before .before .before .loop in
+    let args = c .before .before .before .before .before .before .args in
+    let i = loop .i in
+    let inv = loop .inv in (
       omega arith,
       omega arith,
       inv .2,
       inv .3,
-      face-rows-next (args′ .xf) (args′ .t2) (args′ .t3) i _ _ _ _ (inv .4) (omega arith) _ _
-          (b2-mul-rot-by-vec2′ .ensures ∙ ap (b2-mul-rot-by-vec2 (args′ .xf .q)) (getD-within (args′ .t3) i _ _ (omega arith)))
+      face-rows-next (args .xf) (args .t2) (args .t3) i _ _ _ _ (inv .4) (omega arith) _ _
+          (b2-mul-rot-by-vec2′ .ensures ∙ ap (b2-mul-rot-by-vec2 (args .xf .q)) (getD-within (args .t3) i _ _
+          (omega arith)))
           (c .b2-mul-transform-by-vec2 .ensures
-          ∙ ap (b2-mul-transform-by-vec2 (args′ .xf)) (getD-within (args′ .t2) i _ _ (omega arith))),
+          ∙ ap (b2-mul-transform-by-vec2 (args .xf)) (getD-within (args .t2) i _ _ (omega arith))),
     )
 
 returns : tie.Need-returns Inv-loop μ-loop
 returns c =
-    let loop′ = c .before .loop in
-    let args′ = c .before .before .args in
-    let all : loop′ .i ≡ args′ .n = omega arith in
-    subst (λ (k : ℕ). FaceRows (args′ .xf) (args′ .t2) (args′ .t3) k (loop′ .nxs) (loop′ .nys) (loop′ .xs) (loop′ .ys)) all
-    (loop′ .inv .4)
+    let loop = c .before .loop in
+    let args = c .before .before .args in
+    let all : loop .i ≡ args .n = omega arith in
+    subst (λ (k : ℕ). FaceRows (args .xf) (args .t2) (args .t3) k (loop .nxs) (loop .nys) (loop .xs) (loop .ys)) all
+    (loop .inv .4)
 
 pub face-rows-spec : {M : Type 1} → statement M
 face-rows-spec =

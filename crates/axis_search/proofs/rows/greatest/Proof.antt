@@ -1,5 +1,5 @@
 -- What the scan keeps from here is what it keeps of all places. Assumes nothing.
-use mathlib.Core.Path.{_≡_, refl, _∙_, ap}
+use mathlib.Core.Path.{_≡_, refl}
 use mathlib.Core.List.{map}
 use mathlib.Core.Logic.{⊎-elim}
 use Prim.Native.Nat.{_<_, _≤_, _-_}
@@ -49,13 +49,13 @@ loop-less c = search needs
 
 loop-again : tie.Need-loop-again Inv-loop μ-loop
 loop-again c =
-    let loop′ = c .before .before .before .loop in
-    let args′ = c .before .before .before .before .args in
-    let s = args′ .s .now in
-    let count = args′ .count in
-    let i = loop′ .i in
-    let inv = loop′ .inv in
-    let best : Best = record { place = loop′ .place; value = loop′ .value } in
+    let loop = c .before .before .before .loop in
+    let args = c .before .before .before .before .args in
+    let s = args .s .now in
+    let count = args .count in
+    let i = loop .i in
+    let inv = loop .inv in
+    let best : Best = record { place = loop .place; value = loop .value } in
     ⊎-elim
     (λ w. rw (w .1, w .2) (
       omega arith,
@@ -89,15 +89,15 @@ element-copy-out-t21 c = search needs
 
 returns : tie.Need-returns Inv-loop μ-loop
 returns c =
-    let loop′ = c .before .loop in
-    let args′ = c .before .before .args in
-    let s = args′ .s .now in
-    let place = loop′ .place in
-    let inv = loop′ .inv in
-    let best : Best = record { place = place; value = loop′ .value } in (
+    let loop = c .before .loop in
+    let args = c .before .before .args in
+    let s = args .s .now in
+    let place = loop .place in
+    let inv = loop .inv in
+    let best : Best = record { place = place; value = loop .value } in (
       omega arith,
-      faced-is (args′ .t2) place (loop′ .value) _ _ (omega (arith, inv .4))
-          (scanned-all is-greater (valued (at s)) best _ (loop′ .i) (args′ .count) (inv .5) (omega arith)),
+      faced-is (args .t2) place (loop .value) _ _ (omega (arith, inv .4))
+          (scanned-all is-greater (valued (at s)) best _ (loop .i) (args .count) (inv .5) (omega arith)),
     )
 
 pub greatest-spec : {M : Type 1} → statement M

@@ -11,7 +11,8 @@ use Rattle.axis_search.proofs.rows.lower.Tie as tie
 abbrev Inv-loop : tie.InvT-loop
 Inv-loop nxs nys xs ys n v s₀ i₀ s i =
     (i ≤ n) × (n ≤ 8) × Eight nxs × Eight nys × Eight xs × Eight ys × Eight s
-    × ((k : ℕ) → k < i → at s k ≡ lesser (at s₀ k) (distance-at nxs nys xs ys v k)) × ((k : ℕ) → i ≤ k → at s k ≡ at s₀ k)
+    × ((k : ℕ) → k < i → at s k ≡ lesser (at s₀ k) (distance-at nxs nys xs ys v k)) × ((k : ℕ) → i ≤ k → at s k ≡ at
+    s₀ k)
 
 abbrev μ-loop : tie.MeasureT-loop
 μ-loop nxs nys xs ys n v s₀ i₀ s i = n - i
@@ -76,17 +77,18 @@ loop-less c = search needs
 
 loop-again : tie.Need-loop-again Inv-loop μ-loop
 loop-again c =
-    let loop′ = c .before .before .before .before .before .before .before .before .before .loop in
-    let args′ = c .before .before .before .before .before .before .before .before .before .before .args in
-    let s = loop′ .s in
-    let i = loop′ .i in
-    let inv = loop′ .inv in
-    let nxs = args′ .nxs .now in
-    let nys = args′ .nys .now in
-    let xs = args′ .xs .now in
-    let ys = args′ .ys .now in
-    let v = args′ .v in
-    let old = args′ .s .now in (
+    let at-loop = c .before .before .before .before .before .before .before .before .before in
+    let loop = at-loop .loop in
+    let args = at-loop .before .args in
+    let s = loop .s in
+    let i = loop .i in
+    let inv = loop .inv in
+    let nxs = args .nxs .now in
+    let nys = args .nys .now in
+    let xs = args .xs .now in
+    let ys = args .ys .now in
+    let v = args .v in
+    let old = args .s .now in (
       omega arith,
       omega arith,
       inv .2,
@@ -101,8 +103,8 @@ loop-again c =
 
 returns : tie.Need-returns Inv-loop μ-loop
 returns c =
-    let loop′ = c .before .loop in
-    let inv = loop′ .inv in
+    let loop = c .before .loop in
+    let inv = loop .inv in
     (inv .6, λ k below. inv .7 k (omega arith))
 
 pub lower-spec : {M : Type 1} → statement M

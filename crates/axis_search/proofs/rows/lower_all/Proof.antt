@@ -39,8 +39,8 @@ array-copy-out-lower c = search needs
 
 lower-requires : tie.Need-lower-requires Inv-loop μ-loop
 lower-requires c κs =
-    let loop′ = c .before .before .before .loop in
-    let inv = loop′ .inv in
+    let loop = c .before .before .before .loop in
+    let inv = loop .inv in
     (omega arith, inv .4, inv .5, inv .6, inv .7, inv .8)
 
 add-j : tie.Need-add-j Inv-loop μ-loop
@@ -51,9 +51,9 @@ loop-less c = search needs
 
 loop-again : tie.Need-loop-again Inv-loop μ-loop
 loop-again c =
-    let loop′ = c .before .before .before .before .loop in
-    let args′ = c .before .before .before .before .before .args in
-    let inv = loop′ .inv in (
+    let loop = c .before .before .before .before .loop in
+    let args = c .before .before .before .before .before .args in
+    let inv = loop .inv in (
       omega arith,
       omega arith,
       omega arith,
@@ -63,15 +63,16 @@ loop-again c =
       inv .6,
       inv .7,
       c .lower .ensures .0,
-      lowest-next (args′ .nxs .now) (args′ .nys .now) (args′ .xs .now) (args′ .ys .now) (args′ .t6) (args′ .count2)
-          (args′ .s .now) (args′ .n) (loop′ .j) (loop′ .s) (inv .9) _ _ (omega arith) (omega (arith, inv .3)) (c .lower .ensures .1),
+      lowest-next (args .nxs .now) (args .nys .now) (args .xs .now) (args .ys .now) (args .t6) (args .count2)
+          (args .s .now) (args .n) (loop .j) (loop .s) (inv .9) _ _ (omega arith) (omega (arith, inv .3))
+          (c .lower .ensures .1),
     )
 
 returns : tie.Need-returns Inv-loop μ-loop
 returns c =
-    let loop′ = c .before .loop in
-    let inv = loop′ .inv in
-    lowest-ended _ _ _ _ _ _ _ _ (loop′ .j) _ (inv .9) (inv .8) (omega arith)
+    let loop = c .before .loop in
+    let inv = loop .inv in
+    lowest-ended _ _ _ _ _ _ _ _ (loop .j) _ (inv .9) (inv .8) (omega arith)
 
 pub lower-all-spec : {M : Type 1} → statement M
 lower-all-spec =

@@ -28,16 +28,19 @@ only-kind-requires c κs = search needs
 
 returns : tie.Need-returns
 returns c =
-    let if1′ = c .before .if1 in
-    let clip-to-sides′ = c .before .before .clip-to-sides in
-    let incident-ends′ = c .before .before .before .incident-ends in
-    let placed-face′ = c .before .before .before .before .placed-face in
-    let unit′ = c .before .before .before .before .before .unit in
-    let b2-sub′ = c .before .before .before .before .before .before .b2-sub in
-    let args′ = c .before .before .before .before .before .before .before .args in
-    let args = args′ in
-    only-the-kind (args .m) (args .f) (args .total-radius) _ _ _ _ (unit′ .ensures ∙ ap (λ (v : B2vec2). b2-normalize v .v) (b2-sub′ .ensures))
-    (placed-face′ .ensures) (incident-ends′ .ensures) (clip-to-sides′ .ensures) (if1′ .taken) _ (c .only-kind .ensures)
+    let if1 = c .before .if1 in
+    let clip-to-sides = c .before .before .clip-to-sides in
+    let at-incident-ends = c .before .before .before in
+    let incident-ends = at-incident-ends .incident-ends in
+    let placed-face = at-incident-ends .before .placed-face in
+    let at-unit = at-incident-ends .before .before in
+    let unit = at-unit .unit in
+    let b2-sub = at-unit .before .b2-sub in
+    let at-args = at-unit .before .before in
+    let args = at-args .args in
+    only-the-kind (args .m) (args .f) (args .total-radius) _ _ _ _
+    (unit .ensures ∙ ap (λ (v : B2vec2). b2-normalize v .v) (b2-sub .ensures))
+    (placed-face .ensures) (incident-ends .ensures) (clip-to-sides .ensures) (if1 .taken) _ (c .only-kind .ensures)
 
 element-copy-out-e0 : tie.Need-element-copy-out-e0
 element-copy-out-e0 c = search needs
@@ -69,22 +72,29 @@ kind-of-requires c κs = search needs
 returns-2 : tie.Need-returns-2
 returns-2 c =
     let b2-scale′ = c .before .b2-scale in
-    let b2-add′ = c .before .before .b2-add in
-    let b2-cross-vec-by-scalar′ = c .before .before .before .b2-cross-vec-by-scalar in
-    let outline-points′ = c .before .before .before .before .before .outline-points in
-    let within-skins2′ = c .before .before .before .before .before .before .before .within-skins2 in
-    let within-skins′ = c .before .before .before .before .before .before .before .before .within-skins in
-    let if1′ = c .before .before .before .before .before .before .before .before .before .before .before .if1 in
-    let clip-to-sides′ = c .before .before .before .before .before .before .before .before .before .before .before .before .clip-to-sides in
-    let incident-ends′ = c .before .before .before .before .before .before .before .before .before .before .before .before .before .incident-ends in
-    let placed-face′ = c .before .before .before .before .before .before .before .before .before .before .before .before .before .before .placed-face in
-    let unit′ = c .before .before .before .before .before .before .before .before .before .before .before .before .before .before .before .unit in
-    let b2-sub′ = c .before .before .before .before .before .before .before .before .before .before .before .before .before .before .before .before .b2-sub in
-    let args′ = c .before .before .before .before .before .before .before .before .before .before .before .before .before .before .before .before .before .args in
-    let args = args′ in
-    with-its-points (args .m) (args .f) (args .total-radius) _ _ _ _ (unit′ .ensures ∙ ap (λ (v : B2vec2). b2-normalize v .v) (b2-sub′ .ensures))
-    (placed-face′ .ensures) (incident-ends′ .ensures) (clip-to-sides′ .ensures) (if1′ .left) _ _ _ _ _ _ _ (within-skins′ .ensures) (within-skins2′ .ensures)
-    (outline-points′ .ensures) (b2-cross-vec-by-scalar′ .ensures) (b2-scale′ .ensures ∙ ap (b2-scale half32) (b2-add′ .ensures)) (c .kind-of .ensures)
+    let b2-add = c .before .before .b2-add in
+    let at-b2-cross-vec-by-scalar = c .before .before .before in
+    let b2-cross-vec-by-scalar = at-b2-cross-vec-by-scalar .b2-cross-vec-by-scalar in
+    let at-outline-points = at-b2-cross-vec-by-scalar .before .before in
+    let outline-points = at-outline-points .outline-points in
+    let at-within-skins2 = at-outline-points .before .before in
+    let within-skins2 = at-within-skins2 .within-skins2 in
+    let within-skins = at-within-skins2 .before .within-skins in
+    let at-if1 = at-within-skins2 .before .before .before .before in
+    let if1 = at-if1 .if1 in
+    let clip-to-sides = at-if1 .before .clip-to-sides in
+    let at-incident-ends = at-if1 .before .before in
+    let incident-ends = at-incident-ends .incident-ends in
+    let placed-face = at-incident-ends .before .placed-face in
+    let at-unit = at-incident-ends .before .before in
+    let unit = at-unit .unit in
+    let b2-sub = at-unit .before .b2-sub in
+    let args = at-unit .before .before .args in
+    with-its-points (args .m) (args .f) (args .total-radius) _ _ _ _
+    (unit .ensures ∙ ap (λ (v : B2vec2). b2-normalize v .v) (b2-sub .ensures)) (placed-face .ensures) (incident-ends .ensures) (clip-to-sides .ensures) (if1 .left) _ _ _ _ _ _ _
+    (within-skins .ensures) (within-skins2 .ensures)
+    (outline-points .ensures) (b2-cross-vec-by-scalar .ensures)
+    (b2-scale′ .ensures ∙ ap (b2-scale half32) (b2-add .ensures)) (c .kind-of .ensures)
 
 pub collide-face-spec : {M : Type 1} → statement M
 collide-face-spec =

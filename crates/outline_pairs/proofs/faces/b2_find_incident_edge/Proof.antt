@@ -1,5 +1,5 @@
 -- What the scan keeps from here is what it keeps of all places. Assumes nothing.
-use mathlib.Core.Path.{_≡_, refl, sym, _∙_, ap}
+use mathlib.Core.Path.{_≡_, sym, _∙_, ap}
 use mathlib.Core.List.{map}
 use mathlib.Core.Logic.{⊎-elim}
 use Prim.Native.Nat.{ℕ, _<_, _≤_, _-_}
@@ -58,13 +58,13 @@ loop-less c = search needs
 
 loop-again : tie.Need-loop-again Inv-loop μ-loop
 loop-again c =
-    let loop′ = c .before .before .before .before .loop in
-    let args′ = c .before .before .before .before .before .args in
-    let f : ℕ → Float = λ k. b2-dot (args′ .n) (point-at (args′ .t2) k) in
-    let i = loop′ .i in
-    let inv = loop′ .inv in
-    let best : Best = record { place = loop′ .index; value = loop′ .min-dot } in
-    let value-is = dot-is (args′ .n) (args′ .t2) (loop′ .i) _ (omega (arith, inv .3)) in
+    let loop = c .before .before .before .before .loop in
+    let args = c .before .before .before .before .before .args in
+    let f : ℕ → Float = λ k. b2-dot (args .n) (point-at (args .t2) k) in
+    let i = loop .i in
+    let inv = loop .inv in
+    let best : Best = record { place = loop .index; value = loop .min-dot } in
+    let value-is = dot-is (args .n) (args .t2) (loop .i) _ (omega (arith, inv .3)) in
     ⊎-elim
     (λ w. rw (w .1, w .2) (
       omega arith,
@@ -72,8 +72,8 @@ loop-again c =
       omega arith,
       inv .3,
       inv .4,
-      replaced-by is-less (valued f) best _ i (args′ .count) (inv .5) _ (omega arith)
-          (ap (λ (x : Float). lt x (loop′ .min-dot)) (sym value-is) ∙ w .0 .taken)
+      replaced-by is-less (valued f) best _ i (args .count) (inv .5) _ (omega arith)
+          (ap (λ (x : Float). lt x (loop .min-dot)) (sym value-is) ∙ w .0 .taken)
           (ap (λ (x : Float). record { place = i; value = x }) value-is),
     ))
     (λ w. rw (w .1, w .2) (
@@ -82,8 +82,8 @@ loop-again c =
       omega arith,
       inv .3,
       inv .4,
-      kept-over is-less (valued f) best _ i (args′ .count) (inv .5) (omega arith)
-          (ap (λ (x : Float). lt x (loop′ .min-dot)) (sym value-is) ∙ w .0 .left),
+      kept-over is-less (valued f) best _ i (args .count) (inv .5) (omega arith)
+          (ap (λ (x : Float). lt x (loop .min-dot)) (sym value-is) ∙ w .0 .left),
     ))
     (c .if1 .came)
 
@@ -101,14 +101,14 @@ element-copy-out-t29 c = search needs
 
 returns : tie.Need-returns Inv-loop μ-loop
 returns c =
-    let loop′ = c .before .loop in
-    let args′ = c .before .before .args in
-    let f : ℕ → Float = λ k. b2-dot (args′ .n) (point-at (args′ .t2) k) in
-    let inv = loop′ .inv in
-    let best : Best = record { place = loop′ .index; value = loop′ .min-dot } in (
+    let loop = c .before .loop in
+    let args = c .before .before .args in
+    let f : ℕ → Float = λ k. b2-dot (args .n) (point-at (args .t2) k) in
+    let inv = loop .inv in
+    let best : Best = record { place = loop .index; value = loop .min-dot } in (
       omega arith,
-      corner-is (args′ .t3) (loop′ .index) (loop′ .min-dot) _ _ (omega (arith, inv .4))
-          (scanned-all is-less (valued f) best _ (loop′ .i) (args′ .count) (inv .5) (omega arith)),
+      corner-is (args .t3) (loop .index) (loop .min-dot) _ _ (omega (arith, inv .4))
+          (scanned-all is-less (valued f) best _ (loop .i) (args .count) (inv .5) (omega arith)),
     )
 
 pub b2-find-incident-edge-spec : {M : Type 1} → statement M

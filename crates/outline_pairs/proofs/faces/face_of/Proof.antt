@@ -58,23 +58,24 @@ element-copy-out-t31-3 c = search needs
 
 returns : tie.Need-returns
 returns c =
-    let next-index2′ = c .before .next-index2 in
-    let next-index′ = c .before .before .next-index in
-    let b2-find-incident-edge′ = c .before .before .before .b2-find-incident-edge in
-    let b2-mul-t-rot-by-vec2′ = c .before .before .before .before .b2-mul-t-rot-by-vec2 in
-    let b2-mul-rot-by-vec2′ = c .before .before .before .before .before .b2-mul-rot-by-vec2 in
-    let args′ = c .before .before .before .before .before .before .args in
-    let good′ = c .before .before .before .before .before .before .good in
-    let pre′ = c .before .before .before .before .before .before .pre in
-    let args = args′ in
-    let v1s-size = good′ .0 .1 .0 .1 in
-    let v2s-size = good′ .1 .1 .1 .1 .1 .0 .1 .0 .1 in
-    let i2-in = next-index′ .ensures .0 in
-    let iv2-in = next-index2′ .ensures .0 in
-    face-is (args .t1) (args .edge) (args .normal) (args .count1) (args .xf1) (args .t6) (args .n2s) (args .count2) (args .xf2)
-    (args .flip) _ _ _ _ _ _ (b2-mul-rot-by-vec2′ .ensures) (b2-mul-t-rot-by-vec2′ .ensures) (b2-find-incident-edge′ .ensures .1)
-    (next-index′ .ensures .1) (next-index2′ .ensures .1) (omega (arith, pre′ .0, pre′ .1)) (omega (arith, pre′ .1))
-    (omega (arith, pre′ .3))
+    let next-index2 = c .before .next-index2 in
+    let next-index = c .before .before .next-index in
+    let b2-find-incident-edge = c .before .before .before .b2-find-incident-edge in
+    let b2-mul-t-rot-by-vec2 = c .before .before .before .before .b2-mul-t-rot-by-vec2 in
+    let b2-mul-rot-by-vec2 = c .before .before .before .before .before .b2-mul-rot-by-vec2 in
+    let args = c .before .before .before .before .before .before .args in
+    let good = c .before .before .before .before .before .before .good in
+    let pre = c .before .before .before .before .before .before .pre in
+    let v1s-size = good .0 .1 .0 .1 in
+    let v2s-size = good .1 .1 .1 .1 .1 .0 .1 .0 .1 in
+    let i2-in = next-index .ensures .0 in
+    let iv2-in = next-index2 .ensures .0 in
+    face-is (args .t1) (args .edge) (args .normal) (args .count1) (args .xf1) (args .t6) (args .n2s) (args .count2)
+    (args .xf2)
+    (args .flip) _ _ _ _ _ _ (b2-mul-rot-by-vec2 .ensures) (b2-mul-t-rot-by-vec2 .ensures)
+    (b2-find-incident-edge .ensures .1)
+    (next-index .ensures .1) (next-index2 .ensures .1) (omega (arith, pre .0, pre .1)) (omega (arith, pre .1))
+    (omega (arith, pre .3))
 
 pub face-of-spec : {M : Type 1} → statement M
 face-of-spec =

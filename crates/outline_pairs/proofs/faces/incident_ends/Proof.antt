@@ -17,10 +17,15 @@ face-vertex-requires-2 c κs = search needs
 
 returns : tie.Need-returns
 returns c =
-    let b2-mul-transform-by-vec22′ = c .before .b2-mul-transform-by-vec22 in
-    let face-vertex′ = c .before .before .face-vertex in
-    let b2-mul-transform-by-vec2′ = c .before .before .before .b2-mul-transform-by-vec2 in
-    simp (c .face-vertex2 .ensures, b2-mul-transform-by-vec22′ .ensures, face-vertex′ .ensures, b2-mul-transform-by-vec2′ .ensures)
+    let b2-mul-transform-by-vec22 = c .before .b2-mul-transform-by-vec22 in
+    let face-vertex = c .before .before .face-vertex in
+    let b2-mul-transform-by-vec2 = c .before .before .before .b2-mul-transform-by-vec2 in
+    simp (
+      c .face-vertex2 .ensures,
+      b2-mul-transform-by-vec22 .ensures,
+      face-vertex .ensures,
+      b2-mul-transform-by-vec2 .ensures,
+    )
 
 pub incident-ends-spec : {M : Type 1} → statement M
 incident-ends-spec =

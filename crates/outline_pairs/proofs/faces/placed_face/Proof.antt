@@ -28,20 +28,20 @@ b2-dot-requires-2 c κs = search needs
 returns : tie.Need-returns
 unfolding face-along
 returns c =
-    let b2-dot′ = c .before .b2-dot in
-    let b2-neg′ = c .before .before .b2-neg in
-    let b2-cross-vec-by-scalar′ = c .before .before .before .b2-cross-vec-by-scalar in
-    let b2-mul-rot-by-vec2′ = c .before .before .before .before .b2-mul-rot-by-vec2 in
-    let b2-mul-transform-by-vec22′ = c .before .before .before .before .before .b2-mul-transform-by-vec22 in
-    let b2-mul-transform-by-vec2′ = c .before .before .before .before .before .before .b2-mul-transform-by-vec2 in
+    let b2-dot = c .before .b2-dot in
+    let b2-neg = c .before .before .b2-neg in
+    let b2-cross-vec-by-scalar = c .before .before .before .b2-cross-vec-by-scalar in
+    let b2-mul-rot-by-vec2 = c .before .before .before .before .b2-mul-rot-by-vec2 in
+    let b2-mul-transform-by-vec22 = c .before .before .before .before .before .b2-mul-transform-by-vec22 in
+    let b2-mul-transform-by-vec2 = c .before .before .before .before .before .before .b2-mul-transform-by-vec2 in
     simp (
       c .b2-dot2 .ensures,
-      b2-dot′ .ensures,
-      b2-neg′ .ensures,
-      b2-cross-vec-by-scalar′ .ensures,
-      b2-mul-rot-by-vec2′ .ensures,
-      b2-mul-transform-by-vec22′ .ensures,
-      b2-mul-transform-by-vec2′ .ensures,
+      b2-dot .ensures,
+      b2-neg .ensures,
+      b2-cross-vec-by-scalar .ensures,
+      b2-mul-rot-by-vec2 .ensures,
+      b2-mul-transform-by-vec22 .ensures,
+      b2-mul-transform-by-vec2 .ensures,
     )
 
 pub placed-face-spec : {M : Type 1} → statement M

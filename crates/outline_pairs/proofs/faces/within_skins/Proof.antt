@@ -13,8 +13,8 @@ b2-dot-requires-2 c κs = search needs
 returns : tie.Need-returns
 unfolding within-skins
 returns c =
-    let b2-dot′ = c .before .b2-dot in
-    simp (c .b2-dot2 .ensures, b2-dot′ .ensures)
+    let b2-dot = c .before .b2-dot in
+    simp (c .b2-dot2 .ensures, b2-dot .ensures)
 
 pub within-skins-spec : {M : Type 1} → statement M
 within-skins-spec = tie.close (tie.spec b2-dot-requires b2-dot-requires-2 returns)

@@ -16,9 +16,9 @@ point-of-requires c κs = search needs
 returns : tie.Need-returns
 unfolding outline-point
 returns c =
-    let flipped′ = c .before .flipped in
-    let b2-mul-t-transform-by-vec2′ = c .before .before .b2-mul-t-transform-by-vec2 in
-    simp (c .point-of .ensures, flipped′ .ensures, b2-mul-t-transform-by-vec2′ .ensures)
+    let flipped = c .before .flipped in
+    let b2-mul-t-transform-by-vec2 = c .before .before .b2-mul-t-transform-by-vec2 in
+    simp (c .point-of .ensures, flipped .ensures, b2-mul-t-transform-by-vec2 .ensures)
 
 pub outline-point-spec : {M : Type 1} → statement M
 outline-point-spec =
