@@ -2,3 +2,4 @@ pub mod Filled
 pub mod Scans
 pub mod EdgeSide
 pub mod FaceScan
+pub mod Smoothing
