@@ -2,5 +2,6 @@
 // the wall and of the outline's faces, and the choice between them.
 pub mod axes;
 pub mod edge_separation;
+pub mod gauss_map;
 pub mod polygon_separation;
 pub mod rows;
