@@ -1,0 +1,4 @@
+pub mod Against
+pub mod References
+pub mod KeptPoints
+pub mod Clipped
