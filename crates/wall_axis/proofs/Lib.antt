@@ -1,5 +1,1 @@
-pub mod Filled
-pub mod Scans
-pub mod EdgeSide
-pub mod FaceScan
 pub mod Smoothing

@@ -1,7 +1,3 @@
-// Wall against outline, the axis search: the outline in the wall's frame as rows of one coordinate, the separations of
-// the wall and of the outline's faces, and the choice between them.
+// Wall against outline, the axis: the choice between the wall's and the outline's, and the Gauss map of one-sided walls.
 pub mod axes;
-pub mod edge_separation;
 pub mod gauss_map;
-pub mod polygon_separation;
-pub mod rows;

@@ -1,4 +1,2 @@
 pub mod Against
 pub mod References
-pub mod KeptPoints
-pub mod Clipped

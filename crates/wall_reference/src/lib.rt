@@ -1,3 +1,2 @@
-// Wall against outline, once the axis is known: the reference face, the edge that is clipped to it, and the points.
-pub mod edge_clipping;
+// Wall against outline, once the axis is known: the reference face, and the edge that is clipped to it.
 pub mod edge_reference;

@@ -22,8 +22,8 @@ use Rattle.contact_definitions.specs.EdgeAxis.{placed-corner, placed-normal, ri
 use Rattle.contact_definitions.specs.EdgeAxis.{b2-compute-polygon-separation, primary-axis, smoothed, smoothed-if, edge-polygon-axis}
 use Rattle.contact_definitions.specs.EdgeReference.{outline-edge, wall-edge, wall-manifold, face-manifold, edge-manifold-on}
 use Rattle.contact_definitions.specs.B2CollideEdge.{edge-polygon-manifold}
-use Rattle.wall_axis.specs.Rows.{Row, PointRows, face-distance}
-use Rattle.wall_axis.proofs.Filled.{at-place}
+use Rattle.wall_separation.specs.Rows.{Row, PointRows, face-distance}
+use Rattle.wall_separation.proofs.Filled.{at-place}
 use Rattle.wall_reference.specs.Reference.{wall-reference, face-reference, reference-manifold}
 
 -- ---- the rows, by the names of the definitions

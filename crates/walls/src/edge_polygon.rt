@@ -12,7 +12,7 @@ ghost use Rattle.contact_definitions.specs.EdgeAxis.{b2-compute-edge-separation
 ghost use Rattle.contact_definitions.specs.EdgeReference.{edge-manifold-on};
 ghost use Rattle.contact_definitions.specs.B2CollideEdge.{edge-polygon-manifold};
 ghost use Rattle.clipping.specs.Unit.{unit-scale};
-ghost use Rattle.wall_axis.specs.Rows.{PointRows};
+ghost use Rattle.wall_separation.specs.Rows.{PointRows};
 ghost use Rattle.walls.specs.Places.{place-below};
 use clipping::manifolds;
 use contact_definitions::axis::Axis;
@@ -23,12 +23,12 @@ use floats::b2_math::B2vec2;
 use shape_definitions::b2_edge_shape::B2edgeShape;
 use shape_definitions::b2_polygon_shape::B2polygonShape;
 use wall_axis::axes;
-use wall_axis::edge_separation;
 use wall_axis::gauss_map;
-use wall_axis::polygon_separation;
-use wall_axis::rows;
-use wall_reference::edge_clipping;
+use wall_clipping::edge_clipping;
 use wall_reference::edge_reference;
+use wall_separation::edge_separation;
+use wall_separation::polygon_separation;
+use wall_separation::rows;
 
 // The axis is known: the reference face is made of it, and the rest is clipping.
 fn edge_manifold_on(

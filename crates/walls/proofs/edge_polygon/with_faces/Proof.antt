@@ -5,8 +5,8 @@ use native.Mathlib.Omega.{arith}
 use Rattle.contact_definitions.specs.Manifold.{with-count}
 use Rattle.contact_definitions.specs.EdgeAxis.{placed-corner, placed-normal, edge-polygon-axis}
 use Rattle.contact_definitions.specs.EdgeReference.{edge-manifold-on}
-use Rattle.wall_axis.specs.Rows.{PointRows}
-use Rattle.wall_axis.proofs.Filled.{row-fewer, points-fewer}
+use Rattle.wall_separation.specs.Rows.{PointRows}
+use Rattle.wall_separation.proofs.Filled.{row-fewer, points-fewer}
 use Rattle.walls.specs.Places.{place-below}
 use Rattle.walls.proofs.PlacesOf.{axis-place}
 use Rattle.walls.proofs.Manifolds.{normals-placed, faces-placed, axis-found}
