@@ -42,4 +42,26 @@ enum netxurbil_refusal {
                                                below 2^-23 is given as 0 and changes nothing */
 uint32_t calls(const uint8_t *input, size_t input_length, uint8_t *out, size_t out_length);
 
+/* The records of the outline builder, as the code has them. */
+struct netxurbil_vec2 {
+    float x, y;
+};
+
+struct netxurbil_polygon {
+    float radius;
+    struct netxurbil_vec2 centroid, vertices[8], normals[8];
+    size_t count;
+};
+
+struct netxurbil_polygon_answer {
+    uint8_t refusal;
+    struct netxurbil_polygon shape;
+};
+
+/* The outline builder on a lent slice of points, by the name that it has in the code (crate shapes, rt staticlib
+   shapes). Answers as entry 1: the refusal, and the outline after the call; of a refused call the outline that it was
+   given. Reads the slice alone. */
+struct netxurbil_polygon_answer b2_polygon_shape_set(struct netxurbil_polygon old,
+                                                     const struct netxurbil_vec2 *vertices, size_t vertices_length);
+
 #endif

@@ -59,7 +59,7 @@ module _ {A : Type 0} where
   walk-starts none = refl
   walk-starts (some l) = refl
 
-  map-one-more : (done : List A) (p : A) (o : Option (List A))
+  pub map-one-more : (done : List A) (p : A) (o : Option (List A))
       → Option·map (_++_ (done ++ (p ∷ []))) o ≡ Option·map (_++_ done) (Option·map (_∷_ p) o)
   map-one-more done p none = refl
   map-one-more done p (some l) = ap some (append-assoc done (p ∷ []) l)

@@ -1,6 +1,7 @@
 // Circle against circle, and outline against circle (Box2D's b2_collide_circle.cpp). Where a shape meets a circle is found first, and the
 // manifold is made of that at one place.
 ghost use mathlib.Core.Path.{_≡_};
+ghost use mathlib.Core.Bool.{cond};
 ghost use Prim.Native.Nat.{_≤_, _<_};
 ghost use Rattle.contact_definitions.specs.B2CollideCircle.{farther};
 ghost use Rattle.circles.specs.Meetings.{AtCorner, AtFace, AtOutline, SideOf};
@@ -85,6 +86,12 @@ fn corner_meeting(v: B2vec2, c: B2vec2, radius: f32) -> Meeting
     Meeting::Point(n.x, n.y, v.x, v.y)
 }
 
+fn nearer_end(first: bool, v1: B2vec2, v2: B2vec2) -> B2vec2
+    ensures { λ r. ⌜ r ≡ cond first v1 v2 ⌝ }
+{
+    if first { v1 } else { v2 }
+}
+
 // At the face from v1 to v2, out of which c is by the separation: at its middle, or at one of its ends.
 fn face_meeting(
     v1: B2vec2,
@@ -100,11 +107,11 @@ fn face_meeting(
     if separation < B2_EPSILON {
         return Meeting::Point(normal.x, normal.y, middle.x, middle.y);
     }
-    if b2_math::b2_dot(b2_math::b2_sub(c, v1), b2_math::b2_sub(v2, v1)) <= 0.0 {
-        return corner_meeting(v1, c, radius);
-    }
-    if b2_math::b2_dot(b2_math::b2_sub(c, v2), b2_math::b2_sub(v1, v2)) <= 0.0 {
-        return corner_meeting(v2, c, radius);
+    let first = b2_math::b2_dot(b2_math::b2_sub(c, v1), b2_math::b2_sub(v2, v1)) <= 0.0;
+    let second = b2_math::b2_dot(b2_math::b2_sub(c, v2), b2_math::b2_sub(v1, v2)) <= 0.0;
+    if first | second {
+        let v = nearer_end(first, v1, v2);
+        return corner_meeting(v, c, radius);
     }
     if b2_math::b2_dot(b2_math::b2_sub(c, middle), normal) > radius {
         return Meeting::Nothing;

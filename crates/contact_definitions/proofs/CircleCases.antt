@@ -36,16 +36,16 @@ pub record CirclesCases : Type 0 where
       (placed ½ ¼ six-tenths eight-tenths)
       ≡ manifold-accepted (after ECircles 1 origin (vec2 ½ -¼) (first (vec2 ½ -½) (contact-id 0 0 0 0)) kept-second)
   -- and do not
-  pub apart-turned : b2-collide-circles (given EFaceA) (circle zero32 (vec2 ½ ½)) (moved ¾ -¼) (circle ¼
-      (vec2 ¼ -¼)) (placed -¾ ½ (neg six-tenths) eight-tenths)
+  pub apart-turned : b2-collide-circles (given EFaceA) (circle zero32 (vec2 ½ ½)) (moved ¾ -¼)
+      (circle ¼ (vec2 ¼ -¼)) (placed -¾ ½ (neg six-tenths) eight-tenths)
       ≡ manifold-accepted (no-point EFaceA)
   -- all within range is asked of shapes before placements: a radius below 0, a sine of 1.5
   pub shapes-before-placements : b2-collide-circles (given EFaceA) (circle +1 origin) (placed zero32 zero32 1½ +1)
       (circle -1 origin) unmoved
       ≡ manifold-refused shape-out-of-range (given EFaceA)
   -- a sine of 1.5 alone
-  pub placement-refused : b2-collide-circles (given EFaceA) (circle +1 origin) unmoved (circle +1 origin) (placed
-      zero32 zero32 1½ +1)
+  pub placement-refused : b2-collide-circles (given EFaceA) (circle +1 origin) unmoved (circle +1 origin)
+      (placed zero32 zero32 1½ +1)
       ≡ manifold-refused placement-out-of-range (given EFaceA)
   -- a centre that is NaN
   pub nan-refused : b2-collide-circles (given EFaceA) (circle +1 (vec2 nan zero32)) unmoved (circle +1 origin)
@@ -84,8 +84,8 @@ pub record PolygonCircleCases : Type 0 where
       ≡ manifold-accepted (after EFaceA 1 (vec2 zero32 +1) (vec2 zero32 ½) (first (vec2 ¼ ¼) (contact-id 0 0 0 0))
       kept-second)
   -- out of a face by more than the radius
-  pub out-of-a-face : b2-collide-polygon-and-circle (given EFaceB) (box +1 ½) unmoved (circle ¼ (vec2 ¼ ¼)) (moved ¼
-      ¾)
+  pub out-of-a-face : b2-collide-polygon-and-circle (given EFaceB) (box +1 ½) unmoved (circle ¼ (vec2 ¼ ¼))
+      (moved ¼ ¾)
       ≡ manifold-accepted (no-point EFaceB)
   -- too far from the first corner
   pub far-from-first-corner : b2-collide-polygon-and-circle (given EFaceB) (box ½ +1) unmoved (circle ½ (vec2 ½ ½))
@@ -109,25 +109,25 @@ pub record PolygonCircleCases : Type 0 where
       (circle ½ (vec2 -1 -2)) unmoved
       ≡ manifold-accepted (after EFaceA 1 origin (vec2 -1 -2) (first (vec2 -1 -2) (contact-id 0 0 0 0)) kept-second)
   -- both turned and moved
-  pub corner-turned : b2-collide-polygon-and-circle (given ECircles) (box ½ +1) (moved +1 +1) (circle +1
-      (vec2 -¼ -¼)) (placed ¼ -¼ six-tenths eight-tenths)
+  pub corner-turned : b2-collide-polygon-and-circle (given ECircles) (box ½ +1) (moved +1 +1)
+      (circle +1 (vec2 -¼ -¼)) (placed ¼ -¼ six-tenths eight-tenths)
       ≡ manifold-accepted (after EFaceA 1 (vec2 (float 0xbee4_f92e) (float 0xbf64_f92e)) (vec2 -½ -1)
       (first (vec2 -¼ -¼) (contact-id 0 0 0 0)) kept-second)
   -- two corners, before a radius below 0 and a sine of 1.5
-  pub count-first : b2-collide-polygon-and-circle (given EFaceA) (counting-box 2 -1 +1 +1) (placed zero32 zero32 1½
-      +1) (circle +1 origin) unmoved
+  pub count-first : b2-collide-polygon-and-circle (given EFaceA) (counting-box 2 -1 +1 +1)
+      (placed zero32 zero32 1½ +1) (circle +1 origin) unmoved
       ≡ manifold-refused count-out-of-range (given EFaceA)
   -- nine corners
-  pub nine-corners : b2-collide-polygon-and-circle (given EFaceA) (counting-box 9 +1 +1 +1) unmoved (circle +1
-      origin) unmoved
+  pub nine-corners : b2-collide-polygon-and-circle (given EFaceA) (counting-box 9 +1 +1 +1) unmoved
+      (circle +1 origin) unmoved
       ≡ manifold-refused count-out-of-range (given EFaceA)
   -- a radius above 2^20, before a sine of 1.5
-  pub shape-second : b2-collide-polygon-and-circle (given EFaceA) (box +1 +1) (placed zero32 zero32 1½ +1) (circle
-      (float 0x4980_0001) origin) unmoved
+  pub shape-second : b2-collide-polygon-and-circle (given EFaceA) (box +1 +1) (placed zero32 zero32 1½ +1)
+      (circle (float 0x4980_0001) origin) unmoved
       ≡ manifold-refused shape-out-of-range (given EFaceA)
   -- a position beyond 2^20
-  pub placement-last : b2-collide-polygon-and-circle (given EFaceA) (box +1 +1) unmoved (circle +1 origin) (moved
-      (float 0xc980_0001) zero32)
+  pub placement-last : b2-collide-polygon-and-circle (given EFaceA) (box +1 +1) unmoved (circle +1 origin)
+      (moved (float 0xc980_0001) zero32)
       ≡ manifold-refused placement-out-of-range (given EFaceA)
 
 pub polygon-circle-cases : PolygonCircleCases

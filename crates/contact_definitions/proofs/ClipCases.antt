@@ -61,8 +61,8 @@ pub record ClipCases : Type 0 where
   pub on-the-line : b2-clip-segment-to-line given-places
       ((end-at (vec2 (float 0x8000_0000) +1) (contact-id 1 2 3 4)) ∷ (end-at (vec2 zero32 +2) (contact-id 5 6 7 8))
       ∷ []) (vec2 +1 zero32) zero32 7
-      ≡ clip-accepted 2 (end-at (vec2 (float 0x8000_0000) +1) (contact-id 1 2 3 4)) (end-at (vec2 zero32 +2)
-      (contact-id 5 6 7 8))
+      ≡ clip-accepted 2 (end-at (vec2 (float 0x8000_0000) +1) (contact-id 1 2 3 4))
+      (end-at (vec2 zero32 +2) (contact-id 5 6 7 8))
   -- 2^30 is in range and the next number is not; NaN is not
   pub in-range : b2-clip-segment-to-line given-places ((end-at (vec2 (float 0x4e80_0000) +1) (contact-id 1 2 3 4)) ∷
       (end-at (vec2 -1 +2) (contact-id 5 6 7 8)) ∷ []) (vec2 +1 zero32) zero32 7

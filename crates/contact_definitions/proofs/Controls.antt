@@ -37,11 +37,11 @@ use Rattle.contact_definitions.proofs.ClipCases.{clip-accepted, end-at,
 
 pub record ContactCases : Type 0 where
   -- circles of radius 1, centres 2 apart: one point; 2 + 2^-22 apart: none
-  pub circles-touch : b2-collide-circles (given EFaceB) (circle +1 origin) unmoved (circle +1 origin) (moved +2
-      zero32)
+  pub circles-touch : b2-collide-circles (given EFaceB) (circle +1 origin) unmoved (circle +1 origin)
+      (moved +2 zero32)
       ≡ manifold-accepted (after ECircles 1 origin origin (first origin (contact-id 0 0 0 0)) kept-second)
-  pub circles-miss : b2-collide-circles (given EFaceB) (circle +1 origin) unmoved (circle +1 origin) (moved
-      (float 0x4000_0001) zero32)
+  pub circles-miss : b2-collide-circles (given EFaceB) (circle +1 origin) unmoved (circle +1 origin)
+      (moved (float 0x4000_0001) zero32)
       ≡ manifold-accepted (no-point EFaceB)
   -- a clip at distances 0 and 1: one point; -1 and 1: two; 1e-30 and -1e-30: one, the product underflows
   pub clip-at-0-and-1 : b2-clip-segment-to-line given-places ((end-at (vec2 zero32 +2) (contact-id 1 2 3 4)) ∷

@@ -98,7 +98,8 @@ as-many made m i (end ∷ ends) = ap suc (as-many made m (suc i) ends)
 
 pub ends-on-face : (m : B2manifold) (normal point : B2vec2) (near : B2clipVertex → Bool)
     (made : B2manifoldPoint → B2clipVertex → B2manifoldPoint) (ends : List B2clipVertex)
-    → OnFace m → FaceKind (m .«manifold_type») → length ends ≤ 2 → OnFace (manifold-of-ends m normal point near made ends)
+    → OnFace m → FaceKind (m .«manifold_type») → length ends ≤ 2
+    → OnFace (manifold-of-ends m normal point near made ends)
 unfolding manifold-of-ends with-points
 ends-on-face m normal point near made [] h kind few = h
 ends-on-face m normal point near made (end ∷ []) h kind few = h

@@ -31,23 +31,23 @@ pub record EdgeCircleCases : Type 0 where
       (circle +1 (vec2 ½ ¼)) (moved ¾ +2)
       ≡ manifold-accepted (no-point EFaceB)
   -- at the first end, of a two-sided and of a one-sided wall
-  pub first-end : b2-collide-edge-and-circle (given EFaceB) (two-sided origin (vec2 ½ +1)) unmoved (circle ¾
-      (vec2 ¼ ¼)) (moved -¼ -¼)
+  pub first-end : b2-collide-edge-and-circle (given EFaceB) (two-sided origin (vec2 ½ +1)) unmoved
+      (circle ¾ (vec2 ¼ ¼)) (moved -¼ -¼)
       ≡ manifold-accepted (after ECircles 1 origin origin (first (vec2 ¼ ¼) (contact-id 0 0 0 0)) kept-second)
   pub first-end-one-sided : b2-collide-edge-and-circle (given EFaceB) (one-sided (vec2 1½ -½) (vec2 zero32 -¼)
       (vec2 ½ -¾) (vec2 zero32 -1)) unmoved (circle +1 (vec2 -½ -¼)) (moved ¼ ¼)
       ≡ manifold-accepted (after ECircles 1 origin (vec2 zero32 -¼) (first (vec2 -½ -¼) (contact-id 0 0 0 0))
       kept-second)
   -- too far from it; over the wall before
-  pub far-from-first-end : b2-collide-edge-and-circle (given EFaceB) (two-sided origin (vec2 +1 ¼)) unmoved (circle
-      ¼ (vec2 -½ ¼)) (moved -¾ ¼)
+  pub far-from-first-end : b2-collide-edge-and-circle (given EFaceB) (two-sided origin (vec2 +1 ¼)) unmoved
+      (circle ¼ (vec2 -½ ¼)) (moved -¾ ¼)
       ≡ manifold-accepted (no-point EFaceB)
   pub over-the-wall-before : b2-collide-edge-and-circle (given EFaceB) (one-sided (vec2 2¾ -¼) (vec2 ½ zero32)
       (vec2 -¾ zero32) (vec2 ¾ +2)) unmoved (circle ¼ (vec2 -¼ ¼)) (moved +1 -¼)
       ≡ manifold-accepted (no-point EFaceB)
   -- at the second end
-  pub second-end : b2-collide-edge-and-circle (given EFaceB) (two-sided (vec2 ½ zero32) origin) unmoved (circle +1
-      (vec2 ½ ¼)) (moved -1 ½)
+  pub second-end : b2-collide-edge-and-circle (given EFaceB) (two-sided (vec2 ½ zero32) origin) unmoved
+      (circle +1 (vec2 ½ ¼)) (moved -1 ½)
       ≡ manifold-accepted (after ECircles 1 origin origin (first (vec2 ½ ¼) (contact-id 1 0 0 0)) kept-second)
   pub second-end-one-sided : b2-collide-edge-and-circle (given EFaceB) (one-sided (vec2 1¼ ¼) (vec2 -¾ zero32)
       (vec2 zero32 ½) (vec2 1½ 1½)) unmoved (circle +1 (vec2 -½ ¼)) (moved ½ ¼)
@@ -80,16 +80,16 @@ pub record EdgeCircleCases : Type 0 where
       (first (vec2 -¼ ¼) (contact-id 0 0 1 0)) kept-second)
   -- over the middle of a wall whose squared length underflows to 0
   pub wall-is-too-short : b2-collide-edge-and-circle (given EFaceB) (two-sided origin
-      (vec2 (float 0x1a00_0000) (float 0x1a00_0000))) unmoved (circle +1
-      (vec2 (float 0x1a40_0000) (float 0x9980_0000))) unmoved
+      (vec2 (float 0x1a00_0000) (float 0x1a00_0000))) unmoved
+      (circle +1 (vec2 (float 0x1a40_0000) (float 0x9980_0000))) unmoved
       ≡ manifold-refused wall-too-short (given EFaceB)
   -- a squared length of 2^-140, whose reciprocal is infinite: the distance is NaN, and a point is reported a
   -- kilometre off
-  pub reciprocal-overflows : b2-collide-edge-and-circle (given EFaceB) (two-sided origin
-      (vec2 (float 0x1c80_0000) zero32)) unmoved (circle zero32 (vec2 (float 0x1c00_0000) (float 0x447a_0000)))
-      unmoved
-      ≡ manifold-accepted (after EFaceA 1 (vec2 (float 0x8000_0000) (float 0x1c80_0000)) origin
-      (first (vec2 (float 0x1c00_0000) (float 0x447a_0000)) (contact-id 0 0 1 0)) kept-second)
+  pub reciprocal-overflows : b2-collide-edge-and-circle (given EFaceB)
+      (two-sided origin (vec2 (float 0x1c80_0000) zero32)) unmoved
+      (circle zero32 (vec2 (float 0x1c00_0000) (float 0x447a_0000))) unmoved
+      ≡ manifold-accepted (after EFaceA 1 (vec2 (float 0x8000_0000) (float 0x1c80_0000)) origin (first (vec2
+      (float 0x1c00_0000) (float 0x447a_0000)) (contact-id 0 0 1 0)) kept-second)
   -- a wall of one point has ends alone
   pub wall-of-one-point : b2-collide-edge-and-circle (given EFaceB) (two-sided (vec2 +1 ½) (vec2 +1 ½)) unmoved
       (circle ¾ (vec2 ½ ¼)) (moved ¼ -¼)
@@ -99,8 +99,8 @@ pub record EdgeCircleCases : Type 0 where
       (vec2 +1 zero32) (vec2 +2 zero32)) (placed zero32 zero32 1½ +1) (circle +1 origin) unmoved
       ≡ manifold-refused shape-out-of-range (given EFaceB)
   pub placement-refused : b2-collide-edge-and-circle (given EFaceB) (two-sided origin
-      (vec2 (float 0x1a00_0000) (float 0x1a00_0000))) unmoved (circle +1
-      (vec2 (float 0x1a40_0000) (float 0x9980_0000))) (placed zero32 zero32 1½ +1)
+      (vec2 (float 0x1a00_0000) (float 0x1a00_0000))) unmoved
+      (circle +1 (vec2 (float 0x1a40_0000) (float 0x9980_0000))) (placed zero32 zero32 1½ +1)
       ≡ manifold-refused placement-out-of-range (given EFaceB)
 
 pub edge-circle-cases : EdgeCircleCases

@@ -5,12 +5,14 @@ use mathlib.Core.List.{[], _∷_}
 use lib.Ieee.{neg, add, sub, mul, div, le, lt, eq, ofBits}
 use Rattle.rounding.specs.Literals.{zero32}
 use Rattle.sqrt.specs.Sqrt.{root-digits, whole-root, rounded-root, sqrt}
+use Rattle.floats.specs.B2Common.{b2-polygon-radius}
 use Rattle.floats.specs.B2Math.{b2-sqrt, b2-add, b2-sub, b2-neg, b2-scale, b2-dot, b2-cross-vec-by-scalar}
 use Rattle.floats.specs.B2Math.{b2-length-squared, b2-length, b2-normalize, b2-mul-t-rot, b2-mul-rot-by-vec2}
 use Rattle.floats.specs.B2Math.{b2-mul-t-rot-by-vec2, b2-mul-transform-by-vec2, b2-mul-t-transform-by-vec2}
 use Rattle.floats.specs.B2Math.{b2-mul-t-transform, vec2}
 use Rattle.floats.specs.Ranges.{point-in-range, radius-in-range, rotation-in-range, transform-in-range}
 use Rattle.floats.specs.Ranges.{normal-in-range}
+use Rattle.shape_definitions.specs.Outline.{origin}
 use Rattle.shape_definitions.specs.Refusal.{count-out-of-range, placement-out-of-range, shape-out-of-range}
 use Rattle.shape_definitions.specs.Validate.{polygon-in-range}
 use Rattle.contact_definitions.specs.declared.axis.Axis.the-variants.{Apart, FaceA, FaceB}
@@ -27,38 +29,39 @@ use Rattle.contact_definitions.specs.Manifold.{manifold-accepted, manifo
 use Rattle.contact_definitions.specs.ReferenceFace.{clipped-to-sides, only, points-from, with-points}
 use Rattle.contact_definitions.specs.ReferenceFace.{manifold-of-ends}
 use Rattle.contact_definitions.specs.Searches.{least, first-greatest, first-least}
-use Rattle.contact_definitions.proofs.Numbers.{+1, +2, -1, -1½, -2½, -½, -¾, 1¼, 1½, ¼, ½, ¾}
+use Rattle.contact_definitions.proofs.Numbers.{+1, +2, -1, -1½, -1¾, -2½, -¼, -½, -¾, 1¼, 1½, ¼, ½, ¾}
 use Rattle.contact_definitions.proofs.Given.{after, box, counting-box, eight-tenths, first, float, given}
 use Rattle.contact_definitions.proofs.Given.{kept-first, kept-second, moved, no-point, placed, second}
-use Rattle.contact_definitions.proofs.Given.{six-tenths, thick-box, unmoved}
+use Rattle.contact_definitions.proofs.Given.{six-tenths, thick-box, triangle, unmoved}
 
 pub record PolygonsCases : Type 0 where
   -- apart by a face of A
   pub apart-by-a : b2-collide-polygons (given EFaceB) (box ½ +1) unmoved (box ½ +1) (moved 1¼ ¼)
       ≡ manifold-accepted (no-point EFaceB)
   -- apart by a face of B alone
-  pub apart-by-b : b2-collide-polygons (given EFaceA) (box +1 ½) unmoved (box ½ +1) (placed +2 ¼ six-tenths
-      eight-tenths)
+  pub apart-by-b : b2-collide-polygons (given EFaceA) (box +1 ½) unmoved (box ½ +1)
+      (placed +2 ¼ six-tenths eight-tenths)
       ≡ manifold-accepted (no-point EFaceA)
   -- face A
-  pub two-on-a : b2-collide-polygons (given EFaceB) (box ½ +1) (moved -¾ ¼) (box +1 ½) (placed -¾ ¼ eight-tenths
-      six-tenths)
+  pub two-on-a : b2-collide-polygons (given EFaceB) (box ½ +1) (moved -¾ ¼) (box +1 ½)
+      (placed -¾ ¼ eight-tenths six-tenths)
       ≡ manifold-accepted (after EFaceA 2 (vec2 +1 (float 0x8000_0000)) (vec2 ½ zero32)
       (first (vec2 -1 ½) (contact-id 1 3 1 0)) (second (vec2 (float 0x3f66_6666) ½) (contact-id 2 2 0 1)))
-  pub one-on-a : b2-collide-polygons (given ECircles) (box ½ +1) unmoved (box ½ +1) (placed +1 ¼ six-tenths
-      eight-tenths)
+  pub one-on-a : b2-collide-polygons (given ECircles) (box ½ +1) unmoved (box ½ +1)
+      (placed +1 ¼ six-tenths eight-tenths)
       ≡ manifold-accepted (after EFaceA 1 (vec2 +1 (float 0x8000_0000)) (vec2 ½ zero32)
       (first (vec2 -½ +1) (contact-id 1 3 1 0)) kept-second)
   -- face B: indices and types change sides
   pub two-on-b : b2-collide-polygons (given EFaceA) (box +1 ½) (placed ½ ¾ eight-tenths six-tenths) (box +1 ½)
       (placed ¼ -½ six-tenths eight-tenths)
       ≡ manifold-accepted (after EFaceB 2 (vec2 zero32 +1) (vec2 zero32 ½)
-      (first (vec2 (float 0xbf80_0001) -½) (contact-id 0 2 0 1))
-      (second (vec2 (float 0xbd95_554c) (float 0xbf00_0001)) (contact-id 0 2 1 0)))
-  pub one-on-b : b2-collide-polygons (given ECircles) (box ½ +1) unmoved (box +1 ½) (placed -½ ½ eight-tenths
-      six-tenths)
-      ≡ manifold-accepted (after EFaceB 1 (vec2 zero32 -1) (vec2 zero32 -½)
-      (first (vec2 -½ +1) (contact-id 3 0 0 1)) kept-second)
+      (first (vec2 (float 0xbf80_0001) -½) (contact-id 0 2 0 1)) (second (vec2 (float 0xbd95_554c)
+      (float 0xbf00_0001)) (contact-id 0 2 1 0)))
+  pub one-on-b : b2-collide-polygons (given ECircles) (triangle b2-polygon-radius (vec2 -¾ (float 0xbdaa_aaab))
+      (origin ∷ (vec2 -¾ zero32) ∷ (vec2 -1½ -¼) ∷ []) ((vec2 zero32 +1) ∷ (vec2 (float 0xbea1_e89b)
+      (float 0x3f72_dce8)) ∷ (vec2 (float 0x3e28_5835) (float 0xbf7c_8450)) ∷ [])) unmoved (box ½ ½) (moved -1¾ -½)
+      ≡ manifold-accepted (after EFaceB 1 (vec2 +1 (float 0x8000_0000)) (vec2 ½ zero32)
+      (first (vec2 -1½ -¼) (contact-id 2 1 0 1)) kept-second)
   -- radii of 0.25. The clip to the first side leaves less than two ends: only the kind is written
   pub kind-alone-first-side : b2-collide-polygons (given ECircles) (thick-box ¼ ½ ½) unmoved (thick-box ¼ ½ ½)
       (moved -1½ -1½)
@@ -75,11 +78,11 @@ pub record PolygonsCases : Type 0 where
   pub count-of-b-first : b2-collide-polygons (given EFaceB) (thick-box -1 +1 +1) (placed zero32 zero32 1½ +1)
       (counting-box 9 +1 +1 +1) unmoved
       ≡ manifold-refused count-out-of-range (given EFaceB)
-  pub shape-of-b-second : b2-collide-polygons (given EFaceB) (box +1 +1) (placed zero32 zero32 1½ +1) (thick-box -1
-      +1 +1) unmoved
+  pub shape-of-b-second : b2-collide-polygons (given EFaceB) (box +1 +1) (placed zero32 zero32 1½ +1)
+      (thick-box -1 +1 +1) unmoved
       ≡ manifold-refused shape-out-of-range (given EFaceB)
-  pub placement-of-b-last : b2-collide-polygons (given EFaceB) (box +1 +1) unmoved (box +1 +1) (placed zero32 zero32
-      1½ +1)
+  pub placement-of-b-last : b2-collide-polygons (given EFaceB) (box +1 +1) unmoved (box +1 +1)
+      (placed zero32 zero32 1½ +1)
       ≡ manifold-refused placement-out-of-range (given EFaceB)
 
 pub polygons-cases : PolygonsCases
@@ -108,26 +111,26 @@ polygons-cases = record {
 
 pub record AxisCases : Type 0 where
   -- the pair of two-on-b: the face of A and that of B, and the edge of A that meets it
-  pub separation-of-a : b2-find-max-separation (box +1 ½) (placed ½ ¾ eight-tenths six-tenths) (box +1 ½) (placed ¼
-      -½ six-tenths eight-tenths)
+  pub separation-of-a : b2-find-max-separation (box +1 ½) (placed ½ ¾ eight-tenths six-tenths) (box +1 ½)
+      (placed ¼ -½ six-tenths eight-tenths)
       ≡ record { place = 0; value = (float 0xbf35_c290) }
-  pub separation-of-b : b2-find-max-separation (box +1 ½) (placed ¼ -½ six-tenths eight-tenths) (box +1 ½) (placed ½
-      ¾ eight-tenths six-tenths)
+  pub separation-of-b : b2-find-max-separation (box +1 ½) (placed ¼ -½ six-tenths eight-tenths) (box +1 ½)
+      (placed ½ ¾ eight-tenths six-tenths)
       ≡ record { place = 2; value = (float 0xbed1_eb86) }
-  pub incident-edge : b2-find-incident-edge (box +1 ½) (placed ¼ -½ six-tenths eight-tenths) 2 (box +1 ½) (placed ½
-      ¾ eight-tenths six-tenths)
-      ≡ (record { v = (vec2 (float 0x3e99_9999) (float 0xbeb3_3334)); id = (contact-id 2 0 1 0) }) ∷ (record
-      { v = (vec2 1½ 1¼); id = (contact-id 2 1 1 0) }) ∷ []
+  pub incident-edge : b2-find-incident-edge (box +1 ½) (placed ¼ -½ six-tenths eight-tenths) 2 (box +1 ½)
+      (placed ½ ¾ eight-tenths six-tenths)
+      ≡ (record { v = (vec2 (float 0x3e99_9999) (float 0xbeb3_3334)); id = (contact-id 2 0 1 0) }) ∷
+      (record { v = (vec2 1½ 1¼); id = (contact-id 2 1 1 0) }) ∷ []
   -- the axis search answers face B there, face A for two-on-a, and apart by A and by B
   pub face-of-b : polygons-axis (float 0x3ca3_d70a) (box +1 ½) (placed ½ ¾ eight-tenths six-tenths) (box +1 ½)
       (placed ¼ -½ six-tenths eight-tenths)
       ≡ FaceB (float 0xbed1_eb86) zero32 +1 2
-  pub face-of-a : polygons-axis (float 0x3ca3_d70a) (box ½ +1) (moved -¾ ¼) (box +1 ½) (placed -¾ ¼ eight-tenths
-      six-tenths)
+  pub face-of-a : polygons-axis (float 0x3ca3_d70a) (box ½ +1) (moved -¾ ¼) (box +1 ½)
+      (placed -¾ ¼ eight-tenths six-tenths)
       ≡ FaceA -1½ +1 zero32 1
   pub apart-of-a : polygons-axis (float 0x3ca3_d70a) (box ½ +1) unmoved (box ½ +1) (moved 1¼ ¼) ≡ Apart ¼
-  pub apart-of-b : polygons-axis (float 0x3ca3_d70a) (box +1 ½) unmoved (box ½ +1) (placed +2 ¼ six-tenths
-      eight-tenths)
+  pub apart-of-b : polygons-axis (float 0x3ca3_d70a) (box +1 ½) unmoved (box ½ +1)
+      (placed +2 ¼ six-tenths eight-tenths)
       ≡ Apart (float 0x3e19_999a)
 
 pub axis-cases : AxisCases

@@ -62,8 +62,8 @@ pub record RefusalCases : Type 0 where
   pub circles-radius-a : b2-collide-circles (given EFaceB) (circle -1 origin) unmoved (circle +1 origin) unmoved
       ≡ manifold-refused shape-out-of-range (given EFaceB)
   -- an outline against a circle
-  pub outline-of-a-circle-pair : b2-collide-polygon-and-circle (given EFaceB) (thick-box -1 +1 +1) unmoved (circle
-      +1 origin) unmoved
+  pub outline-of-a-circle-pair : b2-collide-polygon-and-circle (given EFaceB) (thick-box -1 +1 +1) unmoved
+      (circle +1 origin) unmoved
       ≡ manifold-refused shape-out-of-range (given EFaceB)
   -- outline pairs: count and radius of A
   pub outlines-count-a : b2-collide-polygons (given EFaceB) (counting-box 2 +1 +1 +1) unmoved (box +1 +1) unmoved
@@ -77,11 +77,11 @@ pub record RefusalCases : Type 0 where
   pub wall-radius : b2-collide-edge-and-circle (given EFaceB) (thick-wall -1 origin (vec2 +1 zero32)) unmoved
       (circle +1 origin) unmoved
       ≡ manifold-refused shape-out-of-range (given EFaceB)
-  pub wall-begin-nan : b2-collide-edge-and-circle (given EFaceB) (two-sided (vec2 nan +1) origin) unmoved (circle +1
-      origin) unmoved
+  pub wall-begin-nan : b2-collide-edge-and-circle (given EFaceB) (two-sided (vec2 nan +1) origin) unmoved
+      (circle +1 origin) unmoved
       ≡ manifold-refused shape-out-of-range (given EFaceB)
-  pub wall-end-nan : b2-collide-edge-and-circle (given EFaceB) (two-sided origin (vec2 +1 nan)) unmoved (circle +1
-      origin) unmoved
+  pub wall-end-nan : b2-collide-edge-and-circle (given EFaceB) (two-sided origin (vec2 +1 nan)) unmoved
+      (circle +1 origin) unmoved
       ≡ manifold-refused shape-out-of-range (given EFaceB)
   pub outline-of-a-wall-pair : b2-collide-edge-and-polygon (given EFaceB) (two-sided origin (vec2 +1 zero32))
       unmoved (thick-box -1 +1 +1) unmoved
@@ -90,8 +90,8 @@ pub record RefusalCases : Type 0 where
   pub clip-second-end : b2-clip-segment-to-line [] ((record { v = vec2 +1 +1; id = default-id }) ∷
       (record { v = vec2 +1 nan; id = default-id }) ∷ []) (vec2 +1 zero32) zero32 7
       ≡ record { points = []; count = 0; refusal = contact-out-of-range }
-  pub world-radius-b : b2-world-manifold-initialize given-world (after EFaceA 1 origin origin kept-first
-      kept-second) unmoved +1 unmoved -1
+  pub world-radius-b : b2-world-manifold-initialize given-world
+      (after EFaceA 1 origin origin kept-first kept-second) unmoved +1 unmoved -1
       ≡ world-refused contact-out-of-range given-world
 
 pub refusal-cases : RefusalCases

@@ -73,16 +73,16 @@ paper-numbers = record {
 
 pub record StateCases : Type 0 where
   -- no point on either side
-  pub none : b2-get-point-states given-states (counting 0 (contact-id 1 2 0 1) (contact-id 2 1 0 1)) (counting 0
-      (contact-id 1 2 0 1) (contact-id 2 1 0 1))
+  pub none : b2-get-point-states given-states (counting 0 (contact-id 1 2 0 1) (contact-id 2 1 0 1))
+      (counting 0 (contact-id 1 2 0 1) (contact-id 2 1 0 1))
       ≡ states-accepted B2NullState B2NullState B2NullState B2NullState
   -- two new ones
-  pub added : b2-get-point-states given-states (counting 0 (contact-id 1 2 0 1) (contact-id 2 1 0 1)) (counting 2
-      (contact-id 1 2 0 1) (contact-id 2 1 0 1))
+  pub added : b2-get-point-states given-states (counting 0 (contact-id 1 2 0 1) (contact-id 2 1 0 1))
+      (counting 2 (contact-id 1 2 0 1) (contact-id 2 1 0 1))
       ≡ states-accepted B2NullState B2NullState B2AddState B2AddState
   -- two that go
-  pub removed : b2-get-point-states given-states (counting 2 (contact-id 1 2 0 1) (contact-id 2 1 0 1)) (counting 0
-      (contact-id 1 2 0 1) (contact-id 2 1 0 1))
+  pub removed : b2-get-point-states given-states (counting 2 (contact-id 1 2 0 1) (contact-id 2 1 0 1))
+      (counting 0 (contact-id 1 2 0 1) (contact-id 2 1 0 1))
       ≡ states-accepted B2RemoveState B2RemoveState B2NullState B2NullState
   -- both persist, in the other order
   pub persist-swapped : b2-get-point-states given-states (counting 2 (contact-id 1 2 0 1) (contact-id 2 1 0 1))
@@ -93,8 +93,8 @@ pub record StateCases : Type 0 where
       (counting 2 (contact-id 1 2 1 0) (contact-id 1 2 0 1))
       ≡ states-accepted B2PersistState B2RemoveState B2AddState B2PersistState
   -- a second point past the count is no point
-  pub uncounted : b2-get-point-states given-states (counting 1 (contact-id 1 2 0 1) (contact-id 2 1 0 1)) (counting
-      2 (contact-id 2 1 0 1) (contact-id 1 2 0 1))
+  pub uncounted : b2-get-point-states given-states (counting 1 (contact-id 1 2 0 1) (contact-id 2 1 0 1))
+      (counting 2 (contact-id 2 1 0 1) (contact-id 1 2 0 1))
       ≡ states-accepted B2PersistState B2NullState B2AddState B2PersistState
   -- ids that differ in index_b, type_a or type_b alone
   pub ids-by-every-part : b2-get-point-states given-states (counting 2 (contact-id 1 2 0 1) (contact-id 1 2 0 0))

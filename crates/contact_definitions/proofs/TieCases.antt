@@ -44,11 +44,11 @@ use Rattle.contact_definitions.specs.Manifold.{with-kind, contact-id, ma
 use Rattle.contact_definitions.specs.ReferenceFace.{clipped-to-sides, only, points-from, with-points}
 use Rattle.contact_definitions.specs.ReferenceFace.{manifold-of-ends}
 use Rattle.contact_definitions.specs.Searches.{some-below, first-greatest, least, first-least}
-use Rattle.contact_definitions.proofs.Numbers.{+1, +2, -1, -1¼, -1½, -1¾, -2, -2½, -2¾, -3, -¼, -½, -¾, 1¼, 1½}
-use Rattle.contact_definitions.proofs.Numbers.{1¾, ¼, ½, ¾}
+use Rattle.contact_definitions.proofs.Numbers.{+1, +2, -1, -1¼, -1¾, -2, -2½, -2¾, -¼, -½, -¾, 1¼, 1½, 1¾, ¼}
+use Rattle.contact_definitions.proofs.Numbers.{½, ¾}
 use Rattle.contact_definitions.proofs.Given.{after, box, circle, eight-tenths, first, float, given}
-use Rattle.contact_definitions.proofs.Given.{kept-second, moved, no-point, one-sided, placed, second}
-use Rattle.contact_definitions.proofs.Given.{six-tenths, thick-box, triangle, two-sided, unmoved}
+use Rattle.contact_definitions.proofs.Given.{kept-second, moved, one-sided, placed, second, six-tenths}
+use Rattle.contact_definitions.proofs.Given.{thick-box, triangle, two-sided, unmoved}
 
 abbrev octagon : B2polygonShape
 octagon = record {
@@ -76,24 +76,24 @@ octagon = record {
 }
 
 pub record CircleTies : Type 0 where
-  -- the centre as far out of two faces: the first
-  pub first-face-of-two : b2-collide-polygon-and-circle (given ECircles) (box ½ ½) unmoved (circle ¼ origin) (placed
-      ¼ ¼ +1 zero32)
+  -- the centre is as far out of two faces: the first
+  pub first-face-of-two : b2-collide-polygon-and-circle (given ECircles) (box ½ ½) unmoved (circle ¼ origin)
+      (placed ¼ ¼ +1 zero32)
       ≡ manifold-accepted (after EFaceA 1 (vec2 +1 zero32) (vec2 ½ zero32) (first origin (contact-id 0 0 0 0))
       kept-second)
-  -- over the line through the first corner: at the corner
-  pub at-the-corner-line : b2-collide-polygon-and-circle (given ECircles) (box ½ ½) unmoved (circle ¾
-      (vec2 zero32 ½)) (moved -¾ zero32)
+  -- on the line through the corner is at the corner
+  pub at-the-corner-line : b2-collide-polygon-and-circle (given ECircles) (box ½ ½) unmoved
+      (circle ¾ (vec2 zero32 ½)) (moved -¾ zero32)
       ≡ manifold-accepted (after EFaceA 1 (vec2 -1 zero32) (vec2 -½ ½) (first (vec2 zero32 ½) (contact-id 0 0 0 0))
       kept-second)
   -- out of a face by 2^-24 is inside
-  pub hardly-outside : b2-collide-polygon-and-circle (given ECircles) (box ½ ½) unmoved (circle ½
-      (vec2 (float 0x3f00_0001) ½)) unmoved
+  pub hardly-outside : b2-collide-polygon-and-circle (given ECircles) (box ½ ½) unmoved
+      (circle ½ (vec2 (float 0x3f00_0001) ½)) unmoved
       ≡ manifold-accepted (after EFaceA 1 (vec2 +1 zero32) (vec2 ½ zero32)
       (first (vec2 (float 0x3f00_0001) ½) (contact-id 0 0 0 0)) kept-second)
   -- eight corners are taken
-  pub eight-corners : b2-collide-polygon-and-circle (given EFaceB) octagon unmoved (circle ½ (vec2 ¼ -¼)) (moved +1
-      ¾)
+  pub eight-corners : b2-collide-polygon-and-circle (given EFaceB) octagon unmoved (circle ½ (vec2 ¼ -¼))
+      (moved +1 ¾)
       ≡ manifold-accepted (after EFaceA 1 (vec2 +1 zero32) (vec2 +1 ½) (first (vec2 ¼ -¼) (contact-id 0 0 0 0))
       kept-second)
 
@@ -113,39 +113,34 @@ circle-ties = record {
 
 pub record PolygonTies : Type 0 where
   -- three corners against four
-  pub three-against-four : b2-collide-polygons (given ECircles) (triangle b2-polygon-radius (vec2 ¼ -½)
-      ((vec2 ¾ -¾) ∷ origin ∷ (vec2 zero32 -¾) ∷ []) ((vec2 (float 0x3f35_04f4) (float 0x3f35_04f4)) ∷ (vec2 -1
-      (float 0x8000_0000)) ∷ (vec2 zero32 -1) ∷ [])) unmoved (box +2 +2) (placed 1½ ½ +1 zero32)
-      ≡ manifold-accepted (after EFaceB 2 (vec2 zero32 +1) (vec2 zero32 +2) (first (vec2 ¾ -¾) (contact-id 0 2 0 1))
-      (second origin (contact-id 1 2 0 1)))
-  -- B ahead of A by less than the tolerance
-  pub tolerance-holds : b2-collide-polygons (given ECircles) (box ½ ½) unmoved (box ½ ½) (placed ½ -1
-      (neg six-tenths) eight-tenths)
-      ≡ manifold-accepted (after EFaceA 2 (vec2 zero32 -1) (vec2 zero32 -½)
-      (first (vec2 (float 0xbf00_0001) (float 0x3f00_0001)) (contact-id 0 3 1 0))
-      (second (vec2 (float 0xbeb3_3336) (float 0x3f00_0001)) (contact-id 1 2 0 1)))
-  -- two edges as much against the face: the first
-  pub first-incident-edge : b2-collide-polygons (given ECircles) (box ½ ½) unmoved (triangle b2-polygon-radius
-      (vec2 ½ (float 0x3daa_aab0)) ((vec2 1½ -½) ∷ (vec2 zero32 +1) ∷ (vec2 zero32 -¼) ∷ []) ((vec2
-      (float 0x3f35_04f4) (float 0x3f35_04f4)) ∷ (vec2 -1 (float 0x8000_0000)) ∷ (vec2 (float 0xbe28_5835)
-      (float 0xbf7c_8450)) ∷ [])) (moved -½ -¾)
-      ≡ manifold-accepted (after EFaceB 1 (vec2 (float 0x3f35_04f4) (float 0x3f35_04f4)) (vec2 ¾ ¼)
-      (first (vec2 -½ -½) (contact-id 0 0 0 1)) kept-second)
   pub three-against-four-incident : b2-collide-polygons (given ECircles) (triangle b2-polygon-radius
       (vec2 (float 0x3f6a_aaaa) ¼) ((vec2 1½ -¼) ∷ (vec2 ¾ ½) ∷ (vec2 ½ ½) ∷ []) ((vec2 (float 0x3f35_04f4)
       (float 0x3f35_04f4)) ∷ (vec2 zero32 +1) ∷ (vec2 (neg six-tenths) (neg eight-tenths)) ∷ [])) unmoved (box ½ ½)
       unmoved
       ≡ manifold-accepted (after EFaceA 2 (vec2 (neg six-tenths) (neg eight-tenths)) (vec2 +1 (float 0x3e00_0000))
       (first (vec2 ½ ½) (contact-id 2 2 1 0)) (second (vec2 (float 0x3ef3_3333) ½) (contact-id 2 2 0 1)))
+  -- B is ahead of A by less than the tolerance
+  pub tolerance-holds : b2-collide-polygons (given ECircles) (box ½ ½) unmoved (box ½ ½)
+      (placed ½ -1 (neg six-tenths) eight-tenths)
+      ≡ manifold-accepted (after EFaceA 2 (vec2 zero32 -1) (vec2 zero32 -½) (first (vec2 (float 0xbf00_0001)
+      (float 0x3f00_0001)) (contact-id 0 3 1 0)) (second (vec2 (float 0xbeb3_3336) (float 0x3f00_0001)) (contact-id
+      1 2 0 1)))
+  -- two edges are as much against the face: the first
+  pub first-incident-edge : b2-collide-polygons (given ECircles) (box ½ ½) unmoved (triangle b2-polygon-radius
+      (vec2 ½ (float 0x3daa_aab0)) ((vec2 1½ -½) ∷ (vec2 zero32 +1) ∷ (vec2 zero32 -¼) ∷ []) ((vec2
+      (float 0x3f35_04f4) (float 0x3f35_04f4)) ∷ (vec2 -1 (float 0x8000_0000)) ∷ (vec2 (float 0xbe28_5835)
+      (float 0xbf7c_8450)) ∷ [])) (moved -½ -¾)
+      ≡ manifold-accepted (after EFaceB 1 (vec2 (float 0x3f35_04f4) (float 0x3f35_04f4)) (vec2 ¾ ¼)
+      (first (vec2 -½ -½) (contact-id 0 0 0 1)) kept-second)
   pub three-against-four-normals : b2-collide-polygons (given ECircles) (triangle b2-polygon-radius (vec2 ¼ ½)
       ((vec2 ¾ ¼) ∷ (vec2 ¾ ¾) ∷ (vec2 -¾ ½) ∷ []) ((vec2 +1 (float 0x8000_0000)) ∷ (vec2 (float 0xbe28_5835)
       (float 0x3f7c_8450)) ∷ (vec2 (float 0xbe28_5835) (float 0xbf7c_8450)) ∷ [])) unmoved (box ½ +1) (moved 1¼ ½)
       ≡ manifold-accepted (after EFaceA 2 (vec2 +1 (float 0x8000_0000)) (vec2 ¾ ½)
       (first (vec2 -½ (float 0xbe8a_3d70)) (contact-id 0 3 0 1))
       (second (vec2 -½ (float 0x3e8a_3d70)) (contact-id 1 3 0 1)))
-  -- both apart by exactly the skins
-  pub apart-by-the-skins : b2-collide-polygons (given ECircles) (thick-box ¼ +1 ½) unmoved (thick-box ¼ ½ +1) (moved
-      +2 ¼)
+  -- apart by exactly the skins is not apart
+  pub apart-by-the-skins : b2-collide-polygons (given ECircles) (thick-box ¼ +1 ½) unmoved (thick-box ¼ ½ +1)
+      (moved +2 ¼)
       ≡ manifold-accepted (after EFaceA 2 (vec2 +1 (float 0x8000_0000)) (vec2 +1 zero32)
       (first (vec2 -½ -1) (contact-id 1 0 1 0)) (second (vec2 -½ ¾) (contact-id 2 3 0 1)))
 
@@ -159,10 +154,9 @@ unfolding root-digits whole-root rounded-root sqrt b2-sqrt b2-add b2-sub b2-neg 
     incident-end b2-find-incident-edge local-tangent face-middle face-along outline-face within-skins outline-point
     outline-manifold polygons-manifold b2-collide-polygons neg add sub mul div le lt eq ofBits
 polygon-ties = record {
-  three-against-four = refl;
+  three-against-four-incident = refl;
   tolerance-holds = refl;
   first-incident-edge = refl;
-  three-against-four-incident = refl;
   three-against-four-normals = refl;
   apart-by-the-skins = refl;
 }
@@ -173,30 +167,6 @@ pub record EdgeTies : Type 0 where
       (vec2 zero32 1½) (vec2 zero32 -¼) (vec2 +2 zero32)) unmoved (circle +1 (vec2 -¼ -¼)) (moved zero32 1¾)
       ≡ manifold-accepted (after ECircles 1 origin (vec2 zero32 1½) (first (vec2 -¼ -¼) (contact-id 0 0 0 0))
       kept-second)
-  -- greater by less than 0.001, and the outline's axis, greater by less than 2 in 100
-  pub absolute-tolerance-holds : b2-collide-edge-and-polygon (given ECircles) (two-sided (vec2 -1¼ -1)
-      (vec2 1½ zero32)) unmoved (box ½ +2) (placed (float 0xbee0_0000) ¼ +1 zero32)
-      ≡ manifold-accepted (after EFaceA 1 (vec2 (float 0xbeae_f8f3) (float 0x3f70_964e)) (vec2 -1¼ -1)
-      (first (vec2 -½ -2) (contact-id 0 0 1 0)) kept-second)
-  -- both sides of the wall alike: side 0, and the centroid on the wall's line is not behind it
-  pub first-side-of-the-wall : b2-collide-edge-and-polygon (given ECircles) (one-sided (vec2 -½ ½) (vec2 1½ ¼)
-      (vec2 -½ ¼) (vec2 ¾ -1)) unmoved (box ½ +1) (moved zero32 ¼)
-      ≡ manifold-accepted (after EFaceA 2 (vec2 zero32 +1) (vec2 1½ ¼) (first (vec2 -½ -1) (contact-id 0 0 1 0))
-      (second (vec2 ½ -1) (contact-id 0 1 1 0)))
-  -- beyond the neighbour by a sine from 0.1 to 0.2
-  pub skipped-past-the-tolerance : b2-collide-edge-and-polygon (given ECircles) (one-sided (vec2 -2½ ½)
-      (vec2 1¼ zero32) (vec2 ¼ -¾) (vec2 zero32 -3)) unmoved (box +1 ½) (moved -¾ -1¼)
-      ≡ manifold-accepted (no-point ECircles)
-  -- by a sine below 0.1
-  pub admitted-within-the-tolerance : b2-collide-edge-and-polygon (given ECircles) (one-sided (vec2 -2¾ -½)
-      (vec2 1½ 1¼) (vec2 zero32 ¾) (vec2 -¼ -2¾)) unmoved (box +1 ½) (placed ¼ +1 +1 zero32)
-      ≡ manifold-accepted (after EFaceB 1 (vec2 zero32 -1) (vec2 -1 -½) (first (vec2 zero32 ¾) (contact-id 0 1 1 0))
-      kept-second)
-  -- two faces keep the wall off alike: the first
-  pub first-face-of-the-outline : b2-collide-edge-and-polygon (given ECircles) (two-sided (vec2 +1 zero32)
-      (vec2 -1½ ¾)) unmoved (box ½ ½) (placed +1 zero32 +1 zero32)
-      ≡ manifold-accepted (after EFaceB 2 (vec2 +1 zero32) (vec2 ½ -½) (first (vec2 +1 zero32) (contact-id 1 0 1 0))
-      (second (vec2 ½ (float 0x3e19_9998)) (contact-id 1 2 1 0)))
   -- walls in one line count as convex
   pub straight-is-convex : b2-collide-edge-and-polygon (given ECircles) (one-sided (vec2 ¼ zero32) origin
       (vec2 ½ zero32) (vec2 zero32 -2½)) unmoved (box +2 +1) (placed -¼ -¾ +1 zero32)
@@ -229,11 +199,6 @@ unfolding root-digits whole-root rounded-root sqrt b2-sqrt b2-min b2-add b2-sub 
     edge-polygon-manifold b2-collide-edge-and-polygon neg add sub mul div le lt eq ofBits
 edge-ties = record {
   square-to-the-wall-before = refl;
-  absolute-tolerance-holds = refl;
-  first-side-of-the-wall = refl;
-  skipped-past-the-tolerance = refl;
-  admitted-within-the-tolerance = refl;
-  first-face-of-the-outline = refl;
   straight-is-convex = refl;
   square-to-the-wall = refl;
   end-at-the-radius = refl;

@@ -26,45 +26,45 @@ use Rattle.contact_definitions.proofs.Given.{kept-second, placed, secon
 pub record WorldCases : Type 0 where
   -- circles: the second place is kept, though two points are counted
   pub circles-apart : b2-world-manifold-initialize given-world (after ECircles 2 (vec2 +8 -8) (vec2 ¼ -½)
-      (first (vec2 +1 ¾) (contact-id 1 2 3 4)) (second (vec2 +2 +2) (contact-id 5 6 7 8))) (placed ½ -1¼ six-tenths
-      eight-tenths) ½ (placed 1½ ¼ (neg six-tenths) eight-tenths) ¾
+      (first (vec2 +1 ¾) (contact-id 1 2 3 4)) (second (vec2 +2 +2) (contact-id 5 6 7 8)))
+      (placed ½ -1¼ six-tenths eight-tenths) ½ (placed 1½ ¼ (neg six-tenths) eight-tenths) ¾
       ≡ world-accepted (world-after (vec2 (float 0x3f35_04f3) (float 0x3f35_04f3))
       (vec2 (float 0x3fe4_afb0) (float 0xbf36_a09e)) (vec2 +5 +6) (float 0x3f9c_c8a8) +8)
   -- centres hardly apart: the normal is (1, 0)
   pub circles-together : b2-world-manifold-initialize given-world (after ECircles 1 (vec2 +8 -8) (vec2 ¼ -½)
-      (first (vec2 ¼ -½) (contact-id 1 2 3 4)) (second (vec2 +2 +2) (contact-id 5 6 7 8))) (placed ½ -1¼ six-tenths
-      eight-tenths) ½ (placed ½ -1¼ six-tenths eight-tenths) ¾
+      (first (vec2 ¼ -½) (contact-id 1 2 3 4)) (second (vec2 +2 +2) (contact-id 5 6 7 8)))
+      (placed ½ -1¼ six-tenths eight-tenths) ½ (placed ½ -1¼ six-tenths eight-tenths) ¾
       ≡ world-accepted (world-after (vec2 +1 zero32) (vec2 (float 0x3f60_0000) -1½) (vec2 +5 +6) -1¼ +8)
   -- face A, two points and one
   pub face-a-two : b2-world-manifold-initialize given-world (after EFaceA 2 (vec2 (neg eight-tenths) six-tenths)
-      (vec2 ½ +1) (first (vec2 -¾ ½) (contact-id 1 2 3 4)) (second (vec2 1¼ -1) (contact-id 5 6 7 8))) (placed ½ -1¼
-      six-tenths eight-tenths) ¼ (placed 1½ ¼ (neg six-tenths) eight-tenths) ½
+      (vec2 ½ +1) (first (vec2 -¾ ½) (contact-id 1 2 3 4)) (second (vec2 1¼ -1) (contact-id 5 6 7 8)))
+      (placed ½ -1¼ six-tenths eight-tenths) ¼ (placed 1½ ¼ (neg six-tenths) eight-tenths) ½
       ≡ world-accepted (world-after (vec2 -1 zero32) (vec2 (float 0x3f60_0000) (float 0x3f8c_cccd))
       (vec2 (float 0x3f9c_cccd) (float 0xbfa6_6666)) (float 0xbfd3_3334) (float 0xc016_6667))
   pub face-a-one : b2-world-manifold-initialize given-world (after EFaceA 1 (vec2 (neg eight-tenths) six-tenths)
-      (vec2 ½ +1) (first (vec2 -¾ ½) (contact-id 1 2 3 4)) (second (vec2 1¼ -1) (contact-id 5 6 7 8))) (placed ½ -1¼
-      six-tenths eight-tenths) ¼ (placed 1½ ¼ (neg six-tenths) eight-tenths) ½
+      (vec2 ½ +1) (first (vec2 -¾ ½) (contact-id 1 2 3 4)) (second (vec2 1¼ -1) (contact-id 5 6 7 8)))
+      (placed ½ -1¼ six-tenths eight-tenths) ¼ (placed 1½ ¼ (neg six-tenths) eight-tenths) ½
       ≡ world-accepted (world-after (vec2 -1 zero32) (vec2 (float 0x3f60_0000) (float 0x3f8c_cccd)) (vec2 +5 +6)
       (float 0xbfd3_3334) +8)
   -- face B: its normal is turned round
   pub face-b-two : b2-world-manifold-initialize given-world (after EFaceB 2 (vec2 (neg eight-tenths) six-tenths)
-      (vec2 ½ +1) (first (vec2 -¾ ½) (contact-id 1 2 3 4)) (second (vec2 1¼ -1) (contact-id 5 6 7 8))) (placed ½ -1¼
-      six-tenths eight-tenths) ¼ (placed 1½ ¼ (neg six-tenths) eight-tenths) ½
+      (vec2 ½ +1) (first (vec2 -¾ ½) (contact-id 1 2 3 4)) (second (vec2 1¼ -1) (contact-id 5 6 7 8)))
+      (placed ½ -1¼ six-tenths eight-tenths) ¼ (placed 1½ ¼ (neg six-tenths) eight-tenths) ½
       ≡ world-accepted (world-after (vec2 (float 0x3e8f_5c2a) (float 0xbf75_c290))
       (vec2 (float 0xbf18_ca82) (float 0xbf20_07dd)) (vec2 (float 0x3fe7_0f7a) (float 0xbe94_0788))
       (float 0xbff3_f7cf) (float 0xc026_c8b5))
   pub face-b-one : b2-world-manifold-initialize given-world (after EFaceB 1 (vec2 (neg eight-tenths) six-tenths)
-      (vec2 ½ +1) (first (vec2 -¾ ½) (contact-id 1 2 3 4)) (second (vec2 1¼ -1) (contact-id 5 6 7 8))) (placed 1½ ¼
-      (neg six-tenths) eight-tenths) ¼ (placed ½ -1¼ six-tenths eight-tenths) ½
+      (vec2 ½ +1) (first (vec2 -¾ ½) (contact-id 1 2 3 4)) (second (vec2 1¼ -1) (contact-id 5 6 7 8)))
+      (placed 1½ ¼ (neg six-tenths) eight-tenths) ¼ (placed ½ -1¼ six-tenths eight-tenths) ½
       ≡ world-accepted (world-after (vec2 +1 (float 0x8000_0000)) (vec2 (float 0x3f20_0000) (float 0x3f8c_cccd))
       (vec2 +5 +6) (float 0xbfd3_3334) +8)
   -- three points, before anything else
-  pub three-points : b2-world-manifold-initialize given-world (after EFaceA 3 (vec2 nan nan) origin kept-first
-      kept-second) (placed zero32 zero32 1½ +1) -1 unmoved nan
+  pub three-points : b2-world-manifold-initialize given-world
+      (after EFaceA 3 (vec2 nan nan) origin kept-first kept-second) (placed zero32 zero32 1½ +1) -1 unmoved nan
       ≡ world-refused count-out-of-range given-world
   -- no points: nothing else is tested
-  pub no-points : b2-world-manifold-initialize given-world (after EFaceA 0 (vec2 nan nan) origin kept-first
-      kept-second) (placed zero32 zero32 1½ +1) -1 unmoved nan
+  pub no-points : b2-world-manifold-initialize given-world
+      (after EFaceA 0 (vec2 nan nan) origin kept-first kept-second) (placed zero32 zero32 1½ +1) -1 unmoved nan
       ≡ world-accepted given-world
   -- a normal above 8, a point above 2^30, a second point that is NaN, a radius below 0, before a sine of 1.5
   pub normal-refused : b2-world-manifold-initialize given-world (after EFaceA 1 (vec2 +8 (float 0x4100_0001)) origin
@@ -76,12 +76,12 @@ pub record WorldCases : Type 0 where
   pub second-point-refused : b2-world-manifold-initialize given-world (after ECircles 2 origin origin kept-first
       (second (vec2 nan +1) (contact-id 1 2 3 4))) unmoved +1 unmoved +1
       ≡ world-refused contact-out-of-range given-world
-  pub radius-refused : b2-world-manifold-initialize given-world (after EFaceA 1 origin origin kept-first
-      kept-second) unmoved -1 (placed zero32 zero32 1½ +1) +1
+  pub radius-refused : b2-world-manifold-initialize given-world
+      (after EFaceA 1 origin origin kept-first kept-second) unmoved -1 (placed zero32 zero32 1½ +1) +1
       ≡ world-refused contact-out-of-range given-world
   -- a sine of 1.5
-  pub placement-refused : b2-world-manifold-initialize given-world (after EFaceA 1 origin origin kept-first
-      kept-second) unmoved +1 (placed zero32 zero32 1½ +1) +1
+  pub placement-refused : b2-world-manifold-initialize given-world
+      (after EFaceA 1 origin origin kept-first kept-second) unmoved +1 (placed zero32 zero32 1½ +1) +1
       ≡ world-refused placement-out-of-range given-world
   -- a second point that is NaN is not tested where one is counted
   pub uncounted-point : b2-world-manifold-initialize given-world (after EFaceA 1 (vec2 +1 zero32) (vec2 ½ +1)

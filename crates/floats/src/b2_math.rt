@@ -11,6 +11,7 @@ ghost use Rattle.floats.specs.B2Math.{b2-mul-transform, b2-mul-t-transfo
 use crate::b2_common::B2_EPSILON;
 use sqrt::root;
 
+#[repr(C)]
 pub struct B2vec2 {
     pub x: f32,
     pub y: f32,

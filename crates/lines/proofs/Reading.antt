@@ -3,7 +3,7 @@
 use Prim.Native.Nat.{ℕ, suc, _+_, _*_, _%_, _≤_, _<_}
 use mathlib.Core.Path.{_≡_, refl, sym, _∙_, ap}
 use mathlib.Core.Bool.{Bool, true, false, cond, _&&_}
-use mathlib.Core.List.{List, [], _∷_, _++_, append-assoc, append-nil}
+use mathlib.Core.List.{List, [], _∷_, _++_, append-nil}
 use mathlib.Core.Option.{Option, none, some, Option·map}
 use native.Mathlib.Nat.{mod-eq-of-lt}
 use native.Mathlib.Numerals.{add-one}
@@ -12,6 +12,7 @@ use lib.Dec.{leb, ltb}
 use lib.ListN.{length, getD, take, drop, set, length-set}
 use lib.Seq.{drop-cons, drop-length, take-suc-set}
 use borrow.Author.Tests.{ltb-true, leb-true, lt-ltb, le-ltb}
+use Rattle.algebra.proofs.Loops.{walk-starts, map-one-more}
 use Rattle.lines.specs.Hex.{nibble, with-byte, unhex, largest-frame, line-limit, frame-of, Decoded}
 
 -- a character between two others, both among them
@@ -28,15 +29,6 @@ between low x high both = go (leb low x) (leb x high) refl refl both
 abbrev pub joined : Bool → List ℕ → Option (List ℕ) → Option (List ℕ)
 joined digits done rest = cond digits (Option·map (_++_ done) rest) none
 
-pub joined-none-yet : (rest : Option (List ℕ)) → joined true [] rest ≡ rest
-joined-none-yet none = refl
-joined-none-yet (some bytes) = refl
-
-joined-one-more : (done : List ℕ) (b : ℕ) (rest : Option (List ℕ))
-    → Option·map (_++_ done) (Option·map (_∷_ b) rest) ≡ Option·map (_++_ (done ++ (b ∷ []))) rest
-joined-one-more done b none = refl
-joined-one-more done b (some bytes) = ap some (sym (append-assoc done (b ∷ []) bytes))
-
 -- after i turns of the loop that reads n bytes from a line into a buffer, which held old
 pub record ReadSoFar (line old : List ℕ) (n : ℕ) (bytes : List ℕ) (digits : Bool) (i : ℕ) : Type 0 where
   pub within : i ≤ n
@@ -49,7 +41,7 @@ pub record ReadSoFar (line old : List ℕ) (n : ℕ) (bytes : List ℕ) (digits 
 pub read-none-yet : (line old : List ℕ) (n : ℕ) → 2 * n ≡ length line → length line ≤ line-limit
     → largest-frame ≤ length old → ReadSoFar line old n old true 0
 read-none-yet line old n even short room =
-    let read = joined-none-yet (unhex line) in
+    let read = walk-starts (unhex line) in
     record { within = omega arith; even = even; short = short; same-length = refl; room = room; read = read }
 
 -- two more characters
@@ -64,7 +56,7 @@ joined-pair true done high low rest = go (ltb high 16) (ltb low 16) refl refl
         ≡ cond (t && u) (Option·map (_++_ (done ++ ((high % 16 * 16 + low % 16) ∷ []))) rest) none
     go true true high-is low-is =
         rw (mod-eq-of-lt (ltb-true high 16 high-is), mod-eq-of-lt (ltb-true low 16 low-is))
-        (joined-one-more done (high * 16 + low) rest)
+        (sym (map-one-more done (high * 16 + low) rest))
     go true false high-is low-is = refl
     go false u high-is low-is = refl
 

@@ -11,7 +11,7 @@ use floats::b2_math::B2Transform;
 use floats::b2_math::B2vec2;
 use floats::bits;
 
-fn wide(b: u8) -> u32
+pub fn wide(b: u8) -> u32
     ensures { λ r. ⌜ (r ≡ b) × (r < 256) ⌝ }
 {
     b as u32

@@ -1,6 +1,7 @@
 // Outlines (Box2D's b2_polygon_shape.h): the record, and what the calls answer.
 use floats::b2_math::B2vec2;
 
+#[repr(C)]
 pub struct B2polygonShape {
     pub m_radius: f32,
     pub m_centroid: B2vec2,
@@ -10,6 +11,7 @@ pub struct B2polygonShape {
 }
 
 // What a call that makes an outline answers: 0 and the new outline, or the refusal and the outline that it was given.
+#[repr(C)]
 pub struct PolygonAnswer {
     pub refusal: u8,
     pub shape: B2polygonShape,

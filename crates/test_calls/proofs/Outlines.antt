@@ -18,7 +18,7 @@ use Rattle.shape_definitions.proofs.Counted.{counted-whole}
 use Rattle.wire_records.specs.Words.{word-at}
 use Rattle.wire_records.specs.Records.{float-at, vector-at, points-at, rotation-at, polygon-at, flag}
 use Rattle.test_calls.specs.Entries.{outline-answer, set-answer, box-answer, box-angle-answer, validate-answer}
-use Rattle.wire_records.proofs.Rows.{length-points}
+use Rattle.lines.proofs.Points.{length-points}
 
 module _ (request : List ℕ) where
   pub set-short : length request < 152 → set-answer request ≡ []
@@ -41,7 +41,7 @@ module _ (request : List ℕ) where
     unfolding set-answer
     set-words m old array answer size old-is first all answer-is =
         let whole : answer ≡ b2-polygon-shape-set old (points-at request 38 n) =
-        answer-is ∙ counted-whole old array (points-at request 38 n) n (length-points request 38 n) (λ few. rw (all few) at first) in
+        answer-is ∙ counted-whole old array (points-at request 38 n) n (length-points request (4 * 38) n) (λ few. rw (all few) at first) in
         simp (eq-eqb _ _ (size ∙ size-is), whole, old-is, n-is)
 
   -- ---- the box

@@ -4,6 +4,7 @@ ghost use Prim.Native.Nat.{_≤_};
 ghost use Rattle.wire_records.specs.Words.{Written};
 ghost use Rattle.test_calls.specs.Entries.{set-answer, box-answer, box-angle-answer, validate-answer};
 ghost use Rattle.test_calls.specs.Entries.{one-sided-answer, two-sided-answer, shape-answer};
+use lines::fields;
 use shapes::b2_edge_shape;
 use shapes::b2_polygon_shape;
 use wire_records::records;
@@ -71,7 +72,10 @@ pub fn validate(input: &[u8], out: &mut [u8]) -> u32
     }
     let shape = records::polygon(input, 1);
     let validity = b2_polygon_shape::b2_polygon_shape_validate(shape);
-    let answer = [words::wide(validity.refusal), records::flag(validity.valid)];
+    let answer = [
+        fields::wide(validity.refusal),
+        records::flag(validity.valid),
+    ];
     words::put_words(out, &answer)
 }
 

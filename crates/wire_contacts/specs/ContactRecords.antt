@@ -6,7 +6,6 @@ use Prim.Native.Nat.{ℕ, _+_, _*_}
 use mathlib.Core.Bool.{Bool, cond, _&&_}
 use mathlib.Core.List.{List, [], _∷_}
 use lib.Dec.{eqb, ltb}
-use lib.ListN.{getD}
 use Rattle.floats.specs.declared.b2_math.B2Transform.{B2Transform}
 use Rattle.shape_definitions.specs.declared.b2_circle_shape.B2circleShape.{B2circleShape}
 use Rattle.contact_definitions.specs.declared.b2_collision.B2contactId.{B2contactId}
@@ -21,20 +20,21 @@ use Rattle.contact_definitions.specs.declared.b2_collision.B2pointState.the-var
 use Rattle.contact_definitions.specs.declared.b2_collision.B2pointState.the-variants.{B2PersistState, B2RemoveState}
 use Rattle.contact_definitions.specs.declared.b2_collision.PointStates.{PointStates}
 use Rattle.contact_definitions.specs.Manifold.{contact-id}
+use Rattle.lines.specs.Fields.{byte-at, placement-at}
 use Rattle.wire_records.specs.Words.{word-at}
-use Rattle.wire_records.specs.Records.{float-at, vector-at, rotation-at}
+use Rattle.wire_records.specs.Records.{float-at, vector-at}
 
 -- ---- circles and placements
 unfoldable pub circle-at : List ℕ → ℕ → B2circleShape
 circle-at request i = record { «m_radius» = float-at request i; «m_p» = vector-at request (i + 1) }
 
-unfoldable pub transform-at : List ℕ → ℕ → B2Transform
-transform-at request i = record { p = vector-at request i; q = rotation-at request (i + 2) }
+abbrev pub transform-at : List ℕ → ℕ → B2Transform
+transform-at request i = placement-at request (4 * i)
 
 -- ---- ids: index A, index B, type A, type B, a byte each
 unfoldable pub id-at : List ℕ → ℕ → B2contactId
 id-at request i =
-    contact-id (getD request (4 * i) 0) (getD request (4 * i + 1) 0) (getD request (4 * i + 2) 0) (getD request (4 * i + 3) 0)
+    contact-id (byte-at request (4 * i)) (byte-at request (4 * i + 1)) (byte-at request (4 * i + 2)) (byte-at request (4 * i + 3))
 
 -- ---- manifolds
 unfoldable pub manifold-point-at : List ℕ → ℕ → B2manifoldPoint

@@ -13,6 +13,7 @@ use contact_definitions::b2_collision::ManifoldAnswer;
 use contact_definitions::b2_collision::PointStatesAnswer;
 use contact_definitions::b2_collision::WorldAnswer;
 use floats::bits;
+use lines::fields;
 use wire_records::records;
 use wire_records::words;
 
@@ -20,10 +21,10 @@ fn id_word(id: B2contactId) -> u32
     ensures { λ r. ⌜ r ≡ id-word id ⌝ }
 {
     let cf = id.cf;
-    let index_a = words::wide(cf.index_a);
-    let index_b = words::wide(cf.index_b);
-    let type_a = words::wide(cf.type_a);
-    let type_b = words::wide(cf.type_b);
+    let index_a = fields::wide(cf.index_a);
+    let index_b = fields::wide(cf.index_b);
+    let type_a = fields::wide(cf.type_a);
+    let type_b = fields::wide(cf.type_b);
     index_a * 16777216 + index_b * 65536 + type_a * 256 + type_b
 }
 
@@ -52,7 +53,7 @@ pub fn put_manifold(out: &mut [u8], answer: ManifoldAnswer) -> u32
     let id0 = first.id;
     let id1 = second.id;
     let whole = [
-        words::wide(refusal),
+        fields::wide(refusal),
         kind_word(kind),
         records::low_word(count),
         bits::f32_to_bits(n.x),
@@ -84,7 +85,7 @@ pub fn put_clip(out: &mut [u8], answer: ClipAnswer) -> u32
     let id0 = first.id;
     let id1 = second.id;
     let whole = [
-        words::wide(refusal),
+        fields::wide(refusal),
         records::low_word(count),
         bits::f32_to_bits(first.v.x),
         bits::f32_to_bits(first.v.y),
@@ -108,7 +109,7 @@ pub fn put_world(out: &mut [u8], answer: WorldAnswer) -> u32
     let s0 = w.separations[0];
     let s1 = w.separations[1];
     let whole = [
-        words::wide(refusal),
+        fields::wide(refusal),
         bits::f32_to_bits(n.x),
         bits::f32_to_bits(n.y),
         bits::f32_to_bits(p0.x),
@@ -143,7 +144,7 @@ pub fn put_states(out: &mut [u8], answer: PointStatesAnswer) -> u32
     let new0 = states.new0;
     let new1 = states.new1;
     let whole = [
-        words::wide(refusal),
+        fields::wide(refusal),
         state_word(old0),
         state_word(old1),
         state_word(new0),

@@ -16,6 +16,7 @@ use contact_definitions::b2_collision::B2pointState;
 use contact_definitions::b2_collision::B2worldManifold;
 use contact_definitions::b2_collision::PointStates;
 use floats::b2_math::B2Transform;
+use lines::fields;
 use shape_definitions::b2_circle_shape::B2circleShape;
 use wire_records::records;
 use wire_records::words;
@@ -33,9 +34,7 @@ pub fn transform(input: &[u8], i: usize) -> B2Transform
     requires { ⌜ 4 * i + 16 ≤ length (now input) ⌝ }
     ensures { λ r. ⌜ r ≡ transform-at (now (input .entry)) i ⌝ }
 {
-    let p = records::vector(input, i);
-    let q = records::rotation(input, i + 2);
-    B2Transform { p, q }
+    fields::placement(input, 4 * i)
 }
 
 // The four bytes of a word.

@@ -1,18 +1,19 @@
--- Writing words: the words written so far grow by one; all of them, or none. Assumes nothing.
+-- Writing words: the words written so far grow by one. Assumes nothing.
 use Prim.Native.Nat.{ℕ, _+_, _-_, _*_, _≤_, _<_}
 use mathlib.Core.Path.{_≡_, refl, sym, _∙_, ap, subst}
 use mathlib.Core.List.{List, [], _∷_, _++_}
 use native.Mathlib.Omega.{arith}
 use native.Mathlib.Numerals.{add-one}
-use lib.ListN.{length, take, getD}
+use lib.ListN.{length, take, drop, set, getD}
 use lib.Seq.{take-suc, take-length, length-take-le}
 use borrow.Author.Tests.{le-leb, lt-leb}
 use borrow.Rule.Slice.PartMut.{putMid, midOf}
 use Rattle.algebra.specs.Buffer.{over}
 use Rattle.algebra.proofs.Buffer.{over-next}
-use Rattle.wire_records.specs.Words.{bytes-of-word, bytes-of, written, written-count, Written}
+use Rattle.lines.specs.Fields.{number-bytes}
+use Rattle.wire_records.specs.Words.{bytes-of, written, written-count, Written}
 
-pub bytes-append : (ws : List ℕ) (w : ℕ) → bytes-of (ws ++ (w ∷ [])) ≡ bytes-of ws ++ bytes-of-word w
+pub bytes-append : (ws : List ℕ) (w : ℕ) → bytes-of (ws ++ (w ∷ [])) ≡ bytes-of ws ++ number-bytes w
 unfolding bytes-of
 bytes-append [] w = refl
 bytes-append (x ∷ ws) w = rw (bytes-append ws w)
@@ -23,8 +24,7 @@ length-bytes [] = refl
 length-bytes (w ∷ ws) = omega (arith, length-bytes ws)
 
 -- the bytes of the first i words, and of one more
-pub bytes-next : (ws : List ℕ) (i : ℕ) → i < length ws
-    → bytes-of (take (i + 1) ws) ≡ bytes-of (take i ws) ++ bytes-of-word (getD ws i 0)
+pub bytes-next : (ws : List ℕ) (i : ℕ) → i < length ws → bytes-of (take (i + 1) ws) ≡ bytes-of (take i ws) ++ number-bytes (getD ws i 0)
 bytes-next ws i h =
     ap (λ (n : ℕ). bytes-of (take n ws)) (add-one i)
     ∙ ap bytes-of (take-suc ws i 0 h)
@@ -32,13 +32,12 @@ bytes-next ws i h =
 
 -- one more word is written behind the first i
 pub word-written : (ws old buffer part : List ℕ) (i : ℕ) → i < length ws → buffer ≡ over (bytes-of (take i ws)) old
-    → part ≡ over (bytes-of-word (getD ws i 0)) (midOf (4 * i) (length buffer - 4 * i) buffer)
+    → part ≡ over (number-bytes (getD ws i 0)) (midOf (4 * i) (length buffer - 4 * i) buffer)
     → putMid (4 * i) (length buffer - 4 * i) buffer part ≡ over (bytes-of (take (i + 1) ws)) old
 word-written ws old buffer part i within before-written part-written =
     let so-far : length (bytes-of (take i ws)) ≡ 4 * i =
     length-bytes (take i ws) ∙ ap (λ (n : ℕ). 4 * n) (length-take-le i ws (omega arith)) in
-    over-next (bytes-of (take i ws)) (bytes-of-word (getD ws i 0)) old buffer part
-    (4 * i) so-far before-written part-written
+    over-next (bytes-of (take i ws)) (number-bytes (getD ws i 0)) old buffer part (4 * i) so-far before-written part-written
     ∙ ap (λ (bytes : List ℕ). over bytes old) (sym (bytes-next ws i within))
 
 -- room for all the words, and too little room
@@ -63,6 +62,5 @@ nothing-written ws out none =
     (record { count = simp (le-leb (4 * 0) (length out) room); left = simp (le-leb (4 * 0) (length out) room) })
 
 -- the words written are those of the definition
-pub written-as : (ws answer out : List ℕ) (r : ℕ) (after : List ℕ) → ws ≡ answer → Written ws out r after
-    → Written answer out r after
+pub written-as : (ws answer out : List ℕ) (r : ℕ) (after : List ℕ) → ws ≡ answer → Written ws out r after → Written answer out r after
 written-as ws answer out r after same h = subst (λ (l : List ℕ). Written l out r after) same h

@@ -1,54 +1,41 @@
--- Rows of points, read and written one after the other: one more point behind the first k. Assumes nothing.
+-- Rows of points, written one after the other: one more point behind the first k. Assumes nothing.
 use Prim.Native.Nat.{ℕ, suc, _+_, _*_, _<_}
-use mathlib.Core.Path.{_≡_, sym, _∙_, ap}
-use mathlib.Core.List.{List, [], _∷_, _++_, map, map-append, append-assoc}
+use mathlib.Core.Path.{_≡_, refl, sym, _∙_, ap}
+use mathlib.Core.List.{List, [], _∷_, _++_, append-assoc}
 use native.Mathlib.Omega.{arith}
 use native.Mathlib.Numerals.{add-one}
 use lib.ListN.{length, take, set, getD, length-set}
-use lib.Seq.{take-suc, take-suc-set}
+use lib.Seq.{take-all, take-suc, take-suc-set}
 use Rattle.floats.specs.declared.b2_math.B2vec2.{B2vec2}
-use Rattle.floats.specs.Coordinates.{coordinates-of}
-use Rattle.floats.proofs.Coordinates.{read-next, length-points-from, coordinates-append}
 use Rattle.shape_definitions.specs.declared.b2_polygon_shape.B2polygonShape.{B2polygonShape}
-use Rattle.wire_records.specs.Records.{float-at, bits, low-word, vector-at, points-at, points-words, polygon-words}
-use Rattle.algebra.proofs.Lists.{whole-row}
+use Rattle.wire_records.specs.Records.{bits, low-word, points-words, polygon-words}
 
--- ---- reading
-pub point-read : (request : List ℕ) (i k : ℕ) (ps : List B2vec2) (v : B2vec2) → k < length ps
-    → v ≡ vector-at request (i + 2 * k)
-    → take k ps ≡ points-at request i k → take (k + 1) (set ps k v) ≡ points-at request i (k + 1)
-unfolding points-at vector-at
-point-read request i k ps v within v-is so-far = read-next (float-at request) i k ps v within v-is so-far
-
-pub length-points : (request : List ℕ) (i n : ℕ) → length (points-at request i n) ≡ n
-unfolding points-at
-length-points request i n = length-points-from (float-at request) i n
+-- all of an array, by its first places
+pub whole-row : {A : Type 0} (n : ℕ) (l m : List A) → take n l ≡ m → length l ≡ n → l ≡ m
+whole-row n l m first size = sym (take-all n l (omega arith)) ∙ first
 
 -- ---- writing
-words-next : (ps : List B2vec2) (p : B2vec2)
-    → points-words (ps ++ (p ∷ [])) ≡ points-words ps ++ (bits (p .x) ∷ bits (p .y) ∷ [])
+words-next : (ps : List B2vec2) (p : B2vec2) → points-words (ps ++ (p ∷ [])) ≡ points-words ps ++ (bits (p .x) ∷ bits (p .y) ∷ [])
 unfolding points-words
-words-next ps p = ap (map bits) (coordinates-append ps p) ∙ map-append bits (coordinates-of ps) (p .x ∷ p .y ∷ [])
+words-next [] p = refl
+words-next (q ∷ ps) p = rw (words-next ps p)
 
-stored-two : (l : List ℕ) (at a b : ℕ) → at + 1 < length l → take (suc (suc at)) (set (set l at a) (suc at) b)
-    ≡ take at l ++ (a ∷ b ∷ [])
-stored-two l at a b within =
+two-stores : (l : List ℕ) (at a b : ℕ) → at + 1 < length l → take (suc (suc at)) (set (set l at a) (suc at) b) ≡ take at l ++ (a ∷ b ∷ [])
+two-stores l at a b within =
     take-suc-set (set l at a) (suc at) b (simp length-set (omega arith))
     ∙ ap (λ (x : List ℕ). x ++ (b ∷ [])) (take-suc-set l at a (omega arith))
     ∙ append-assoc (take at l) (a ∷ []) (b ∷ [])
 
-pub point-written : (i k : ℕ) (ps : List B2vec2) (d : B2vec2) (old all : List ℕ) (a b : ℕ) → k < length ps
-    → i + 2 * k + 1 < length all
+pub point-written : (i k : ℕ) (ps : List B2vec2) (d : B2vec2) (old all : List ℕ) (a b : ℕ) → k < length ps → i + 2 * k + 1 < length all
     → a ≡ bits (getD ps k d .x) → b ≡ bits (getD ps k d .y)
     → take (i + 2 * k) all ≡ take i old ++ points-words (take k ps)
-    → take (i + 2 * (k + 1)) (set (set all (i + 2 * k) a) (i + 2 * k + 1) b) ≡ take i old ++ points-words
-    (take (k + 1) ps)
+    → take (i + 2 * (k + 1)) (set (set all (i + 2 * k) a) (i + 2 * k + 1) b) ≡ take i old ++ points-words (take (k + 1) ps)
 point-written i k ps d old all a b within room a-is b-is so-far =
     let p = getD ps k d in
     let at : i + 2 * (k + 1) ≡ suc (suc (i + 2 * k)) = omega arith in
     ap (λ (n : ℕ). take n (set (set all (i + 2 * k) a) (i + 2 * k + 1) b)) at
     ∙ ap (λ (n : ℕ). take (suc (suc (i + 2 * k))) (set (set all (i + 2 * k) a) n b)) (add-one (i + 2 * k))
-    ∙ stored-two all (i + 2 * k) a b room
+    ∙ two-stores all (i + 2 * k) a b room
     ∙ rw (so-far, a-is, b-is) (append-assoc (take i old) (points-words (take k ps)) (bits (p .x) ∷ bits (p .y) ∷ []))
     ∙ ap (λ (l : List ℕ). take i old ++ l) (sym (words-next (take k ps) p))
     ∙ ap (λ (l : List B2vec2). take i old ++ points-words l) (sym (take-suc ps k d within))
@@ -61,6 +48,5 @@ pub outline-written : (refusal : ℕ) (s : B2polygonShape) (half whole : List �
     → half ≡ (first ∷ radius ∷ x ∷ y ∷ count ∷ []) ++ points-words (s .«m_vertices»)
     → take 37 whole ≡ half ++ points-words (s .«m_normals») → length whole ≡ 37 → whole ≡ refusal ∷ polygon-words s
 unfolding polygon-words
-outline-written refusal s half whole first radius x y count first-is radius-is x-is y-is count-is half-is whole-is
-    size =
+outline-written refusal s half whole first radius x y count first-is radius-is x-is y-is count-is half-is whole-is size =
     whole-row 37 whole _ whole-is size ∙ simp (half-is, first-is, radius-is, x-is, y-is, count-is)

@@ -1,33 +1,29 @@
--- The records of requests and answers as words: floats are their bits, a point is x then y. POLY is radius, centroid,
--- count, eight vertices and eight normals (36 words); EDGE is radius, flag and four vertices (10 words). Decoded at
--- place i, and encoded. Definitions only.
-use Prim.Native.Nat.{ℕ, _+_, _%_, _^_}
+-- The records of requests and answers as words: floats are their bits, a point is x then y. POLY is radius, centroid, count, eight vertices
+-- and eight normals (36 words); EDGE is radius, flag and four vertices (10 words). Decoded at place i, and encoded. Definitions only.
+use Prim.Native.Nat.{ℕ, _+_, _*_, _%_}
 use mathlib.Core.Bool.{Bool, cond}
-use mathlib.Core.List.{List, [], _∷_, _++_, map}
+use mathlib.Core.List.{List, [], _∷_, _++_}
 use lib.Dec.{eqb}
-use lib.Ieee.{Float, binary32, ofBits, toBits}
+use lib.Ieee.{Float, binary32, toBits}
 use Rattle.floats.specs.declared.b2_math.B2vec2.{B2vec2}
 use Rattle.floats.specs.declared.b2_math.B2Rot.{B2Rot}
-use Rattle.floats.specs.B2Math.{vec2}
-use Rattle.floats.specs.Coordinates.{points-from, coordinates-of}
 use Rattle.shape_definitions.specs.declared.b2_polygon_shape.B2polygonShape.{B2polygonShape}
 use Rattle.shape_definitions.specs.declared.b2_edge_shape.B2edgeShape.{B2edgeShape}
+use Rattle.lines.specs.Fields as Fields
 use Rattle.wire_records.specs.Words.{word-at}
 
 -- ---- decoding
 abbrev pub float-at : List ℕ → ℕ → Float
-float-at request i = ofBits binary32 (word-at request i)
+float-at request i = Fields.float-at request (4 * i)
 
-unfoldable pub vector-at : List ℕ → ℕ → B2vec2
-vector-at request i = vec2 (float-at request i) (float-at request (i + 1))
+abbrev pub vector-at : List ℕ → ℕ → B2vec2
+vector-at request i = Fields.vector-at request (4 * i)
 
--- n points, one behind the other
-unfoldable pub points-at : List ℕ → ℕ → ℕ → List B2vec2
-points-at request i n = points-from (float-at request) i n
+abbrev pub points-at : List ℕ → ℕ → ℕ → List B2vec2
+points-at request i n = Fields.points-at request (4 * i) n
 
--- the sine, then the cosine
-unfoldable pub rotation-at : List ℕ → ℕ → B2Rot
-rotation-at request i = record { s = float-at request i; c = float-at request (i + 1) }
+abbrev pub rotation-at : List ℕ → ℕ → B2Rot
+rotation-at request i = Fields.rotation-at request (4 * i)
 
 unfoldable pub polygon-at : List ℕ → ℕ → B2polygonShape
 polygon-at request i = record {
@@ -57,10 +53,11 @@ flag b = cond b 1 0
 
 -- the low word of a count: all of it, where it came from a word
 abbrev pub low-word : ℕ → ℕ
-low-word n = n % 2 ^ 32
+low-word n = n % 4294967296
 
 unfoldable pub points-words : List B2vec2 → List ℕ
-points-words ps = map bits (coordinates-of ps)
+points-words [] = []
+points-words (p ∷ ps) = bits (p .x) ∷ bits (p .y) ∷ points-words ps
 
 unfoldable pub polygon-words : B2polygonShape → List ℕ
 polygon-words s =

@@ -1,23 +1,20 @@
 -- Requests and answers as words of four bytes, highest first. Definitions only.
-use Prim.Native.Nat.{ℕ, _+_, _*_, _/_, _%_, _^_}
+use Prim.Native.Nat.{ℕ, _*_}
 use mathlib.Core.Path.{_≡_}
 use mathlib.Core.Bool.{cond}
-use mathlib.Core.List.{List, [], _∷_}
+use mathlib.Core.List.{List, [], _∷_, _++_}
 use lib.Dec.{leb}
-use lib.ListN.{length, getD}
+use lib.ListN.{length}
 use Rattle.algebra.specs.Buffer.{over}
+use Rattle.lines.specs.Fields.{number-at, number-bytes}
 
 -- the word at place i
 abbrev pub word-at : List ℕ → ℕ → ℕ
-word-at bytes i =
-    getD bytes (4 * i) 0 * 2 ^ 24 + getD bytes (4 * i + 1) 0 * 2 ^ 16 + getD bytes (4 * i + 2) 0 * 2 ^ 8 + getD bytes (4 * i + 3) 0
-
-abbrev pub bytes-of-word : ℕ → List ℕ
-bytes-of-word w = w / 2 ^ 24 ∷ w / 2 ^ 16 % 2 ^ 8 ∷ w / 2 ^ 8 % 2 ^ 8 ∷ w % 2 ^ 8 ∷ []
+word-at bytes i = number-at bytes (4 * i)
 
 unfoldable pub bytes-of : List ℕ → List ℕ
 bytes-of [] = []
-bytes-of (w ∷ ws) = w / 2 ^ 24 ∷ w / 2 ^ 16 % 2 ^ 8 ∷ w / 2 ^ 8 % 2 ^ 8 ∷ w % 2 ^ 8 ∷ bytes-of ws
+bytes-of (w ∷ ws) = number-bytes w ++ bytes-of ws
 
 -- Words written to the front of an output with room for all of them; else nothing is written. And how many were.
 unfoldable pub written : List ℕ → List ℕ → List ℕ

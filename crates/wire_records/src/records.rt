@@ -10,6 +10,7 @@ use crate::words;
 use floats::b2_math::B2Rot;
 use floats::b2_math::B2vec2;
 use floats::bits;
+use lines::fields;
 use shape_definitions::b2_edge_shape::B2edgeShape;
 use shape_definitions::b2_edge_shape::EdgeAnswer;
 use shape_definitions::b2_polygon_shape::B2polygonShape;
@@ -19,16 +20,14 @@ pub fn float(input: &[u8], i: usize) -> f32
     requires { ⌜ 4 * i + 4 ≤ length (now input) ⌝ }
     ensures { λ r. ⌜ r ≡ float-at (now (input .entry)) i ⌝ }
 {
-    bits::f32_from_bits(words::word(input, i))
+    fields::float(input, 4 * i)
 }
 
 pub fn vector(input: &[u8], i: usize) -> B2vec2
     requires { ⌜ 4 * i + 8 ≤ length (now input) ⌝ }
     ensures { λ r. ⌜ r ≡ vector-at (now (input .entry)) i ⌝ }
 {
-    let x = float(input, i);
-    let y = float(input, i + 1);
-    B2vec2 { x, y }
+    fields::vector(input, 4 * i)
 }
 
 // n points, in the first places.
@@ -36,22 +35,14 @@ pub fn points(input: &[u8], i: usize, n: usize) -> [B2vec2; 8]
     requires { ⌜ (4 * i + 8 * n ≤ length (now input)) × (n ≤ 8) ⌝ }
     ensures { λ r. ⌜ (take n r ≡ points-at (now (input .entry)) i n) × (length r ≡ 8) ⌝ }
 {
-    let mut ps = [B2vec2 { x: 0.0, y: 0.0 }; 8];
-    let mut k = 0usize;
-    while k < n {
-        ps[k] = vector(input, i + 2 * k);
-        k += 1;
-    }
-    ps
+    fields::points(input, 4 * i, n)
 }
 
 pub fn rotation(input: &[u8], i: usize) -> B2Rot
     requires { ⌜ 4 * i + 8 ≤ length (now input) ⌝ }
     ensures { λ r. ⌜ r ≡ rotation-at (now (input .entry)) i ⌝ }
 {
-    let s = float(input, i);
-    let c = float(input, i + 1);
-    B2Rot { s, c }
+    fields::rotation(input, 4 * i)
 }
 
 pub fn polygon(input: &[u8], i: usize) -> B2polygonShape
@@ -126,7 +117,7 @@ pub fn put_polygon(out: &mut [u8], answer: PolygonAnswer) -> u32
 {
     let s = answer.shape;
     let mut head = [0u32; 37];
-    head[0] = words::wide(answer.refusal);
+    head[0] = fields::wide(answer.refusal);
     head[1] = bits::f32_to_bits(s.m_radius);
     head[2] = bits::f32_to_bits(s.m_centroid.x);
     head[3] = bits::f32_to_bits(s.m_centroid.y);
@@ -144,7 +135,7 @@ pub fn put_edge(out: &mut [u8], answer: EdgeAnswer) -> u32
 {
     let s = answer.shape;
     let whole = [
-        words::wide(answer.refusal),
+        fields::wide(answer.refusal),
         bits::f32_to_bits(s.m_radius),
         flag(s.m_one_sided),
         bits::f32_to_bits(s.m_vertex0.x),

@@ -32,23 +32,23 @@ loop-holds c = (omega arith, refl, omega arith, refl, refl)
 mul-at : tie.Need-mul-at Inv-loop μ-loop
 mul-at c = search needs
 
-sub-put-word : tie.Need-sub-put-word Inv-loop μ-loop
-sub-put-word c = search needs
+sub-put-number : tie.Need-sub-put-number Inv-loop μ-loop
+sub-put-number c = search needs
 
-part-put-word-start : tie.Need-part-put-word-start Inv-loop μ-loop
-part-put-word-start c = search needs
+part-put-number-start : tie.Need-part-put-number-start Inv-loop μ-loop
+part-put-number-start c = search needs
 
-part-put-word-end : tie.Need-part-put-word-end Inv-loop μ-loop
-part-put-word-end c = search needs
+part-put-number-end : tie.Need-part-put-number-end Inv-loop μ-loop
+part-put-number-end c = search needs
 
-mul-put-word : tie.Need-mul-put-word Inv-loop μ-loop
-mul-put-word c = search needs
+mul-put-number : tie.Need-mul-put-number Inv-loop μ-loop
+mul-put-number c = search needs
 
-shared-slice-read-put-word : tie.Need-shared-slice-read-put-word Inv-loop μ-loop
-shared-slice-read-put-word c = search needs
+shared-slice-read-put-number : tie.Need-shared-slice-read-put-number Inv-loop μ-loop
+shared-slice-read-put-number c = search needs
 
-put-word-requires : tie.Need-put-word-requires Inv-loop μ-loop
-put-word-requires c κs = search needs
+put-number-requires : tie.Need-put-number-requires Inv-loop μ-loop
+put-number-requires c κs = search needs
 
 add-i : tie.Need-add-i Inv-loop μ-loop
 add-i c = search needs
@@ -63,7 +63,7 @@ loop-again c =
     let words = start .args .words .now in
     let i = at-loop .loop .i in
     let out = start .args .out .now in
-    let put = c .before .before .put-word in
+    let put = c .before .before .put-number in
     let next = word-written words out (at-loop .loop .out) (put .last .0) i (omega arith) (at-loop .loop .inv .4) (put .ensures) in
     let room : length (bytes-of (take (i + 1) words)) ≤ length out =
     omega (arith, length-bytes (take (i + 1) words), length-take-le (i + 1) words (omega arith)) in
@@ -91,12 +91,12 @@ put-words-spec =
     returns
     loop-holds
     mul-at
-    sub-put-word
-    part-put-word-start
-    part-put-word-end
-    mul-put-word
-    shared-slice-read-put-word
-    put-word-requires
+    sub-put-number
+    part-put-number-start
+    part-put-number-end
+    mul-put-number
+    shared-slice-read-put-number
+    put-number-requires
     add-i
     loop-less
     loop-again

@@ -1,4 +1,0 @@
-pub mod Front
-pub mod Flat
-pub mod Outline
-pub mod Convex
