@@ -89,7 +89,7 @@ pub fn flag(b: bool) -> u32
     if b { 1 } else { 0 }
 }
 
-fn low_word(n: usize) -> u32
+pub fn low_word(n: usize) -> u32
     ensures { λ r. ⌜ r ≡ low-word n ⌝ }
 {
     (n % 4294967296) as u32

@@ -1,0 +1,2 @@
+pub mod ContactRecords
+pub mod ContactAnswers
