@@ -1,9 +1,9 @@
 -- The places and corners are gathered. Assumes nothing.
 use native.Mathlib.Omega.{arith}
-use Rattle.outline_pairs.proofs.Gathered.{face-is}
+use Rattle.outline_faces.proofs.Gathered.{face-is}
 use borrow.Author.Needs.{needs}
-use Rattle.outline_pairs.proofs.faces.face_of.Statement.{statement}
-use Rattle.outline_pairs.proofs.faces.face_of.Tie as tie
+use Rattle.outline_faces.proofs.faces.face_of.Statement.{statement}
+use Rattle.outline_faces.proofs.faces.face_of.Tie as tie
 
 b2-mul-rot-by-vec2-requires : tie.Need-b2-mul-rot-by-vec2-requires
 b2-mul-rot-by-vec2-requires c κs = search needs

@@ -1,8 +1,8 @@
 -- Each field in its turn. Assumes nothing.
 use Rattle.contact_definitions.specs.B2CollidePolygon.{face-along}
 use borrow.Author.Needs.{needs}
-use Rattle.outline_pairs.proofs.faces.placed_face.Statement.{statement}
-use Rattle.outline_pairs.proofs.faces.placed_face.Tie as tie
+use Rattle.outline_faces.proofs.faces.placed_face.Statement.{statement}
+use Rattle.outline_faces.proofs.faces.placed_face.Tie as tie
 
 b2-mul-transform-by-vec2-requires : tie.Need-b2-mul-transform-by-vec2-requires
 b2-mul-transform-by-vec2-requires c κs = search needs

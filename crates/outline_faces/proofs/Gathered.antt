@@ -1,6 +1,6 @@
 -- The reference face and the incident edge, from what the code reads. Assumes nothing.
 use mathlib.Core.Path.{_≡_, refl, ap, _∙_}
-use mathlib.Core.Bool.{Bool, cond}
+use mathlib.Core.Bool.{Bool}
 use mathlib.Core.List.{List}
 use Prim.Native.Nat.{ℕ, _<_}
 use lib.ListN.{length, getD}
@@ -8,28 +8,13 @@ use lib.Ieee.{Float, binary32, add, mul}
 use Rattle.floats.specs.declared.b2_math.B2vec2.{B2vec2}
 use Rattle.floats.specs.declared.b2_math.B2Transform.{B2Transform}
 use Rattle.floats.specs.B2Math.{b2-dot, b2-mul-rot-by-vec2, b2-mul-t-rot-by-vec2}
-use Rattle.shape_definitions.specs.declared.b2_polygon_shape.B2polygonShape.{B2polygonShape}
 use Rattle.shape_definitions.specs.Outline.{origin, point-at, place-after}
 use Rattle.contact_definitions.specs.declared.axis.Best.{Best}
-use Rattle.contact_definitions.specs.declared.b2_collision.B2manifold.{B2manifold}
-use Rattle.contact_definitions.specs.declared.b2_collision.B2manifoldType.the-variants.{EFaceA, EFaceB}
-use Rattle.contact_definitions.specs.Manifold.{with-count, with-kind}
 use Rattle.contact_definitions.specs.Searches.{first-least}
-use Rattle.contact_definitions.specs.B2CollidePolygon.{
-  incident-place,
-  incident-end,
-  b2-find-incident-edge,
-  local-tangent,
-  face-middle,
-  outline-face,
-  outline-manifold,
-}
 use Rattle.axis_search.proofs.Places.{getD-within}
-use Rattle.outline_pairs.specs.declared.faces.Corner.{Corner}
-use Rattle.outline_pairs.specs.declared.faces.Face.{Face}
-use Rattle.outline_pairs.specs.Faces.{corner-of, face-of}
-use Rattle.outline_pairs.specs.Kept.{named-by}
-use Rattle.outline_pairs.specs.OnFace.{manifold-on-face}
+use Rattle.outline_faces.specs.declared.faces.Corner.{Corner}
+use Rattle.outline_faces.specs.declared.faces.Face.{Face}
+use Rattle.outline_faces.specs.Faces.{corner-of, face-of}
 
 -- ---- the search for the incident edge
 pub dot-is : (n : B2vec2) (ns : List B2vec2) (i : ℕ) (d : B2vec2) → i < length ns
@@ -80,20 +65,3 @@ module _ (v1s : List B2vec2) (edge : ℕ) (normal : B2vec2) (count1 : ℕ) (xf1 
         n-is,
         turned-is,
       ) refl
-
--- ---- the manifold on it is the definition's
-pub on-face : (m : B2manifold) (total : Float) (flip : Bool) (poly1 : B2polygonShape) (xf1 : B2Transform)
-    (poly2 : B2polygonShape) (xf2 : B2Transform) (edge : ℕ) (normal : B2vec2) (f : Face) (r : B2manifold)
-    → normal ≡ point-at (poly1 .«m_normals») edge
-    → f ≡ face-of (poly1 .«m_vertices») edge normal (poly1 .«m_count») xf1 (poly2 .«m_vertices») (poly2 .«m_normals»)
-    (poly2 .«m_count») xf2 flip
-    → r ≡ manifold-on-face m f total
-    → r ≡ outline-manifold (with-kind (with-count m 0) (cond flip EFaceB EFaceA)) (named-by flip) total poly1 xf1 edge
-    poly2 xf2
-unfolding manifold-on-face face-of outline-manifold outline-face local-tangent face-middle b2-find-incident-edge
-    incident-end incident-place
-on-face m total flip poly1 xf1 poly2 xf2 edge normal f r normal-is f-is r-is =
-    r-is ∙ ap (λ (g : Face). manifold-on-face m g total) f-is
-    ∙ ap (λ (n : B2vec2). manifold-on-face m
-    (face-of (poly1 .«m_vertices») edge n (poly1 .«m_count») xf1 (poly2 .«m_vertices») (poly2 .«m_normals»)
-    (poly2 .«m_count») xf2 flip) total) normal-is

@@ -5,7 +5,7 @@ ghost use Rattle.floats.specs.B2Math.{b2-dot};
 ghost use Rattle.shape_definitions.specs.Outline.{point-at, place-after};
 ghost use Rattle.contact_definitions.specs.Searches.{first-least};
 ghost use Rattle.contact_definitions.specs.B2CollidePolygon.{within-skins};
-ghost use Rattle.outline_pairs.specs.Faces.{corner-of, face-of, face-vertex, incident-ends, placed-along};
+ghost use Rattle.outline_faces.specs.Faces.{corner-of, face-of, face-vertex, incident-ends, placed-along};
 use contact_definitions::b2_collide_edge::B2referenceFace;
 use contact_definitions::b2_collision::B2clipVertex;
 use contact_definitions::b2_collision::B2contactFeature;

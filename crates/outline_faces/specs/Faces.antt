@@ -13,8 +13,8 @@ use Rattle.contact_definitions.specs.declared.b2_collide_edge.B2referenceFace.{
 use Rattle.contact_definitions.specs.Manifold.{face-feature, vertex-feature, as-byte, contact-id}
 use Rattle.contact_definitions.specs.Searches.{first-least}
 use Rattle.contact_definitions.specs.B2CollidePolygon.{face-along}
-use Rattle.outline_pairs.specs.declared.faces.Corner.{Corner}
-use Rattle.outline_pairs.specs.declared.faces.Face.{Face}
+use Rattle.outline_faces.specs.declared.faces.Corner.{Corner}
+use Rattle.outline_faces.specs.declared.faces.Face.{Face}
 
 abbrev pub corner-of : List B2vec2 → ℕ → Corner
 corner-of vs i = record { index = i; v = point-at vs i }

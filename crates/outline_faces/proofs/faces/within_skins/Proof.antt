@@ -1,8 +1,8 @@
 -- The distance from the face, against both skins. Assumes nothing.
 use Rattle.contact_definitions.specs.B2CollidePolygon.{within-skins}
 use borrow.Author.Needs.{needs}
-use Rattle.outline_pairs.proofs.faces.within_skins.Statement.{statement}
-use Rattle.outline_pairs.proofs.faces.within_skins.Tie as tie
+use Rattle.outline_faces.proofs.faces.within_skins.Statement.{statement}
+use Rattle.outline_faces.proofs.faces.within_skins.Tie as tie
 
 b2-dot-requires : tie.Need-b2-dot-requires
 b2-dot-requires c κs = search needs

@@ -1,7 +1,7 @@
 -- Both corners, carried. Assumes nothing.
 use borrow.Author.Needs.{needs}
-use Rattle.outline_pairs.proofs.faces.incident_ends.Statement.{statement}
-use Rattle.outline_pairs.proofs.faces.incident_ends.Tie as tie
+use Rattle.outline_faces.proofs.faces.incident_ends.Statement.{statement}
+use Rattle.outline_faces.proofs.faces.incident_ends.Tie as tie
 
 b2-mul-transform-by-vec2-requires : tie.Need-b2-mul-transform-by-vec2-requires
 b2-mul-transform-by-vec2-requires c κs = search needs

@@ -12,10 +12,10 @@ use Rattle.shape_definitions.specs.Outline.{point-at}
 use Rattle.contact_definitions.specs.declared.axis.Best.{Best}
 use Rattle.contact_definitions.specs.Searches.{valued, is-less, first-least}
 use Rattle.contact_definitions.proofs.Searches.{scan-starts, replaced-by, kept-over, scanned-all}
-use Rattle.outline_pairs.proofs.Gathered.{dot-is, corner-is}
+use Rattle.outline_faces.proofs.Gathered.{dot-is, corner-is}
 use borrow.Author.Needs.{needs}
-use Rattle.outline_pairs.proofs.faces.b2_find_incident_edge.Statement.{statement}
-use Rattle.outline_pairs.proofs.faces.b2_find_incident_edge.Tie as tie
+use Rattle.outline_faces.proofs.faces.b2_find_incident_edge.Statement.{statement}
+use Rattle.outline_faces.proofs.faces.b2_find_incident_edge.Tie as tie
 
 abbrev Inv-loop : tie.InvT-loop
 Inv-loop n count ns vs index₀ min-dot₀ i₀ index min-dot i =

@@ -5,8 +5,8 @@ use Prim.Native.Nat.{_+_}
 use native.Mathlib.Omega.{arith}
 use borrow.Author.Tests.{lt-ltb, le-ltb}
 use borrow.Author.Needs.{needs}
-use Rattle.outline_pairs.proofs.faces.next_index.Statement.{statement}
-use Rattle.outline_pairs.proofs.faces.next_index.Tie as tie
+use Rattle.outline_faces.proofs.faces.next_index.Statement.{statement}
+use Rattle.outline_faces.proofs.faces.next_index.Tie as tie
 
 add-next : tie.Need-add-next
 add-next c = search needs
