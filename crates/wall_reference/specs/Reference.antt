@@ -13,9 +13,11 @@ use Rattle.contact_definitions.specs.declared.b2_collision.B2manifold.{B2manifo
 use Rattle.contact_definitions.specs.declared.b2_collision.B2manifoldPoint.{B2manifoldPoint}
 use Rattle.contact_definitions.specs.declared.b2_collision.B2manifoldType.the-variants.{EFaceA, EFaceB}
 use Rattle.contact_definitions.specs.declared.b2_collision.B2clipVertex.{B2clipVertex}
-use Rattle.contact_definitions.specs.Manifold.{vertex-feature, face-feature, as-byte, contact-id, with-count, with-kind}
+use Rattle.contact_definitions.specs.Manifold.{vertex-feature, face-feature, as-byte, contact-id, with-count}
+use Rattle.contact_definitions.specs.Manifold.{with-kind}
 use Rattle.contact_definitions.specs.ReferenceFace.{clipped-to-sides, manifold-of-ends}
-use Rattle.contact_definitions.specs.EdgeReference.{face-between, within-radius, most-against, outline-end, placed-face}
+use Rattle.contact_definitions.specs.EdgeReference.{face-between, within-radius, most-against, outline-end}
+use Rattle.contact_definitions.specs.EdgeReference.{placed-face}
 use Rattle.contact_definitions.specs.EdgeReference.{point-in-frame, point-as-it-is}
 use Rattle.wall_reference.specs.declared.edge_reference.Reference.{Reference}
 

@@ -31,10 +31,12 @@ module _ {A : Type 0} (test : A → A → Bool) (f : ℕ → A) where
   pub scanned-next : (kept new answer : A) (j n : ℕ) → j < n → new ≡ cond (test kept (f j)) (f j) kept
       → scanned-from test f kept j n ≡ answer → scanned-from test f new (j + 1) n ≡ answer
   scanned-next kept new answer j n within new-is so-far =
-      ap (λ (a : A). scanned-from test f a (j + 1) n) new-is ∙ ap (λ l. scan test kept (map f l)) (sym (one-place j n within)) ∙ so-far
+      ap (λ (a : A). scanned-from test f a (j + 1) n) new-is
+      ∙ ap (λ l. scan test kept (map f l)) (sym (one-place j n within)) ∙ so-far
 
   pub scanned-ended : (kept answer : A) (j n : ℕ) → n ≤ j → scanned-from test f kept j n ≡ answer → kept ≡ answer
-  scanned-ended kept answer j n past so-far = ap (λ (k : ℕ). scan test kept (map f (places j k))) (sym none-left) ∙ so-far
+  scanned-ended kept answer j n past so-far =
+      ap (λ (k : ℕ). scan test kept (map f (places j k))) (sym none-left) ∙ so-far
     where
       none-left : n - j ≡ 0
       none-left = omega arith
@@ -45,7 +47,8 @@ unfolding least
 least-begun f n = scanned-begun below-value f b2-max-float n
 
 -- x is the value at place j
-pub least-next : (f : ℕ → Float) (kept new x answer : Float) (j n : ℕ) → j < n → x ≡ f j → new ≡ cond (lt x kept) x kept
+pub least-next : (f : ℕ → Float) (kept new x answer : Float) (j n : ℕ) → j < n → x ≡ f j
+    → new ≡ cond (lt x kept) x kept
     → scanned-from below-value f kept j n ≡ answer → scanned-from below-value f new (j + 1) n ≡ answer
 least-next f kept new x answer j n within x-is new-is =
     scanned-next below-value f kept new answer j n within (new-is ∙ ap (λ (y : Float). cond (lt y kept) y kept) x-is)

@@ -29,8 +29,9 @@ returns-2 c =
     let if1′ = c .before .before .if1 in
     let clip-ends′ = c .before .before .before .before .clip-ends in
     let args′ = c .before .before .before .before .before .args in
-    let START′ = c .before .before .before .before .before in
-    second-left (args′ .face) (args′ .ends) _ (clip-ends′ .ensures) _ (two-ends (START′)) (two-left (c .before .before .before .before)) (if1′ .left)
+    let start′ = c .before .before .before .before .before in
+    second-left (args′ .face) (args′ .ends) _ (clip-ends′ .ensures) _ (two-ends start′)
+    (two-left (c .before .before .before .before)) (if1′ .left)
     (c .clip-ends2 .ensures)
 
 pub clipped-to-sides-spec : {M : Type 1} → statement M

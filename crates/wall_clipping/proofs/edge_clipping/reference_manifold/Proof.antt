@@ -21,7 +21,8 @@ returns c =
     let if1′ = c .before .if1 in
     let clipped-to-sides′ = c .before .before .clipped-to-sides in
     let args′ = c .before .before .before .before .before .before .args in
-    given-up (args′ .f) (args′ .m) (args′ .xf) (args′ .radius) _ (clipped-to-sides′ .ensures) _ (if1′ .taken) (c .only-kind .ensures)
+    given-up (args′ .f) (args′ .m) (args′ .xf) (args′ .radius) _ (clipped-to-sides′ .ensures) _ (if1′ .taken)
+    (c .only-kind .ensures)
 
 element-copy-out-e0 : tie.Need-element-copy-out-e0
 element-copy-out-e0 c = search needs
@@ -47,10 +48,12 @@ returns-2 c =
     let kept-points′ = c .before .before .before .before .kept-points in
     let within-radius2′ = c .before .before .before .before .before .before .within-radius2 in
     let within-radius′ = c .before .before .before .before .before .before .before .within-radius in
-    let if1′ = c .before .before .before .before .before .before .before .before .before .before .if1 in
-    let clipped-to-sides′ = c .before .before .before .before .before .before .before .before .before .before .before .clipped-to-sides in
-    let args′ = c .before .before .before .before .before .before .before .before .before .before .before .before .before .before .before .args in
-    points-left (args′ .f) (args′ .m) (args′ .xf) (args′ .radius) _ (clipped-to-sides′ .ensures) _ _ _ _ _ (two-left (c .before .before .before .before .before .before .before .before .before .before .before)) (if1′ .left)
+    let earlier = c .before .before .before .before .before .before .before .before .before .before in
+    let if1′ = earlier .if1 in
+    let clipped-to-sides′ = earlier .before .clipped-to-sides in
+    let args′ = earlier .before .before .before .before .before .args in
+    points-left (args′ .f) (args′ .m) (args′ .xf) (args′ .radius) _ (clipped-to-sides′ .ensures) _ _ _ _ _
+    (two-left (earlier .before)) (if1′ .left)
     (within-radius′ .ensures) (within-radius2′ .ensures) (kept-points′ .ensures) (c .kind-of .ensures)
 
 pub reference-manifold-spec : {M : Type 1} → statement M

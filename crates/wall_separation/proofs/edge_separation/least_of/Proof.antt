@@ -15,13 +15,15 @@ abbrev Inv-loop : tie.InvT-loop
 Inv-loop f b count front₀ back₀ i₀ front back i =
     (i ≤ count) × (count ≤ 8) × (length f ≡ 8) × (length b ≡ 8)
     × ((ahead behind : ℕ → Float) → Row ahead count f → Row behind count b
-    → (scanned-from below-value ahead front i count ≡ least ahead count) × (scanned-from below-value behind back i count ≡ least behind count))
+    → (scanned-from below-value ahead front i count ≡ least ahead count)
+    × (scanned-from below-value behind back i count ≡ least behind count))
 
 abbrev μ-loop : tie.MeasureT-loop
 μ-loop f b count front₀ back₀ i₀ front back i = count - i
 
 loop-holds : tie.Need-loop-holds Inv-loop μ-loop
-loop-holds c = (omega arith, omega arith, c .pre .1, c .pre .2, λ ahead behind f b. (least-begun ahead _, least-begun behind _))
+loop-holds c =
+    (omega arith, omega arith, c .pre .1, c .pre .2, λ ahead behind f b. (least-begun ahead _, least-begun behind _))
 
 mul-lesser : tie.Need-mul-lesser Inv-loop μ-loop
 mul-lesser c = search needs
@@ -58,8 +60,10 @@ loop-again c =
       inv .2,
       inv .3,
       λ ahead behind f b. (
-        least-next ahead _ _ _ _ i _ (omega arith) (f .at i _ (omega arith)) (lesser′ .ensures) (inv .4 ahead behind f b .0),
-        least-next behind _ _ _ _ i _ (omega arith) (b .at i _ (omega arith)) (c .lesser2 .ensures) (inv .4 ahead behind f b .1),
+        least-next ahead _ _ _ _ i _ (omega arith) (f .at i _ (omega arith)) (lesser′ .ensures)
+            (inv .4 ahead behind f b .0),
+        least-next behind _ _ _ _ i _ (omega arith) (b .at i _ (omega arith)) (c .lesser2 .ensures)
+            (inv .4 ahead behind f b .1),
       ),
     )
 

@@ -64,7 +64,8 @@ loop-again c =
       omega arith,
       omega arith,
       inv .2,
-      points-next _ (omega arith) (inv .3) (c .b2-mul-transform-by-vec2 .ensures ∙ ap (b2-mul-transform-by-vec2 _) (at-place (args′ .t2) i _ (omega arith))),
+      points-next _ (omega arith) (inv .3) (c .b2-mul-transform-by-vec2 .ensures
+          ∙ ap (b2-mul-transform-by-vec2 _) (at-place (args′ .t2) i _ (omega arith))),
     )
 
 returns : tie.Need-returns Inv-loop μ-loop
