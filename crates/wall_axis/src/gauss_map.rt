@@ -1,8 +1,6 @@
 // The Gauss map of a one-sided wall, which keeps an outline from catching on the seam of two walls. Only the ghost
 // point on the normal's side is looked at, so one root is taken, not two.
 ghost use mathlib.Core.Path.{_≡_};
-ghost use Rattle.floats.specs.B2Math.{vec2};
-ghost use Rattle.contact_definitions.specs.Axis.{separation-of};
 ghost use Rattle.contact_definitions.specs.EdgeAxis.{region-by, region-before, region-after, gauss-region, in-region};
 ghost use Rattle.contact_definitions.specs.EdgeAxis.{smoothed};
 ghost use Rattle.wall_axis.specs.AxisNormal.{is-apart, axis-normal};

@@ -21,7 +21,7 @@ use Rattle.contact_definitions.specs.B2CollideCircle.{farther}
 use Rattle.contact_definitions.specs.B2CollideEdge.{circle-at-end, circle-at-wall, over-before, over-after}
 use Rattle.contact_definitions.specs.B2CollideEdge.{edge-circle-answer}
 use Rattle.wall_circle.specs.declared.edge_circle.Touch.{Touch}
-use Rattle.wall_circle.specs.declared.edge_circle.Touch.the-variants.{Nothing, End, Face, Flat}
+use Rattle.wall_circle.specs.declared.edge_circle.Touch.the-variants.{Nothing, End, Flat}
 use Rattle.wall_circle.specs.EdgeCircle.{end-touch, face-of, face-touch, touch-answer}
 
 -- a point is written over the first place whatever the count was

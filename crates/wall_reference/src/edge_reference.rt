@@ -1,7 +1,6 @@
 // Wall against outline, the reference face: that of the wall, with the outline's edge most against it, or a face of
 // the outline, with the wall. What is clipped is chosen first, so that the clipping has one caller.
 ghost use mathlib.Core.Path.{_≡_};
-ghost use mathlib.Core.List.{[], _∷_};
 ghost use Prim.Native.Nat.{ℕ, _<_, _≤_};
 ghost use lib.ListN.{length};
 ghost use Rattle.floats.specs.declared.b2_math.B2Transform.{B2Transform};

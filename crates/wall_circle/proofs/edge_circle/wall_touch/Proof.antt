@@ -1,5 +1,5 @@
 -- By the regions. Assumes nothing.
-use mathlib.Core.Path.{_≡_, refl, sym, _∙_, ap}
+use mathlib.Core.Path.{refl, sym, _∙_, ap}
 use Rattle.floats.specs.B2Math.{b2-dot}
 use Rattle.wall_circle.proofs.Regions.{touch-behind, touch-before, touch-end1, touch-after, touch-end2}
 use Rattle.wall_circle.proofs.Regions.{touch-middle}

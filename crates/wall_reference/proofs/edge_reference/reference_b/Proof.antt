@@ -1,5 +1,4 @@
 -- From the parts. Assumes nothing.
-use native.Mathlib.Omega.{arith}
 use Rattle.wall_reference.proofs.References.{face-reference-is}
 use borrow.Author.Needs.{needs}
 use Rattle.wall_reference.proofs.edge_reference.reference_b.Statement.{statement}

@@ -1,7 +1,7 @@
 -- What the scan keeps from here is what it keeps of all faces. Assumes nothing.
 use mathlib.Core.Path.{_≡_}
 use mathlib.Core.Logic.{⊎-elim}
-use Prim.Native.Nat.{ℕ, _≤_, _-_}
+use Prim.Native.Nat.{_≤_, _-_}
 use lib.ListN.{length}
 use native.Mathlib.Omega.{arith}
 use Rattle.floats.specs.declared.b2_math.B2vec2.{B2vec2}

@@ -1,7 +1,7 @@
 -- The places below i are filled. Assumes nothing.
 use mathlib.Core.Path.{_≡_, _∙_, ap}
 use Prim.Native.Nat.{_≤_, _-_}
-use lib.ListN.{length, length-set}
+use lib.ListN.{length}
 use native.Mathlib.Omega.{arith}
 use Rattle.floats.specs.B2Math.{b2-mul-transform-by-vec2}
 use Rattle.shape_definitions.specs.Outline.{point-at}

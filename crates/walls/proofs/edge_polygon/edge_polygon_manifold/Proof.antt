@@ -1,8 +1,6 @@
 -- Behind the wall, kept off by it, or by the axis found. Assumes nothing.
 use mathlib.Core.Path.{_≡_, refl, sym, _∙_, ap}
-use Prim.Native.Nat.{_≤_}
 use lib.Ieee.{lt}
-use native.Mathlib.Omega.{arith}
 use Rattle.floats.specs.B2Math.{b2-sub, b2-normalize}
 use Rattle.contact_definitions.specs.EdgeAxis.{right-of, b2-compute-edge-separation}
 use Rattle.clipping.specs.Unit.{unit-scale}

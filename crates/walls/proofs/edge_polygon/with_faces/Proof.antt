@@ -3,9 +3,8 @@ use mathlib.Core.Path.{_≡_, refl, sym, _∙_, ap, subst}
 use Prim.Native.Nat.{_≤_}
 use native.Mathlib.Omega.{arith}
 use Rattle.contact_definitions.specs.Manifold.{with-count}
-use Rattle.contact_definitions.specs.EdgeAxis.{placed-corner, placed-normal, edge-polygon-axis}
+use Rattle.contact_definitions.specs.EdgeAxis.{edge-polygon-axis}
 use Rattle.contact_definitions.specs.EdgeReference.{edge-manifold-on}
-use Rattle.wall_separation.specs.Rows.{PointRows}
 use Rattle.wall_separation.proofs.Filled.{row-fewer, points-fewer}
 use Rattle.walls.specs.Places.{place-below}
 use Rattle.walls.proofs.PlacesOf.{axis-place}
