@@ -1,14 +1,12 @@
 -- The ends of a face are not right of it, by the rounded cross product and whatever the numbers: the product of an edge with a point less
 -- itself, or with the edge itself, is a zero or NaN, and neither is below 0. Assumes nothing.
-use mathlib.Core.Path.{_≡_, refl, sym, ap, _∙_, subst}
+use mathlib.Core.Path.{_≡_, refl, subst}
 use mathlib.Core.Bool.{Bool, true, false, not}
-use Prim.Native.Nat.{ℕ, zero, _*_, _<_}
-use native.Mathlib.Nat.{mul-pos, zero-mul, mul-zero, sub-self}
+use Prim.Native.Nat.{ℕ, _*_, _<_}
+use native.Mathlib.Nat.{mul-pos, zero-mul, sub-self}
 use native.Mathlib.Omega.{arith}
-use lib.IntN.{ℤ, pos}
-use lib.Ieee.{Float, nan, inf, fin, binary32, up, down, unlike, round, sum, neg, add, sub, mul, lt, ofBits}
+use lib.Ieee.{Float, nan, inf, fin, binary32, up, down, sum, neg, add, sub, mul, lt}
 use lib.Ieee.Fits.{down-pos}
-use lib.Ieee.Scale.{round-same}
 use borrow.Author.Tests.{le-ltb}
 use Rattle.floats.specs.declared.b2_math.B2vec2.{B2vec2}
 use Rattle.rounding.specs.Literals.{zero32}

@@ -3,7 +3,7 @@
 use mathlib.Core.Path.{_≡_, refl, sym, ap, ap₂, _∙_, subst}
 use mathlib.Core.Bool.{Bool, true, false, not, cond}
 use Prim.Native.Nat.{ℕ, _-_, _*_, _^_, _≤_, _<_}
-use native.Mathlib.Nat.{le-antisymm, mul-pos, mul-right-comm, mul-mul-mul-comm, eq-of-mul-eq-mul-right}
+use native.Mathlib.Nat.{mul-pos, mul-right-comm, mul-mul-mul-comm, eq-of-mul-eq-mul-right}
 use native.Mathlib.Omega.{arith}
 use lib.Dec.{T}
 use lib.Ieee.{Float, nan, inf, fin, binary32, up, down, unlike, fits, round, add, mul, neg, lt, ofBits}
@@ -11,8 +11,6 @@ use lib.Ieee.Bits.{is-false}
 use lib.Ieee.Fits.{down-pos, add-fits}
 use lib.Ieee.Scale.{round-same}
 use Rattle.algebra.specs.Integer.{Z, whole, opp, _⊛_, _≐_, _≼_, _≺_}
-use Rattle.algebra.proofs.Integer.{same-sym}
-use Rattle.algebra.proofs.Magnitude.{abs-same}
 use Rattle.floats.specs.declared.b2_math.B2vec2.{B2vec2}
 use Rattle.floats.specs.declared.b2_math.Normalized.{Normalized}
 use Rattle.rounding.specs.Literals.{zero32, one32}
@@ -20,7 +18,7 @@ use Rattle.floats.specs.B2Common.{b2-epsilon, epsilon-squared}
 use Rattle.floats.specs.B2Math.{b2-sqrt, b2-cross-vec-by-scalar, b2-length-squared, b2-length, times-reciprocal, b2-normalize}
 use Rattle.sqrt.specs.Sqrt.{sqrt}
 use Rattle.rounding.specs.Value.{metre, F32, mag, val}
-use Rattle.rounding.proofs.Value.{metre-pos, abs-mag, mag-abs, has-value, positive-sign, neg-f32, mag-neg, val-neg}
+use Rattle.rounding.proofs.Value.{metre-pos, has-value, positive-sign, neg-f32, mag-neg, val-neg}
 use Rattle.rounding.proofs.Dyadic.{Dyadic}
 use Rattle.rounding.proofs.Comparison.{lt-val, val-not-lt}
 use Rattle.rounding.proofs.Commutes.{add-commutes}

@@ -24,7 +24,8 @@ null-not-below (null-zero false e) = simp zero-mul
 pub round-null : (s : Bool) (w c : ℕ) → w ≡ 0 → 0 < c → Null (round binary32 s w c)
 unfolding round
 round-null s w c w-zero c-pos =
-    let one : round binary32 s 0 c ≡ fin s zero (pos zero) = round-same binary32 s 0 c 0 1 c-pos (omega arith) (omega arith) in
+    let one : round binary32 s 0 c ≡ fin s zero (pos zero) =
+    round-same binary32 s 0 c 0 1 c-pos (omega arith) (omega arith) in
     subst Null (sym (ap (λ (n : ℕ). round binary32 s n c) w-zero ∙ one)) (null-zero s (pos zero))
 
 pub mul-null : (x : Float) {y : Float} → Null y → Null (mul binary32 x y)
@@ -34,4 +35,5 @@ mul-null (inf s) null-nan = null-nan
 mul-null (inf s) (null-zero t d) = null-nan
 mul-null (fin s m e) null-nan = null-nan
 mul-null (fin s m e) (null-zero t d) =
-    round-null (unlike s t) (m * up e * (0 * up d)) (down e * down d) (rw zero-mul (mul-zero (m * up e))) (mul-pos (down-pos e) (down-pos d))
+    round-null (unlike s t) (m * up e * (0 * up d)) (down e * down d) (rw zero-mul (mul-zero (m * up e)))
+    (mul-pos (down-pos e) (down-pos d))
