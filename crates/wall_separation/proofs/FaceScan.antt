@@ -16,8 +16,9 @@ use Rattle.contact_definitions.specs.declared.axis.Axis.the-variants.{FaceB}
 use Rattle.contact_definitions.specs.Axis.{keeps-farther, farthest}
 use Rattle.contact_definitions.specs.EdgeAxis.{placed-corner, placed-normal, outline-axis}
 use Rattle.contact_definitions.specs.EdgeAxis.{b2-compute-polygon-separation}
+use Rattle.contact_definitions.proofs.Searches.{scan-starts}
 use Rattle.wall_separation.specs.Rows.{face-distance}
-use Rattle.wall_separation.proofs.Scans.{scanned-from, scanned-begun}
+use Rattle.wall_separation.proofs.Scans.{scanned-from}
 
 module _ (xf : B2Transform) (poly : B2polygonShape) (v1 v2 : B2vec2) where
   -- what the scan keeps from face j on
@@ -28,7 +29,7 @@ module _ (xf : B2Transform) (poly : B2polygonShape) (v1 v2 : B2vec2) where
       → faces-from (FaceB (neg b2-max-float) zero32 zero32 0) 0 count ≡ b2-compute-polygon-separation xf poly v1 v2
   unfolding b2-compute-polygon-separation
   faces-begun count count-is =
-      scanned-begun keeps-farther (outline-axis xf poly v1 v2) (FaceB (neg b2-max-float) zero32 zero32 0) count
+      scan-starts keeps-farther (outline-axis xf poly v1 v2) (FaceB (neg b2-max-float) zero32 zero32 0) count
       ∙ ap (λ (n : ℕ). farthest (FaceB (neg b2-max-float) zero32 zero32 0)
       (map (outline-axis xf poly v1 v2) (places 0 n)))
       (sym count-is)

@@ -6,7 +6,8 @@ use lib.ListN.{length}
 use native.Mathlib.Omega.{arith}
 use Rattle.contact_definitions.specs.Searches.{below-value, least}
 use Rattle.wall_separation.specs.Rows.{Row}
-use Rattle.wall_separation.proofs.Scans.{scanned-from, scanned-ended, least-begun, least-next}
+use Rattle.contact_definitions.proofs.Searches.{scanned-all}
+use Rattle.wall_separation.proofs.Scans.{scanned-from, least-begun, least-next}
 use borrow.Author.Needs.{needs}
 use Rattle.wall_separation.proofs.edge_separation.least_of.Statement.{statement}
 use Rattle.wall_separation.proofs.edge_separation.least_of.Tie as tie
@@ -73,8 +74,8 @@ returns c =
     let i = loop′ .i in
     let inv = loop′ .inv in
     λ ahead behind f b. (
-      scanned-ended below-value ahead _ _ i _ (omega arith) (inv .4 ahead behind f b .0),
-      scanned-ended below-value behind _ _ i _ (omega arith) (inv .4 ahead behind f b .1),
+      scanned-all below-value ahead _ _ i _ (inv .4 ahead behind f b .0) (omega arith),
+      scanned-all below-value behind _ _ i _ (inv .4 ahead behind f b .1) (omega arith),
     )
 
 pub least-of-spec : {M : Type 1} → statement M

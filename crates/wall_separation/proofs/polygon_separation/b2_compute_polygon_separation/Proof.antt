@@ -12,7 +12,7 @@ use Rattle.contact_definitions.specs.Axis.{keeps-farther}
 use Rattle.contact_definitions.specs.EdgeAxis.{placed-corner, placed-normal, outline-axis}
 use Rattle.contact_definitions.specs.EdgeAxis.{b2-compute-polygon-separation}
 use Rattle.wall_separation.specs.Rows.{Row, PointRows, face-distance}
-use Rattle.wall_separation.proofs.Scans.{scanned-next, scanned-ended}
+use Rattle.contact_definitions.proofs.Searches.{scanned, scanned-all}
 use Rattle.wall_separation.proofs.FaceScan.{faces-from, faces-begun, face-taken, face-left}
 use borrow.Author.Needs.{needs}
 use Rattle.wall_separation.proofs.polygon_separation.b2_compute_polygon_separation.Statement.{
@@ -79,10 +79,9 @@ loop-again c =
       inv .3,
       inv .4,
       λ xf poly v1 v2 count-is rows normals.
-          scanned-next keeps-farther (outline-axis xf poly v1 v2) _ _ _ i _ (omega arith)
+          scanned keeps-farther (outline-axis xf poly v1 v2) _ _ i _ (inv .5 xf poly v1 v2 count-is rows normals) _ (omega arith)
           (face-taken xf poly v1 v2 i _ _ _ _ _ (rows .at i _ (omega arith)) _ _ (normals .x .at i _ (omega arith))
-          (normals .y .at i _ (omega arith)) (w .0 .taken))
-          (inv .5 xf poly v1 v2 count-is rows normals),
+          (normals .y .at i _ (omega arith)) (w .0 .taken)),
     ))
     (λ w. rw (w .1, w .2, w .3, w .4) (
       omega arith,
@@ -91,9 +90,8 @@ loop-again c =
       inv .3,
       inv .4,
       λ xf poly v1 v2 count-is rows normals.
-          scanned-next keeps-farther (outline-axis xf poly v1 v2) _ _ _ i _ (omega arith)
-          (face-left xf poly v1 v2 i _ _ _ _ _ (rows .at i _ (omega arith)) (w .0 .left))
-          (inv .5 xf poly v1 v2 count-is rows normals),
+          scanned keeps-farther (outline-axis xf poly v1 v2) _ _ i _ (inv .5 xf poly v1 v2 count-is rows normals) _ (omega arith)
+          (face-left xf poly v1 v2 i _ _ _ _ _ (rows .at i _ (omega arith)) (w .0 .left)),
     ))
     (c .if1 .came)
 
@@ -102,8 +100,8 @@ returns c =
     let loop′ = c .before .loop in
     let i = loop′ .i in
     λ xf poly v1 v2 count-is rows normals.
-    scanned-ended keeps-farther (outline-axis xf poly v1 v2) _ _ i _ (omega arith)
-    (loop′ .inv .5 xf poly v1 v2 count-is rows normals)
+    scanned-all keeps-farther (outline-axis xf poly v1 v2) _ _ i _
+    (loop′ .inv .5 xf poly v1 v2 count-is rows normals) (omega arith)
 
 pub b2-compute-polygon-separation-spec : {M : Type 1} → statement M
 b2-compute-polygon-separation-spec =
