@@ -79,7 +79,8 @@ loop-again c =
       inv .3,
       inv .4,
       λ xf poly v1 v2 count-is rows normals.
-          scanned keeps-farther (outline-axis xf poly v1 v2) _ _ i _ (inv .5 xf poly v1 v2 count-is rows normals) _ (omega arith)
+          scanned keeps-farther (outline-axis xf poly v1 v2) _ _ i _ (inv .5 xf poly v1 v2 count-is rows normals) _
+          (omega arith)
           (face-taken xf poly v1 v2 i _ _ _ _ _ (rows .at i _ (omega arith)) _ _ (normals .x .at i _ (omega arith))
           (normals .y .at i _ (omega arith)) (w .0 .taken)),
     ))
@@ -90,7 +91,8 @@ loop-again c =
       inv .3,
       inv .4,
       λ xf poly v1 v2 count-is rows normals.
-          scanned keeps-farther (outline-axis xf poly v1 v2) _ _ i _ (inv .5 xf poly v1 v2 count-is rows normals) _ (omega arith)
+          scanned keeps-farther (outline-axis xf poly v1 v2) _ _ i _ (inv .5 xf poly v1 v2 count-is rows normals) _
+          (omega arith)
           (face-left xf poly v1 v2 i _ _ _ _ _ (rows .at i _ (omega arith)) (w .0 .left)),
     ))
     (c .if1 .came)
