@@ -1,5 +1,6 @@
-// Entry points on plain floats, for benchmarks and for the run over every operand of the root. All but the root's promise that they are
-// safe and end, no more: the benchmark compares what they answer with the references.
+// Entry points on plain floats, for benchmarks and for the run over every operand of the root. The root's says what it
+// answers; the others promise that they are safe and end, no more: the benchmark compares their answers with the
+// references.
 ghost use mathlib.Core.Path.{_≡_};
 ghost use Rattle.floats.specs.B2Math.{b2-sqrt};
 use floats::b2_common::B2_POLYGON_RADIUS;
@@ -17,7 +18,8 @@ pub extern "C" fn direct_root(x: f32) -> f32
     b2_math::b2_sqrt(x)
 }
 
-// Makes the vector at the front of v unit and returns the length that it had; a slice of fewer than two floats is left as it is, with 0.
+// Makes the vector at the front of v unit and returns the length that it had; a slice of fewer than two floats is left as
+// it is, with 0.
 #[no_mangle]
 pub extern "C" fn direct_normalize(v: &mut [f32]) -> f32 {
     if v.len() < 2 {
@@ -40,8 +42,8 @@ fn empty_outline() -> B2polygonShape {
     }
 }
 
-// Builds the outline of the points and writes its corners, normals and centroid to the front of out: 1, or 256 and the refusal with nothing
-// written. 0, with nothing written, where out has no room for 34 floats.
+// Builds the outline of the points and writes its corners, normals and centroid to the front of out: 1, or 256 and the
+// refusal with nothing written. 0, with nothing written, where out has no room for 34 floats.
 #[no_mangle]
 pub extern "C" fn direct_outline(points: &[f32], out: &mut [f32]) -> u32 {
     if out.len() < 34 {
@@ -64,7 +66,8 @@ pub extern "C" fn direct_box(hx: f32, hy: f32, out: &mut [f32]) -> u32 {
     outlines::put_answer(answer, out)
 }
 
-// Whether the outline of count corners, in 34 floats as above, is convex: 1, 0, or 256 and the refusal; 2 for fewer floats.
+// Whether the outline of count corners, in 34 floats as above, is convex: 1, 0, or 256 and the refusal; 2 for fewer
+// floats.
 #[no_mangle]
 pub extern "C" fn direct_validate(shape: &[f32], count: usize) -> u32 {
     if shape.len() < 34 {

@@ -46,7 +46,8 @@ pub fn put_points(out: &mut [f32], ps: [B2vec2; 8])
     }
 }
 
-// An accepted outline's corners, normals and centroid at the front of out: 1, or 256 and the refusal with nothing written.
+// An accepted outline's corners, normals and centroid at the front of out: 1, or 256 and the refusal with nothing
+// written.
 pub fn put_answer(answer: PolygonAnswer, out: &mut [f32]) -> u32
     requires { ⌜ 34 ≤ length (now out) ⌝ }
 {

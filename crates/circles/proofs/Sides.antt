@@ -16,7 +16,7 @@ use Rattle.shape_definitions.specs.Outline.{point-at, place-after}
 use Rattle.algebra.proofs.Lists.{getD-within}
 use Rattle.contact_definitions.specs.declared.axis.Best.{Best}
 use Rattle.contact_definitions.specs.Searches.{some-below, valued, is-greater, first-greatest}
-use Rattle.contact_definitions.proofs.Searches.{scan-step, scan-done, some-here, none-next}
+use Rattle.contact_definitions.proofs.Searches.{scanned, scanned-all, some-here, none-next}
 use Rattle.circles.specs.declared.b2_collide_circle.Side.{Side}
 use Rattle.circles.specs.Meetings.{out-of-face, FaceAt, SideOf}
 
@@ -81,8 +81,8 @@ module _ (vs ns : List B2vec2) (count : ℕ) (c : B2vec2) (radius : Float) where
       stepped : scan is-greater (cond (lt separation (out-of-face vs ns c i)) (valued (out-of-face vs ns c) i) (best-at index separation))
           (map (valued (out-of-face vs ns c)) (places (i + 1) (count - (i + 1)))) ≡ first-greatest (out-of-face vs ns c) count
       stepped =
-          scan-step is-greater (valued (out-of-face vs ns c)) (best-at index separation) i count
-          (first-greatest (out-of-face vs ns c) count) within (so-far .best-is)
+          scanned is-greater (valued (out-of-face vs ns c)) (best-at index separation) (first-greatest (out-of-face vs ns c) count) i count
+          (so-far .best-is) _ within refl
 
       pub side-taken : lt separation s ≡ true → SoFar i s v n (i + 1)
       side-taken more = record {
@@ -127,8 +127,8 @@ module _ (vs ns : List B2vec2) (count : ℕ) (c : B2vec2) (radius : Float) where
       let few = so-far .few in
       let done = so-far .done in
       let all : i ≡ count = omega arith in
-      let best = scan-done is-greater (valued (out-of-face vs ns c)) (best-at index separation) i count
-      (first-greatest (out-of-face vs ns c) count) past (so-far .best-is) in
+      let best = scanned-all is-greater (valued (out-of-face vs ns c)) (best-at index separation)
+          (first-greatest (out-of-face vs ns c) count) i count (so-far .best-is) past in
       record {
         outside-is = sym (ap (some-below (λ k. lt radius (out-of-face vs ns c k))) (sym all) ∙ so-far .none-out);
         face = λ _. record {

@@ -1,4 +1,5 @@
--- What is left of a segment, over the output places, from the ends and the distances that the code has. Assumes nothing.
+-- What is left of a segment, over the output places, from the ends and the distances that the code has. Assumes
+-- nothing.
 use mathlib.Core.Path.{_≡_, refl, sym, ap, ap₂, _∙_}
 use mathlib.Core.List.{List, [], _∷_}
 use Prim.Native.Nat.{ℕ}

@@ -1,5 +1,5 @@
 -- A manifold with one point over its first place. Assumes nothing.
-use mathlib.Core.Path.{_≡_, refl, ap, ap₂, _∙_}
+use mathlib.Core.Path.{_≡_, ap, _∙_}
 use mathlib.Core.List.{List, [], _∷_}
 use lib.ListN.{length, getD}
 use Rattle.floats.specs.declared.b2_math.B2vec2.{B2vec2}

@@ -1,6 +1,6 @@
--- A vector times the factor of `unit-scale` is what normalising leaves: where the length is below 2^-23 the factor is 1, and times 1 is nothing.
--- Assumes nothing.
-use mathlib.Core.Path.{_≡_, refl, sym, ap, ap₂, _∙_}
+-- A vector times the factor of `unit-scale` is what normalising leaves: where the length is below 2^-23 the factor is
+-- 1, and times 1 is nothing. Assumes nothing.
+use mathlib.Core.Path.{_≡_, refl, ap, ap₂, _∙_}
 use mathlib.Core.Bool.{Bool, true, false, cond}
 use lib.Dec.{T}
 use lib.Ieee.{Float, binary32, fits, mul, div, lt}

@@ -1,7 +1,6 @@
 -- Rows of two places: what stands over them, from what the code reads there. Assumes nothing.
-use mathlib.Core.Path.{_≡_, refl, ap, _∙_}
+use mathlib.Core.Path.{_≡_, refl}
 use mathlib.Core.List.{List, [], _∷_}
-use Prim.Native.Nat.{ℕ}
 use native.Mathlib.Omega.{arith}
 use lib.ListN.{length, getD}
 use Rattle.algebra.specs.Buffer.{over}
@@ -28,6 +27,12 @@ module _ {A : Type 0} where
   first-place l c d h = go (two-of l h)
     where
       go : {m : List A} → Two m → getD m 0 c ≡ getD m 0 d
+      go (two a b) = refl
+
+  pub second-place : (l : List A) (c d : A) → length l ≡ 2 → getD l 1 c ≡ getD l 1 d
+  second-place l c d h = go (two-of l h)
+    where
+      go : {m : List A} → Two m → getD m 1 c ≡ getD m 1 d
       go (two a b) = refl
 
   -- one over the first place, two over both

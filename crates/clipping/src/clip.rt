@@ -92,3 +92,27 @@ pub fn clip_ends(
     }
     Clip { out, count: 0 }
 }
+
+// What is left of a segment clipped to side 1 and then to side 2, over its own ends: of fewer than two ends after the
+// first, nothing is.
+pub fn clip_to_sides(
+    ends: [B2clipVertex; 2],
+    normal1: B2vec2,
+    offset1: f32,
+    index1: usize,
+    normal2: B2vec2,
+    offset2: f32,
+    index2: usize,
+) -> Clip
+    ensures { λ r. ⌜ r ≡ left-over (clipped (clipped ends normal1 offset1 index1) normal2 offset2 index2) ends ⌝ }
+{
+    let first = clip_ends(ends, ends, normal1, offset1, index1);
+    if first.count < 2 {
+        return Clip {
+            out: ends,
+            count: 0,
+        };
+    }
+    let once = first.out;
+    clip_ends(ends, once, normal2, offset2, index2)
+}

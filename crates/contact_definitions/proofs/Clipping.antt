@@ -1,6 +1,6 @@
 -- What a clip leaves, by the tests of the two distances: both ends; the end that is left, and the crossing or not; or
 -- nothing. So it never leaves three, whatever the numbers. Assumes nothing.
-use mathlib.Core.Path.{_≡_, refl, sym, ap, _∙_, subst}
+use mathlib.Core.Path.{_≡_, refl, ap}
 use mathlib.Core.Bool.{Bool, true, false}
 use mathlib.Core.List.{List, [], _∷_}
 use Prim.Native.Nat.{ℕ, _≤_}
@@ -51,7 +51,8 @@ module _ (a b : B2clipVertex) (distance0 distance1 : Float) (index : ℕ) where
 
   pub none-left : le distance0 zero32 ≡ false → le distance1 zero32 ≡ false
       → clipped-by a b distance0 distance1 index ≡ []
-  none-left first second = clipped-is false false false first second (product-of-neither distance0 distance1 first second)
+  none-left first second =
+      clipped-is false false false first second (product-of-neither distance0 distance1 first second)
 
   -- ---- never three
   few : (first second : Bool) → le distance0 zero32 ≡ first → le distance1 zero32 ≡ second

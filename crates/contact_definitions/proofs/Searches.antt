@@ -1,33 +1,85 @@
--- The searches of specs/Searches, a place at a time, for code that runs them over the places below a count. Assumes
--- nothing.
-use mathlib.Core.Path.{_≡_, refl, sym, _∙_, ap}
+-- The searches of specs/Searches, a place at a time, for code that runs them in a loop; and two functions that agree
+-- below the count are searched alike. Assumes nothing.
+use mathlib.Core.Path.{_≡_, refl, sym, ap, ap₂, _∙_}
 use mathlib.Core.Bool.{Bool, true, false, cond, _||_, or-true}
-use mathlib.Core.List.{List, [], _∷_, map}
+use mathlib.Core.List.{List, _∷_, map}
 use mathlib.Core.Logic.{_⊎_, inl, inr}
 use Prim.Native.Nat.{ℕ, zero, suc, _+_, _-_, _<_, _≤_}
 use native.Mathlib.Numerals.{add-one}
 use native.Mathlib.Omega.{arith}
+use lib.Ieee.{Float}
 use Rattle.algebra.specs.Loops.{places, scan}
 use Rattle.algebra.proofs.Booleans.{less-or-not}
-use Rattle.contact_definitions.specs.Searches.{some-below}
+use Rattle.contact_definitions.specs.Searches.{some-below, least, valued, first-greatest, first-least}
 
--- ---- a scan of what stands at the places i, i + 1, .. below n
-module _ {A : Type 0} (test : A → A → Bool) (f : ℕ → A) (best : A) (i n : ℕ) where
-  pub scan-step : (answer : A) → i < n → scan test best (map f (places i (n - i))) ≡ answer
-      → scan test (cond (test best (f i)) (f i) best) (map f (places (i + 1) (n - (i + 1)))) ≡ answer
-  scan-step answer within so-far = ap (λ (l : List ℕ). scan test best (map f l)) (sym one) ∙ so-far
+one-place : (j n : ℕ) → j < n → places j (n - j) ≡ j ∷ places (j + 1) (n - (j + 1))
+one-place j n within = ap (places j) count ∙ ap (λ (k : ℕ). j ∷ places k (n - (j + 1))) (sym (add-one j))
+  where
+    count : n - j ≡ suc (n - (j + 1))
+    count = omega arith
+
+-- all of n are left at place 0
+pub scan-starts : {A : Type 0} (test : A → A → Bool) (f : ℕ → A) (candidate : A) (n : ℕ)
+    → scan test candidate (map f (places 0 (n - 0))) ≡ scan test candidate (map f (places 0 n))
+scan-starts test f candidate n = ap (λ (k : ℕ). scan test candidate (map f (places 0 k))) all
+  where
+    all : n - 0 ≡ n
+    all = omega arith
+
+-- ---- a scan of the values of f, from place j on: n - j are left
+module _ {A : Type 0} (test : A → A → Bool) (f : ℕ → A) (candidate answer : A) (j n : ℕ)
+    (so-far : scan test candidate (map f (places j (n - j))) ≡ answer) where
+  next : j < n
+      → scan test (cond (test candidate (f j)) (f j) candidate) (map f (places (j + 1) (n - (j + 1)))) ≡ answer
+  next within = ap (λ (js : List ℕ). scan test candidate (map f js)) (sym (one-place j n within)) ∙ so-far
+
+  pub scanned : (new : A) → j < n → new ≡ cond (test candidate (f j)) (f j) candidate
+      → scan test new (map f (places (j + 1) (n - (j + 1)))) ≡ answer
+  scanned new within new-is =
+      ap (λ (e : A). scan test e (map f (places (j + 1) (n - (j + 1))))) new-is ∙ next within
+
+  -- the candidate gives way to the value at j, or stays
+  pub replaced-by : (new : A) → j < n → test candidate (f j) ≡ true → new ≡ f j
+      → scan test new (map f (places (j + 1) (n - (j + 1)))) ≡ answer
+  replaced-by new within holds new-is =
+      scanned new within (new-is ∙ ap (λ (t : Bool). cond t (f j) candidate) (sym holds))
+
+  pub kept-over : j < n → test candidate (f j) ≡ false
+      → scan test candidate (map f (places (j + 1) (n - (j + 1)))) ≡ answer
+  kept-over within fails = scanned candidate within (ap (λ (t : Bool). cond t (f j) candidate) (sym fails))
+
+  pub scanned-all : n ≤ j → candidate ≡ answer
+  scanned-all past = ap (λ (k : ℕ). scan test candidate (map f (places j k))) (sym none-left) ∙ so-far
     where
-      count : n - i ≡ suc (n - (i + 1))
-      count = omega arith
+      none-left : n - j ≡ 0
+      none-left = omega arith
 
-      one : places i (n - i) ≡ i ∷ places (i + 1) (n - (i + 1))
-      one = ap (places i) count ∙ ap (λ (k : ℕ). i ∷ places k (n - (i + 1))) (sym (add-one i))
+-- ---- functions that agree
+module _ {A : Type 0} (f g : ℕ → A) where
+  values-same : (i n : ℕ) → ((k : ℕ) → k < i + n → f k ≡ g k) → map f (places i n) ≡ map g (places i n)
+  values-same i zero same = refl
+  values-same i (suc n) same =
+      ap₂ _∷_ (same i (omega arith)) (values-same (suc i) n (λ (k : ℕ) (h : k < suc i + n). same k (omega arith)))
 
-  pub scan-done : (answer : A) → n ≤ i → scan test best (map f (places i (n - i))) ≡ answer → best ≡ answer
-  scan-done answer past so-far = ap (λ (k : ℕ). scan test best (map f (places i k))) (sym none) ∙ so-far
-    where
-      none : n - i ≡ 0
-      none = omega arith
+  pub mapped-same : (n : ℕ) → ((k : ℕ) → k < n → f k ≡ g k) → map f (places 0 n) ≡ map g (places 0 n)
+  mapped-same n same = values-same 0 n (λ (k : ℕ) (h : k < 0 + n). same k (omega arith))
+
+module _ (f g : ℕ → Float) (count : ℕ) (same : (k : ℕ) → k < count → f k ≡ g k) where
+  valued-same : map (valued f) (places 0 count) ≡ map (valued g) (places 0 count)
+  valued-same = mapped-same (valued f) (valued g) count
+      (λ (k : ℕ) (h : k < count). ap (λ (x : Float). record { place = k; value = x }) (same k h))
+
+  pub least-same : least f count ≡ least g count
+  unfolding least
+  least-same = ap (scan _ _) (mapped-same f g count same)
+
+  pub first-greatest-same : first-greatest f count ≡ first-greatest g count
+  unfolding first-greatest
+  first-greatest-same = ap (scan _ _) valued-same
+
+  pub first-least-same : first-least f count ≡ first-least g count
+  unfolding first-least
+  first-least-same = ap (scan _ _) valued-same
 
 -- ---- some place below a count passes a test
 module _ (test : ℕ → Bool) where

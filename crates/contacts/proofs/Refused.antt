@@ -1,24 +1,33 @@
 -- The contact calls by their ranges: accepted where shapes and placements are in range, else 2 where a shape is not, and else 6. And what a
 -- manifold without points keeps. Assumes nothing.
-use mathlib.Core.Path.{_≡_, refl, sym, _∙_, ap₂}
-use mathlib.Core.Bool.{Bool, true, false, not, cond, _&&_}
-use Prim.Native.Nat.{ℕ}
+use mathlib.Core.Path.{_≡_, refl, sym, _∙_, ap, ap₂}
+use mathlib.Core.Bool.{Bool, true, false, not, cond, _&&_, _||_}
+use Prim.Native.Nat.{ℕ, _≤_, _<_}
 use native.Mathlib.Omega.{arith}
-use lib.Ieee.{binary32, add}
+use lib.Dec.{ltb}
+use lib.Ieee.{Float, binary32, add}
+use borrow.Author.Tests.{ltb-false}
 use Rattle.floats.specs.declared.b2_math.B2vec2.{B2vec2}
 use Rattle.floats.specs.declared.b2_math.B2Transform.{B2Transform}
 use Rattle.floats.specs.Ranges.{transform-in-range}
-use Rattle.floats.specs.B2Math.{b2-mul-transform-by-vec2}
+use Rattle.floats.specs.B2Math.{vec2, b2-mul-transform-by-vec2, b2-mul-t-transform-by-vec2}
 use Rattle.shape_definitions.specs.declared.b2_circle_shape.B2circleShape.{B2circleShape}
+use Rattle.shape_definitions.specs.declared.b2_polygon_shape.B2polygonShape.{B2polygonShape}
 use Rattle.shape_definitions.specs.Outline.{origin}
-use Rattle.shape_definitions.specs.Refusal.{shape-out-of-range, placement-out-of-range}
+use Rattle.shape_definitions.specs.Refusal.{shape-out-of-range, placement-out-of-range, count-out-of-range}
 use Rattle.contact_definitions.specs.declared.b2_collision.B2contactId.{B2contactId}
 use Rattle.contact_definitions.specs.declared.b2_collision.B2manifold.{B2manifold}
 use Rattle.contact_definitions.specs.declared.b2_collision.B2manifoldType.{B2manifoldType}
-use Rattle.contact_definitions.specs.declared.b2_collision.B2manifoldType.the-variants.{ECircles}
+use Rattle.contact_definitions.specs.declared.b2_collision.B2manifoldType.the-variants.{ECircles, EFaceA}
 use Rattle.contact_definitions.specs.declared.b2_collision.ManifoldAnswer.{ManifoldAnswer}
 use Rattle.contact_definitions.specs.Manifold.{default-id, with-count, with-one-point, manifold-refused, where-in-range}
-use Rattle.contact_definitions.specs.B2CollideCircle.{farther, circles-manifold}
+use Rattle.contact_definitions.specs.Manifold.{miscounted, unless-miscounted}
+use Rattle.contact_definitions.specs.B2CollideCircle.{farther, circles-manifold, circle-separation, circle-at-best}
+use Rattle.contact_definitions.specs.B2CollideCircle.{polygon-circle-manifold}
+use Rattle.circles.specs.declared.b2_collide_circle.Meeting.{Meeting}
+use Rattle.circles.specs.declared.b2_collide_circle.Meeting.the-variants.{Nothing, Point}
+use Rattle.circles.specs.Meetings.{met, AtOutline}
+use Rattle.contacts.specs.Parts.{outline-circle}
 
 never : {P : Type 0} → true ≡ false → P
 never h = let z : _≡_ {A = ℕ} 0 1 = cc in absurd (omega arith)
@@ -77,3 +86,40 @@ module _ (m : B2manifold) (a : B2circleShape) (xfA : B2Transform) (b : B2circleS
   unfolding circles-manifold
   circles-near r h r-is =
       simp (tested false h) (r-is ∙ one-point-anew m ECircles origin (a .«m_p») (b .«m_p») default-id)
+
+-- ---- an outline and a circle: r is where they meet, the circle's centre carried by both placements to c
+module _ (m : B2manifold) (a : B2polygonShape) (xfA : B2Transform) (b : B2circleShape) (xfB : B2Transform) (placed c : B2vec2) (r : Meeting)
+    (placed-is : placed ≡ b2-mul-transform-by-vec2 xfB (b .«m_p»)) (c-is : c ≡ b2-mul-t-transform-by-vec2 xfA placed)
+    (meets : AtOutline (a .«m_vertices») (a .«m_normals») (a .«m_count») c (add binary32 (a .«m_radius») (b .«m_radius»)) r) where
+  met-is : met r (with-count m 0) (b .«m_p») ≡ outline-circle m a xfA b xfB
+  unfolding polygon-circle-manifold circle-at-best circle-separation
+  met-is =
+      meets (with-count m 0) (b .«m_p»)
+      ∙ ap (λ (q : B2vec2). polygon-circle-manifold (with-count m 0) a q (add binary32 (a .«m_radius») (b .«m_radius»)) (b .«m_p»))
+      (c-is ∙ ap (b2-mul-t-transform-by-vec2 xfA) placed-is)
+
+  pub meets-not : (made : B2manifold) → r ≡ Nothing → made ≡ with-count m 0 → made ≡ outline-circle m a xfA b xfB
+  meets-not made nothing made-is =
+      made-is ∙ ap (λ (t : Meeting). met t (with-count m 0) (b .«m_p»)) (sym nothing) ∙ met-is
+
+  pub meets-at : (made : B2manifold) (nx ny x y : Float) → r ≡ Point nx ny x y
+      → made ≡ with-one-point m EFaceA (vec2 nx ny) (vec2 x y) (b .«m_p») default-id → made ≡ outline-circle m a xfA b xfB
+  meets-at made nx ny x y at made-is =
+      made-is ∙ one-point-anew m EFaceA (vec2 nx ny) (vec2 x y) (b .«m_p») default-id
+      ∙ ap (λ (t : Meeting). met t (with-count m 0) (b .«m_p»)) (sym at) ∙ met-is
+
+-- ---- 7 before the ranges
+module _ (old : B2manifold) (wrong : Bool) (answer r : ManifoldAnswer) where
+  pub count-refused : wrong ≡ true → r ≡ manifold-refused count-out-of-range old → r ≡ unless-miscounted wrong old answer
+  count-refused h r-is = simp h r-is
+
+  pub count-taken : wrong ≡ false → r ≡ answer → r ≡ unless-miscounted wrong old answer
+  count-taken h r-is = simp h r-is
+
+pub counted-well : (n : ℕ) → miscounted n ≡ false → (0 < n) × (n ≤ 8)
+counted-well n h = by-few (ltb n 3) refl (ltb 8 n) refl h
+  where
+    by-few : (few : Bool) → ltb n 3 ≡ few → (many : Bool) → ltb 8 n ≡ many → (few || many) ≡ false → (0 < n) × (n ≤ 8)
+    by-few true few-is many many-is both = never both
+    by-few false few-is true many-is both = never both
+    by-few false few-is false many-is both = let three = ltb-false n 3 few-is in (omega arith, ltb-false 8 n many-is)

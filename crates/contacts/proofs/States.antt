@@ -15,6 +15,7 @@ use Rattle.contact_definitions.specs.declared.b2_collision.B2pointState.{B2poin
 use Rattle.contact_definitions.specs.declared.b2_collision.B2pointState.the-variants.{B2NullState, B2PersistState}
 use Rattle.contact_definitions.specs.declared.b2_collision.CountedIds.{CountedIds}
 use Rattle.contact_definitions.specs.Manifold.{counted-points}
+use Rattle.contacts.proofs.Pairs.{pair-of}
 use Rattle.contact_definitions.specs.PointStates.{same-id, id-among, counted-ids, ids-in, point-state}
 
 -- ---- the ids by their count
@@ -88,12 +89,6 @@ module _ (alone : B2pointState) (mine others : CountedIds) where
         ap chosen-state (sym r-t ∙ r-is) ∙ state-as (mine .first ∷ mine .second ∷ []) 1 (two-ids mine some more)
 
 -- ---- the ids that a manifold counts: p0 and p1 are read at its two places
-pair-of : {A : Type 0} (l : List A) (a b d : A) → length l ≡ 2 → a ≡ getD l 0 d → b ≡ getD l 1 d → l ≡ a ∷ b ∷ []
-pair-of [] a b d size a-is b-is = absurd (omega arith)
-pair-of (x ∷ []) a b d size a-is b-is = absurd (omega arith)
-pair-of (x ∷ y ∷ []) a b d size a-is b-is = sym (ap₂ (λ (u v : _). u ∷ v ∷ []) a-is b-is)
-pair-of (x ∷ y ∷ z ∷ l) a b d size a-is b-is = absurd (omega arith)
-
 abbrev id-of : B2manifoldPoint → B2contactId
 id-of p = p .id
 

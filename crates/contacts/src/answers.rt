@@ -3,11 +3,12 @@
 ghost use mathlib.Core.Path.{_≡_};
 ghost use mathlib.Core.Bool.{_&&_, cond, not};
 ghost use Rattle.floats.specs.Ranges.{transform-in-range};
-ghost use Rattle.contact_definitions.specs.Manifold.{manifold-refused, manifold-accepted};
+ghost use Rattle.contact_definitions.specs.Manifold.{manifold-refused, manifold-accepted, miscounted};
 ghost use Rattle.shape_definitions.specs.Refusal.{shape-out-of-range, placement-out-of-range};
 use contact_definitions::b2_collision::B2manifold;
 use contact_definitions::b2_collision::ManifoldAnswer;
 use floats::b2_math::B2Transform;
+use floats::b2_settings::B2_MAX_POLYGON_VERTICES;
 use floats::ranges;
 use shape_definitions::refusal;
 
@@ -45,4 +46,13 @@ pub fn placements_in_range(a: B2Transform, b: B2Transform) -> bool
     let a_in = ranges::transform_in_range(a);
     let b_in = ranges::transform_in_range(b);
     a_in & b_in
+}
+
+// Whether an outline has fewer than 3 or more than 8 corners.
+pub fn miscounted(count: usize) -> bool
+    ensures { λ r. ⌜ r ≡ miscounted count ⌝ }
+{
+    let few = count < 3;
+    let many = count > B2_MAX_POLYGON_VERTICES;
+    few | many
 }

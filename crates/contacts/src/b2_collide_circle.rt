@@ -1,11 +1,16 @@
 // Circle against circle, and outline against circle (Box2D's b2_collide_circle.cpp).
 ghost use mathlib.Core.Path.{_≡_};
 ghost use mathlib.Core.Bool.{_&&_};
+ghost use Prim.Native.Nat.{_<_, _≤_};
 ghost use Rattle.shape_definitions.specs.Circle.{circle-in-range};
+ghost use Rattle.shape_definitions.specs.Validate.{polygon-in-range};
 ghost use Rattle.contact_definitions.specs.B2CollideCircle.{circles-manifold, b2-collide-circles};
+ghost use Rattle.contact_definitions.specs.B2CollideCircle.{b2-collide-polygon-and-circle};
+ghost use Rattle.contacts.specs.Parts.{outline-circle};
 ghost use Rattle.contact_definitions.specs.Manifold.{with-count};
 use crate::answers;
 use circles::b2_collide_circle;
+use circles::b2_collide_circle::Meeting;
 use clipping::manifolds;
 use contact_definitions::b2_collision::B2manifold;
 use contact_definitions::b2_collision::B2manifoldType;
@@ -14,7 +19,10 @@ use floats::b2_math;
 use floats::b2_math::B2Transform;
 use floats::b2_math::B2vec2;
 use shape_definitions::b2_circle_shape::B2circleShape;
+use shape_definitions::b2_polygon_shape::B2polygonShape;
+use shape_definitions::refusal;
 use shape_ranges::circle_range;
+use shape_ranges::polygon_range;
 
 fn circles_in_range(a: B2circleShape, b: B2circleShape) -> bool
     ensures { λ r. ⌜ r ≡ (circle-in-range a && circle-in-range b) ⌝ }
@@ -59,6 +67,66 @@ pub fn b2_collide_circles(
     let placed = answers::placements_in_range(xfa, xfb);
     if shapes & placed {
         return answers::accepted(circles_manifold(m, a, xfa, b, xfb));
+    }
+    answers::out_of_range(m, shapes)
+}
+
+fn polygon_circle_in_range(a: B2polygonShape, b: B2circleShape) -> bool
+    ensures { λ r. ⌜ r ≡ (polygon-in-range a && circle-in-range b) ⌝ }
+{
+    let a_in = polygon_range::polygon_in_range(a);
+    let b_in = circle_range::circle_in_range(b);
+    a_in & b_in
+}
+
+// The manifold of an outline and a circle, of the given one: the circle's centre is taken to the outline's frame.
+fn polygon_circle_manifold(
+    m: B2manifold,
+    a: B2polygonShape,
+    xfa: B2Transform,
+    b: B2circleShape,
+    xfb: B2Transform,
+) -> B2manifold
+    requires { ⌜ (0 < a .«m_count») × (a .«m_count» ≤ 8) ⌝ }
+    ensures { λ r. ⌜ r ≡ outline-circle m a xfa b xfb ⌝ }
+{
+    let centre = b.m_p;
+    let radius = a.m_radius + b.m_radius;
+    let vs = a.m_vertices;
+    let ns = a.m_normals;
+    let count = a.m_count;
+    let c = b2_math::b2_mul_t_transform_by_vec2(
+        xfa,
+        b2_math::b2_mul_transform_by_vec2(xfb, centre),
+    );
+    let meeting = b2_collide_circle::polygon_meeting(vs, ns, count, c, radius);
+    match meeting {
+        Meeting::Nothing => manifolds::no_points(m),
+        Meeting::Point(nx, ny, x, y) => {
+            let normal = B2vec2 { x: nx, y: ny };
+            let point = B2vec2 { x: x, y: y };
+            manifolds::circle_point(m, B2manifoldType::EFaceA, normal, point, centre, 0, 0)
+        }
+    }
+}
+
+pub fn b2_collide_polygon_and_circle(
+    m: B2manifold,
+    a: B2polygonShape,
+    xfa: B2Transform,
+    b: B2circleShape,
+    xfb: B2Transform,
+) -> ManifoldAnswer
+    ensures { λ r. ⌜ r ≡ b2-collide-polygon-and-circle m a xfa b xfb ⌝ }
+{
+    let count = a.m_count;
+    if answers::miscounted(count) {
+        return answers::refused(m, refusal::COUNT_OUT_OF_RANGE);
+    }
+    let shapes = polygon_circle_in_range(a, b);
+    let placed = answers::placements_in_range(xfa, xfb);
+    if shapes & placed {
+        return answers::accepted(polygon_circle_manifold(m, a, xfa, b, xfb));
     }
     answers::out_of_range(m, shapes)
 }

@@ -1,5 +1,5 @@
--- A product of two numbers on one side of 0 is not below 0, whatever they are: of two that are at most 0, and of two that
--- are not (above 0, or NaN). So where the product of two distances is below 0, one of them is above and one is not.
+-- A product of two numbers on one side of 0 is not below 0, whatever they are: of two that are at most 0, and of two
+-- that are not (above 0, or NaN). So where the product of two distances is below 0, one is above and one is not.
 -- Assumes nothing.
 use mathlib.Core.Path.{_≡_, refl, sym, ap, _∙_, subst}
 use mathlib.Core.Bool.{Bool, true, false, cond, _&&_, _||_, true≢false, false≢true}
@@ -14,7 +14,7 @@ use borrow.Author.Tests.{lt-ltb, le-ltb}
 use Rattle.rounding.specs.Literals.{zero32}
 use Rattle.rounding.specs.Value.{sign}
 use Rattle.rounding.proofs.Commutes.{mul-commutes}
-use Rattle.rounding.proofs.Null.{Null, null-nan, null-zero, null-not-below, mul-null}
+use Rattle.rounding.proofs.Null.{Null, null-zero, null-not-below, mul-null}
 use Rattle.rounding.proofs.Sign.{product-sign}
 
 -- ---- without a minus nothing is below 0
@@ -104,5 +104,7 @@ both-not-above {x} {y} (minus s) (none y-null) = null-not-below (mul-null x y-nu
 pub product-of-both : (x y : Float) → le x zero32 ≡ true → le y zero32 ≡ true → lt (mul binary32 x y) zero32 ≡ false
 product-of-both x y x-at y-at = both-not-above (not-above x x-at) (not-above y y-at)
 
-pub product-of-neither : (x y : Float) → le x zero32 ≡ false → le y zero32 ≡ false → lt (mul binary32 x y) zero32 ≡ false
-product-of-neither x y x-off y-off = plus-not-below _ (product-plus x y (above-or-nan x x-off ∙ sym (above-or-nan y y-off)))
+pub product-of-neither : (x y : Float) → le x zero32 ≡ false → le y zero32 ≡ false
+    → lt (mul binary32 x y) zero32 ≡ false
+product-of-neither x y x-off y-off =
+    plus-not-below _ (product-plus x y (above-or-nan x x-off ∙ sym (above-or-nan y y-off)))

@@ -1,11 +1,11 @@
--- Times 1 changes nothing, bit for bit, at every value of the format: both zeros, the infinities and NaN among them. Two
--- finite values of the format with one sign and one size are one. Assumes nothing.
+-- Times 1 changes nothing, bit for bit, at every value of the format: both zeros, the infinities and NaN among them.
+-- Two finite values of the format with one sign and one size are one. Assumes nothing.
 use mathlib.Core.Path.{_≡_, refl, sym, ap, ap₂, _∙_, subst}
 use mathlib.Core.Bool.{Bool, true, false, cond}
 use Prim.Native.Nat.{ℕ, _+_, _-_, _*_, _/_, _^_}
 use lib.IntN.{ℤ, pos}
 use lib.Dec.{T}
-use lib.Ieee.{Float, nan, inf, fin, binary32, up, down, unlike, size, fits, mul, ofBits, toBits}
+use lib.Ieee.{Float, nan, inf, fin, binary32, unlike, size, fits, mul, ofBits, toBits}
 use lib.Ieee.Bits.{ofBits-toBits}
 use Rattle.algebra.proofs.Integer.{same-of-eq}
 use Rattle.rounding.specs.Literals.{one32}

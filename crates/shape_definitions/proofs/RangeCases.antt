@@ -1,4 +1,5 @@
--- Circles and walls at the limits of their ranges, and one step past them, computed by antt from the definitions. Assumes nothing.
+-- Circles and walls at the limits of their ranges, and one step past them, computed by antt from the definitions.
+-- Assumes nothing.
 use mathlib.Core.Path.{_≡_, refl}
 use mathlib.Core.Bool.{Bool, true, false}
 use lib.Ieee.{Float, binary32, neg, le, ofBits}
@@ -15,8 +16,8 @@ use Rattle.shape_definitions.specs.Edge.{edge-in-range}
 abbrev pub past-the-limit : Float
 past-the-limit = ofBits binary32 0x4980_0001
 
-abbrev pub corner-of-the-range : B2vec2
-corner-of-the-range = vec2 (neg shape-limit) shape-limit
+abbrev pub farthest : B2vec2
+farthest = vec2 (neg shape-limit) shape-limit
 
 abbrev pub outside : B2vec2
 outside = vec2 zero32 past-the-limit
@@ -36,16 +37,16 @@ wall-of one-sided radius ghost v1 v2 = record {
 }
 
 pub record RangeCases (any : B2vec2) : Type 0 where
-  pub circle-at-the-limits : circle-in-range (circle-of shape-limit corner-of-the-range) ≡ true
-  pub circle-of-radius-minus-zero : circle-in-range (circle-of (neg zero32) corner-of-the-range) ≡ true
-  pub circle-too-large : circle-in-range (circle-of past-the-limit corner-of-the-range) ≡ false
+  pub circle-at-the-limits : circle-in-range (circle-of shape-limit farthest) ≡ true
+  pub circle-of-radius-minus-zero : circle-in-range (circle-of (neg zero32) farthest) ≡ true
+  pub circle-too-large : circle-in-range (circle-of past-the-limit farthest) ≡ false
   pub circle-too-far : circle-in-range (circle-of zero32 outside) ≡ false
-  pub wall-at-the-limits : edge-in-range (wall-of true shape-limit corner-of-the-range corner-of-the-range corner-of-the-range) ≡ true
-  pub wall-radius-below-zero : edge-in-range (wall-of false (neg shape-limit) any corner-of-the-range corner-of-the-range) ≡ false
-  pub first-end-too-far : edge-in-range (wall-of false zero32 any outside corner-of-the-range) ≡ false
-  pub second-end-too-far : edge-in-range (wall-of false zero32 any corner-of-the-range outside) ≡ false
-  pub ghosts-of-two-sided : edge-in-range (wall-of false zero32 any corner-of-the-range corner-of-the-range) ≡ true
-  pub ghosts-of-one-sided : edge-in-range (wall-of true zero32 outside corner-of-the-range corner-of-the-range) ≡ false
+  pub wall-at-the-limits : edge-in-range (wall-of true shape-limit farthest farthest farthest) ≡ true
+  pub wall-radius-below-zero : edge-in-range (wall-of false (neg shape-limit) any farthest farthest) ≡ false
+  pub first-end-too-far : edge-in-range (wall-of false zero32 any outside farthest) ≡ false
+  pub second-end-too-far : edge-in-range (wall-of false zero32 any farthest outside) ≡ false
+  pub ghosts-of-two-sided : edge-in-range (wall-of false zero32 any farthest farthest) ≡ true
+  pub ghosts-of-one-sided : edge-in-range (wall-of true zero32 outside farthest farthest) ≡ false
 
 pub range-cases : (any : B2vec2) → RangeCases any
 unfolding circle-in-range edge-in-range point-in-range radius-in-range neg le ofBits

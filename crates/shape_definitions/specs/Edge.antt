@@ -1,5 +1,5 @@
--- Walls, b2_set_one_sided and b2_set_two_sided: the radius is kept, and by the second the ghost points too. Refusal 2. And which numbers
--- of a given wall a call takes (document 01, "Ranges"). Definitions only.
+-- Walls, b2_set_one_sided and b2_set_two_sided: the radius is kept, and by the second the ghost points too. Refusal 2.
+-- And which numbers of a given wall a call takes (document 01, "Ranges"). Definitions only.
 use mathlib.Core.Bool.{Bool, true, false, not, cond, _&&_, _||_}
 use Rattle.floats.specs.declared.b2_math.B2vec2.{B2vec2}
 use Rattle.floats.specs.Ranges.{point-in-range, radius-in-range}
@@ -25,11 +25,13 @@ wall-refused old = record { refusal = shape-out-of-range; shape = old }
 
 unfoldable pub b2-set-one-sided : B2edgeShape → B2vec2 → B2vec2 → B2vec2 → B2vec2 → EdgeAnswer
 b2-set-one-sided old v0 v1 v2 v3 =
-    cond (point-in-range v0 && point-in-range v1 && point-in-range v2 && point-in-range v3) (wall old true v0 v1 v2 v3) (wall-refused old)
+    cond (point-in-range v0 && point-in-range v1 && point-in-range v2 && point-in-range v3)
+    (wall old true v0 v1 v2 v3) (wall-refused old)
 
 unfoldable pub b2-set-two-sided : B2edgeShape → B2vec2 → B2vec2 → EdgeAnswer
 b2-set-two-sided old v1 v2 =
-    cond (point-in-range v1 && point-in-range v2) (wall old false (old .«m_vertex0») v1 v2 (old .«m_vertex3»)) (wall-refused old)
+    cond (point-in-range v1 && point-in-range v2)
+    (wall old false (old .«m_vertex0») v1 v2 (old .«m_vertex3»)) (wall-refused old)
 
 -- ghost points count only where the wall is one-sided
 unfoldable pub edge-in-range : B2edgeShape → Bool

@@ -17,7 +17,8 @@ both-after false y z then holds = holds
 module _ (test : B2vec2 → Bool) where
   all-append : (l m : List B2vec2) → all-points test (l ++ m) ≡ all-points test l && all-points test m
   all-append [] m = refl
-  all-append (a ∷ l) m = ap (λ (t : Bool). test a && t) (all-append l m) ∙ sym (and-assoc (test a) (all-points test l) (all-points test m))
+  all-append (a ∷ l) m =
+      ap (λ (t : Bool). test a && t) (all-append l m) ∙ sym (and-assoc (test a) (all-points test l) (all-points test m))
 
   -- place from + j is tested
   pub one-more : (ps : List B2vec2) (from j : ℕ) (d : B2vec2) (ok z : Bool) → from + j < length ps
@@ -34,10 +35,12 @@ module _ (test : B2vec2 → Bool) where
   all-first : (l : List B2vec2) (n : ℕ) → all-points test l ≡ true → all-points test (take n l) ≡ true
   all-first l zero holds = refl
   all-first [] (suc n) holds = refl
-  all-first (a ∷ l) (suc n) holds = both-after (test a) (all-points test l) (all-points test (take n l)) (all-first l n) holds
+  all-first (a ∷ l) (suc n) holds =
+      both-after (test a) (all-points test l) (all-points test (take n l)) (all-first l n) holds
 
   -- the first four of at least n
-  pub first-four : (ps : List B2vec2) (n : ℕ) → n ≤ 4 → all-points test (take 4 ps) ≡ true → true ≡ all-points test (take n ps)
+  pub first-four : (ps : List B2vec2) (n : ℕ) → n ≤ 4 → all-points test (take 4 ps) ≡ true
+      → true ≡ all-points test (take n ps)
   first-four ps n few holds = sym (ap (all-points test) (sym (take-take n 4 ps few)) ∙ all-first (take 4 ps) n holds)
 
   -- the first four and the last four of eight
@@ -50,5 +53,6 @@ module _ (test : B2vec2 → Bool) where
       sym (all-first ps n all)
 
   -- every place has been passed
-  pub all-passed : (l : List B2vec2) (i : ℕ) → length l ≤ i → all-points test (drop i l) ≡ all-points test l → true ≡ all-points test l
+  pub all-passed : (l : List B2vec2) (i : ℕ) → length l ≤ i → all-points test (drop i l) ≡ all-points test l
+      → true ≡ all-points test l
   all-passed l i past so-far = sym (ap (all-points test) (drop-of-length-le l past)) ∙ so-far

@@ -1,5 +1,6 @@
-// Whether the numbers of an outline are in their ranges. Four neighbouring places are tested at once: the first four always and, above
-// a count of 4, the last four. Only where that fails are the places below the count told from those past it.
+// Whether the numbers of an outline are in their ranges. Four neighbouring places are tested at once: the first four
+// always and, above a count of 4, the last four. Only where that fails are the places below the count told from those
+// past it.
 ghost use mathlib.Core.Path.{_≡_};
 ghost use Prim.Native.Nat.{_≤_};
 ghost use lib.ListN.{take, drop};

@@ -87,9 +87,11 @@ module _ (vs : List B2vec2) (count i : ℕ) where
   ]
 
 -- from the corners that the code reads
-pub right-is : (vs : List B2vec2) (count i j next : ℕ) (p q v e : B2vec2) (here : Bool) → p ≡ point-at vs i → next ≡ place-after count i
-    → q ≡ point-at vs next → e ≡ b2-sub q p → v ≡ point-at vs j → here ≡ lt (b2-cross e (b2-sub v p)) zero32 → here ≡ right-at vs count i j
-right-is vs count i j next p q v e here p-is next-is q-is e-is v-is here-is = rw (here-is, e-is, q-is, p-is, v-is, next-is) refl
+pub right-is : (vs : List B2vec2) (count i j next : ℕ) (p q v e : B2vec2) (here : Bool) → p ≡ point-at vs i
+    → next ≡ place-after count i → q ≡ point-at vs next → e ≡ b2-sub q p → v ≡ point-at vs j
+    → here ≡ lt (b2-cross e (b2-sub v p)) zero32 → here ≡ right-at vs count i j
+right-is vs count i j next p q v e here p-is next-is q-is e-is v-is here-is =
+    rw (here-is, e-is, q-is, p-is, v-is, next-is) refl
 
 -- ---- faces
 pub joined-faces : (vs : List B2vec2) (xs ys : List Float) (count : ℕ) → xs ≡ map (λ v. v .x) vs

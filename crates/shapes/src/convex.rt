@@ -1,5 +1,5 @@
-// The parts of the convexity test: whether a corner lies right of a face, by the rounded cross product. The corners are given by their
-// coordinates, and all eight places are read at every face, so that the compiler can take them at once.
+// The parts of the convexity test: whether a corner lies right of a face, by the rounded cross product. The corners are
+// given by their coordinates, and all eight places are read at every face, so that the compiler can take them at once.
 ghost use mathlib.Core.Path.{_≡_};
 ghost use mathlib.Core.Bool.{not};
 ghost use mathlib.Core.List.{map, zipWith};

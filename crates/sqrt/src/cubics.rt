@@ -1,7 +1,8 @@
-// The cubics of which the root makes its candidates: Chebyshev interpolations of the root on 32 segments, 16 of them between one power
-// of two and the next. `tests/cubics` prints the table. Nothing is proved of its numbers.
+// The cubics of which the root makes its candidates: Chebyshev interpolations of the root on 32 segments, 16 of them
+// between one power of two and the next. `tests/cubics` prints the table. Nothing is proved of its numbers.
 
-// A root at t below the end of a segment, with 9 digits right of the point: 2^32 + 64 + a - b t 2^-23 - c t² 2^-47 - d t³ 2^-71.
+// A root at t below the end of a segment, with 9 digits right of the point:
+// 2^32 + 64 + a - b t 2^-23 - c t² 2^-47 - d t³ 2^-71.
 pub struct Cubic {
     pub a: u32,
     pub b: u32,

@@ -9,7 +9,10 @@ returns : tie.Need-returns
 returns c = search needs
 
 points-requires : tie.Need-points-requires
-points-requires c κs = ⊎-elim (λ w. let read = w .1 in (omega arith, omega arith)) (λ w. let read = w .1 in (omega arith, omega arith)) (c .if2 .came)
+points-requires c κs =
+    ⊎-elim (λ w. let read = w .1 in (omega arith, omega arith))
+    (λ w. let read = w .1 in (omega arith, omega arith))
+    (c .if2 .came)
 
 empty-outline-requires : tie.Need-empty-outline-requires
 empty-outline-requires c κs = search needs

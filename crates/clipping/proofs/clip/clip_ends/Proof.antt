@@ -1,6 +1,7 @@
 -- By the tests of the two distances: what is left, over the places. Assumes nothing.
 use mathlib.Core.Path.{refl}
-use Rattle.contact_definitions.proofs.Clipping.{both-left, first-and-crossing, first-left, second-and-crossing, second-left, none-left}
+use Rattle.contact_definitions.proofs.Clipping.{both-left, first-and-crossing, first-left, second-and-crossing}
+use Rattle.contact_definitions.proofs.Clipping.{second-left, none-left}
 use Rattle.clipping.proofs.Ends.{two-left, one-left, nothing-left}
 use borrow.Author.Needs.{needs}
 use Rattle.clipping.proofs.clip.clip_ends.Statement.{statement}
@@ -20,101 +21,114 @@ clip-distance-requires-2 c κs = search needs
 
 returns : tie.Need-returns
 returns c =
-    let if1′ = c .before .if1 in
-    let clip-distance2′ = c .before .before .clip-distance2 in
-    let clip-distance′ = c .before .before .before .clip-distance in
-    let args′ = c .before .before .before .before .before .before .args in
-    let good′ = c .before .before .before .before .before .before .good in
-    let vs = args′ .t2 in
-    let vs-two = good′ .1 .0 .1 .0 .1 in
-    let out-two = good′ .0 .1 .0 .1 in
-    two-left vs _ vs-two (args′ .n) (args′ .offset) (args′ .index) _ _ (clip-distance′ .ensures) (clip-distance2′ .ensures)
-    (args′ .t1) out-two _ _ _ refl (both-left _ _ _ _ _ (if1′ .taken) (c .if2 .taken))
+    let if1 = c .before .if1 in
+    let clip-distance2 = c .before .before .clip-distance2 in
+    let clip-distance = c .before .before .before .clip-distance in
+    let args = c .before .before .before .before .before .before .args in
+    let good = c .before .before .before .before .before .before .good in
+    let vs = args .t2 in
+    let vs-two = good .1 .0 .1 .0 .1 in
+    let out-two = good .0 .1 .0 .1 in
+    two-left vs _ vs-two (args .n) (args .offset) (args .index) _ _ (clip-distance .ensures) (clip-distance2 .ensures)
+    (args .t1) out-two _ _ _ refl (both-left _ _ _ _ _ (if1 .taken) (c .if2 .taken))
 
 cut-requires : tie.Need-cut-requires
 cut-requires c κs = search needs
 
 returns-2 : tie.Need-returns-2
 returns-2 c =
-    let if3′ = c .before .if3 in
-    let if2′ = c .before .before .if2 in
-    let if1′ = c .before .before .before .if1 in
-    let clip-distance2′ = c .before .before .before .before .clip-distance2 in
-    let clip-distance′ = c .before .before .before .before .before .clip-distance in
-    let args′ = c .before .before .before .before .before .before .before .before .args in
-    let good′ = c .before .before .before .before .before .before .before .before .good in
-    let vs = args′ .t2 in
-    let vs-two = good′ .1 .0 .1 .0 .1 in
-    let out-two = good′ .0 .1 .0 .1 in
-    two-left vs _ vs-two (args′ .n) (args′ .offset) (args′ .index) _ _ (clip-distance′ .ensures) (clip-distance2′ .ensures)
-    (args′ .t1) out-two _ _ _ (c .cut .ensures) (first-and-crossing _ _ _ _ _ (if1′ .taken) (if2′ .left) (if3′ .taken))
+    let if3 = c .before .if3 in
+    let if2 = c .before .before .if2 in
+    let at-if1 = c .before .before .before in
+    let if1 = at-if1 .if1 in
+    let clip-distance2 = at-if1 .before .clip-distance2 in
+    let at-clip-distance = at-if1 .before .before in
+    let clip-distance = at-clip-distance .clip-distance in
+    let at-args = at-clip-distance .before .before .before in
+    let args = at-args .args in
+    let good = at-args .good in
+    let vs = args .t2 in
+    let vs-two = good .1 .0 .1 .0 .1 in
+    let out-two = good .0 .1 .0 .1 in
+    two-left vs _ vs-two (args .n) (args .offset) (args .index) _ _ (clip-distance .ensures) (clip-distance2 .ensures)
+    (args .t1) out-two _ _ _ (c .cut .ensures) (first-and-crossing _ _ _ _ _ (if1 .taken) (if2 .left) (if3 .taken))
 
 array-copy-out-o : tie.Need-array-copy-out-o
 array-copy-out-o c = search needs
 
 returns-3 : tie.Need-returns-3
 returns-3 c =
-    let if3′ = c .before .if3 in
-    let if2′ = c .before .before .if2 in
-    let if1′ = c .before .before .before .if1 in
-    let clip-distance2′ = c .before .before .before .before .clip-distance2 in
-    let clip-distance′ = c .before .before .before .before .before .clip-distance in
-    let args′ = c .before .before .before .before .before .before .before .before .args in
-    let good′ = c .before .before .before .before .before .before .before .before .good in
-    let vs = args′ .t2 in
-    let vs-two = good′ .1 .0 .1 .0 .1 in
-    let out-two = good′ .0 .1 .0 .1 in
-    one-left vs _ vs-two (args′ .n) (args′ .offset) (args′ .index) _ _ (clip-distance′ .ensures) (clip-distance2′ .ensures)
-    (args′ .t1) out-two _ _ (first-left _ _ _ _ _ (if1′ .taken) (if2′ .left) (if3′ .left))
+    let if3 = c .before .if3 in
+    let if2 = c .before .before .if2 in
+    let at-if1 = c .before .before .before in
+    let if1 = at-if1 .if1 in
+    let clip-distance2 = at-if1 .before .clip-distance2 in
+    let at-clip-distance = at-if1 .before .before in
+    let clip-distance = at-clip-distance .clip-distance in
+    let at-args = at-clip-distance .before .before .before in
+    let args = at-args .args in
+    let good = at-args .good in
+    let vs = args .t2 in
+    let vs-two = good .1 .0 .1 .0 .1 in
+    let out-two = good .0 .1 .0 .1 in
+    one-left vs _ vs-two (args .n) (args .offset) (args .index) _ _ (clip-distance .ensures) (clip-distance2 .ensures)
+    (args .t1) out-two _ _ (first-left _ _ _ _ _ (if1 .taken) (if2 .left) (if3 .left))
 
 cut-requires-2 : tie.Need-cut-requires-2
 cut-requires-2 c κs = search needs
 
 returns-4 : tie.Need-returns-4
 returns-4 c =
-    let if5′ = c .before .if5 in
-    let if4′ = c .before .before .if4 in
-    let if1′ = c .before .before .before .if1 in
-    let clip-distance2′ = c .before .before .before .before .clip-distance2 in
-    let clip-distance′ = c .before .before .before .before .before .clip-distance in
-    let args′ = c .before .before .before .before .before .before .before .before .args in
-    let good′ = c .before .before .before .before .before .before .before .before .good in
-    let vs = args′ .t2 in
-    let vs-two = good′ .1 .0 .1 .0 .1 in
-    let out-two = good′ .0 .1 .0 .1 in
-    two-left vs _ vs-two (args′ .n) (args′ .offset) (args′ .index) _ _ (clip-distance′ .ensures) (clip-distance2′ .ensures)
-    (args′ .t1) out-two _ _ _ (c .cut2 .ensures) (second-and-crossing _ _ _ _ _ (if1′ .left) (if4′ .taken) (if5′ .taken))
+    let if5 = c .before .if5 in
+    let if4 = c .before .before .if4 in
+    let at-if1 = c .before .before .before in
+    let if1 = at-if1 .if1 in
+    let clip-distance2 = at-if1 .before .clip-distance2 in
+    let at-clip-distance = at-if1 .before .before in
+    let clip-distance = at-clip-distance .clip-distance in
+    let at-args = at-clip-distance .before .before .before in
+    let args = at-args .args in
+    let good = at-args .good in
+    let vs = args .t2 in
+    let vs-two = good .1 .0 .1 .0 .1 in
+    let out-two = good .0 .1 .0 .1 in
+    two-left vs _ vs-two (args .n) (args .offset) (args .index) _ _ (clip-distance .ensures) (clip-distance2 .ensures)
+    (args .t1) out-two _ _ _ (c .cut2 .ensures) (second-and-crossing _ _ _ _ _ (if1 .left) (if4 .taken) (if5 .taken))
 
 array-copy-out-o-2 : tie.Need-array-copy-out-o-2
 array-copy-out-o-2 c = search needs
 
 returns-5 : tie.Need-returns-5
 returns-5 c =
-    let if5′ = c .before .if5 in
-    let if4′ = c .before .before .if4 in
-    let if1′ = c .before .before .before .if1 in
-    let clip-distance2′ = c .before .before .before .before .clip-distance2 in
-    let clip-distance′ = c .before .before .before .before .before .clip-distance in
-    let args′ = c .before .before .before .before .before .before .before .before .args in
-    let good′ = c .before .before .before .before .before .before .before .before .good in
-    let vs = args′ .t2 in
-    let vs-two = good′ .1 .0 .1 .0 .1 in
-    let out-two = good′ .0 .1 .0 .1 in
-    one-left vs _ vs-two (args′ .n) (args′ .offset) (args′ .index) _ _ (clip-distance′ .ensures) (clip-distance2′ .ensures)
-    (args′ .t1) out-two _ _ (second-left _ _ _ _ _ (if1′ .left) (if4′ .taken) (if5′ .left))
+    let if5 = c .before .if5 in
+    let if4 = c .before .before .if4 in
+    let at-if1 = c .before .before .before in
+    let if1 = at-if1 .if1 in
+    let clip-distance2 = at-if1 .before .clip-distance2 in
+    let at-clip-distance = at-if1 .before .before in
+    let clip-distance = at-clip-distance .clip-distance in
+    let at-args = at-clip-distance .before .before .before in
+    let args = at-args .args in
+    let good = at-args .good in
+    let vs = args .t2 in
+    let vs-two = good .1 .0 .1 .0 .1 in
+    let out-two = good .0 .1 .0 .1 in
+    one-left vs _ vs-two (args .n) (args .offset) (args .index) _ _ (clip-distance .ensures) (clip-distance2 .ensures)
+    (args .t1) out-two _ _ (second-left _ _ _ _ _ (if1 .left) (if4 .taken) (if5 .left))
 
 returns-6 : tie.Need-returns-6
 returns-6 c =
-    let if1′ = c .before .if1 in
-    let clip-distance2′ = c .before .before .clip-distance2 in
-    let clip-distance′ = c .before .before .before .clip-distance in
-    let args′ = c .before .before .before .before .before .before .args in
-    let good′ = c .before .before .before .before .before .before .good in
-    let vs = args′ .t2 in
-    let vs-two = good′ .1 .0 .1 .0 .1 in
-    let out-two = good′ .0 .1 .0 .1 in
-    nothing-left vs _ vs-two (args′ .n) (args′ .offset) (args′ .index) _ _ (clip-distance′ .ensures) (clip-distance2′ .ensures)
-    (args′ .t1) out-two (none-left _ _ _ _ _ (if1′ .left) (c .if4 .left))
+    let if1 = c .before .if1 in
+    let clip-distance2 = c .before .before .clip-distance2 in
+    let clip-distance = c .before .before .before .clip-distance in
+    let args = c .before .before .before .before .before .before .args in
+    let good = c .before .before .before .before .before .before .good in
+    let vs = args .t2 in
+    let vs-two = good .1 .0 .1 .0 .1 in
+    let out-two = good .0 .1 .0 .1 in
+    nothing-left vs _ vs-two (args .n) (args .offset) (args .index) _ _ (clip-distance .ensures)
+    (clip-distance2 .ensures)
+    (args .t1) out-two (none-left _ _ _ _ _ (if1 .left) (c .if4 .left))
 
 pub clip-ends-spec : {M : Type 1} → statement M
 clip-ends-spec =

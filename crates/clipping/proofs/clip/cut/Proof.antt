@@ -19,9 +19,9 @@ cast-t12 c = search needs
 returns : tie.Need-returns
 unfolding crossing
 returns c =
-    let b2-scale′ = c .before .b2-scale in
-    let b2-sub′ = c .before .before .b2-sub in
-    simp (c .b2-add .ensures, b2-scale′ .ensures, b2-sub′ .ensures)
+    let b2-scale = c .before .b2-scale in
+    let b2-sub = c .before .before .b2-sub in
+    simp (c .b2-add .ensures, b2-scale .ensures, b2-sub .ensures)
 
 pub cut-spec : {M : Type 1} → statement M
 cut-spec = tie.close (tie.spec b2-sub-requires b2-scale-requires b2-add-requires cast-t12 returns)

@@ -1,7 +1,4 @@
 -- One point over the first place; the second stays. Assumes nothing.
-use mathlib.Core.Path.{_≡_, ap}
-use mathlib.Core.List.{List}
-use Rattle.contact_definitions.specs.declared.b2_collision.B2manifoldPoint.{B2manifoldPoint}
 use Rattle.contact_definitions.specs.Manifold.{with-local-point, with-one-point}
 use lib.ListN.{length-map}
 use Rattle.clipping.proofs.Points.{with-first}
@@ -18,11 +15,11 @@ element-copy-out-p1 c = search needs
 returns : tie.Need-returns
 unfolding with-one-point with-local-point
 returns c =
-    let args′ = c .before .before .args in
-    let good′ = c .before .before .good in
-    let m = args′ .t1 in
-    let m-two = simp length-map at (good′ .0 .1 .1 .0 .1 .0 .1) in
-    with-first m _ (args′ .t) _ _ (args′ .centre) _ m-two
+    let args = c .before .before .args in
+    let good = c .before .before .good in
+    let m = args .t1 in
+    let m-two = simp length-map at (good .0 .1 .1 .0 .1 .0 .1) in
+    with-first m _ (args .t) _ _ (args .centre) _ m-two
 
 pub circle-point-spec : {M : Type 1} → statement M
 circle-point-spec = tie.close (tie.spec element-copy-out-p element-copy-out-p1 returns)

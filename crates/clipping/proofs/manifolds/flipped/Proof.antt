@@ -8,8 +8,8 @@ swapped-requires c κs = search needs
 
 returns : tie.Need-returns
 returns c =
-    let if1′ = c .before .if1 in
-    simp (c .swapped .ensures, if1′ .taken)
+    let if1 = c .before .if1 in
+    simp (c .swapped .ensures, if1 .taken)
 
 returns-2 : tie.Need-returns-2
 returns-2 c = simp (c .if1 .left)

@@ -1,5 +1,4 @@
 -- The kind is its own. Assumes nothing.
-use mathlib.Core.Path.{_∙_, refl}
 use Rattle.contact_definitions.specs.Manifold.{with-count, with-kind}
 use borrow.Author.Needs.{needs}
 use Rattle.clipping.proofs.manifolds.no_points.Statement.{statement}

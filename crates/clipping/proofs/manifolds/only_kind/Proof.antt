@@ -1,6 +1,4 @@
 -- The kind by the flag. Assumes nothing.
-use mathlib.Core.Path.{_∙_, ap}
-use Rattle.contact_definitions.specs.Manifold.{with-count, with-kind}
 use borrow.Author.Needs.{needs}
 use Rattle.clipping.proofs.manifolds.only_kind.Statement.{statement}
 use Rattle.clipping.proofs.manifolds.only_kind.Tie as tie
@@ -13,8 +11,8 @@ made-anew-requires c κs = search needs
 
 returns : tie.Need-returns
 returns c =
-    let kind-of′ = c .before .kind-of in
-    simp (c .made-anew .ensures, kind-of′ .ensures)
+    let kind-of = c .before .kind-of in
+    simp (c .made-anew .ensures, kind-of .ensures)
 
 pub only-kind-spec : {M : Type 1} → statement M
 only-kind-spec = tie.close (tie.spec kind-of-requires made-anew-requires returns)

@@ -29,7 +29,8 @@ unfolding edge-in-range
 returns c =
     let v2 = c .before in
     let v1 = v2 .before in
-    first-fails _ _ _ (ap₂ _&&_ (ap₂ _&&_ (v1 .before .radius-in-range .ensures) (v1 .point-in-range .ensures)) (v2 .point-in-range2 .ensures))
+    first-fails _ _ _ (ap₂ _&&_ (ap₂ _&&_ (v1 .before .radius-in-range .ensures) (v1 .point-in-range .ensures))
+    (v2 .point-in-range2 .ensures))
     (c .if1 .taken)
 
 point-in-range-requires-3 : tie.Need-point-in-range-requires-3
@@ -47,7 +48,8 @@ returns-2 c =
     let v1 = v2 .before in
     ap₂ _&&_ (c .before .point-in-range3 .ensures) (c .point-in-range4 .ensures)
     ∙ ghosts-count _ _ (one-sided .if2 .taken)
-    ∙ first-holds _ _ _ (ap₂ _&&_ (ap₂ _&&_ (v1 .before .radius-in-range .ensures) (v1 .point-in-range .ensures)) (v2 .point-in-range2 .ensures))
+    ∙ first-holds _ _ _ (ap₂ _&&_ (ap₂ _&&_ (v1 .before .radius-in-range .ensures) (v1 .point-in-range .ensures))
+    (v2 .point-in-range2 .ensures))
     (tested .if1 .left)
 
 returns-3 : tie.Need-returns-3
@@ -58,7 +60,8 @@ returns-3 c =
     let v1 = v2 .before in
     let shape = v1 .before .before .args .shape in
     ghosts-pass _ (point-in-range (shape .«m_vertex0») && point-in-range (shape .«m_vertex3»)) (c .if2 .left)
-    ∙ first-holds _ _ _ (ap₂ _&&_ (ap₂ _&&_ (v1 .before .radius-in-range .ensures) (v1 .point-in-range .ensures)) (v2 .point-in-range2 .ensures))
+    ∙ first-holds _ _ _ (ap₂ _&&_ (ap₂ _&&_ (v1 .before .radius-in-range .ensures) (v1 .point-in-range .ensures))
+    (v2 .point-in-range2 .ensures))
     (tested .if1 .left)
 
 pub edge-in-range-spec : {M : Type 1} → statement M

@@ -29,8 +29,9 @@ returns : tie.Need-returns Inv-loop μ-loop
 returns c =
     let loop = c .before .before in
     let start = loop .before in
-    let few : length (take (start .args .n) (start .args .t2)) ≤ start .args .n = simp length-take (min-le-left _ _) in
-    all-passed (vec2-within (start .args .limit)) (take (start .args .n) (start .args .t2)) (loop .loop .i) (omega arith) (loop .loop .inv .2)
+    let first = take (start .args .n) (start .args .t2) in
+    let few : length first ≤ start .args .n = simp length-take (min-le-left _ _) in
+    all-passed (vec2-within (start .args .limit)) first (loop .loop .i) (omega arith) (loop .loop .inv .2)
 
 mul-vec2-within : tie.Need-mul-vec2-within Inv-loop μ-loop
 mul-vec2-within c = search needs
@@ -81,8 +82,9 @@ returns-3 c =
     let loop = c .before in
     let start = loop .before in
     let size = loop .loop .inv .1 in
-    let few : length (take (start .args .n) (start .args .t2)) ≤ length (start .args .t2) = simp length-take (min-le-right _ _) in
-    all-passed (vec2-within (start .args .limit)) (take (start .args .n) (start .args .t2)) (loop .loop .i) (omega arith) (loop .loop .inv .2)
+    let first = take (start .args .n) (start .args .t2) in
+    let few : length first ≤ length (start .args .t2) = simp length-take (min-le-right _ _) in
+    all-passed (vec2-within (start .args .limit)) first (loop .loop .i) (omega arith) (loop .loop .inv .2)
 
 pub counted-within-spec : {M : Type 1} → statement M
 counted-within-spec =

@@ -47,8 +47,8 @@ loop-again c =
       omega arith,
       omega arith,
       size,
-      one-more (vec2-within (start .args .limit)) (start .args .t2) (start .args .from) (loop .loop .j) _ _ _ (omega arith) (inv .3)
-          (c .vec2-within .ensures),
+      one-more (vec2-within (start .args .limit)) (start .args .t2) (start .args .from) (loop .loop .j) _ _ _
+          (omega arith) (inv .3) (c .vec2-within .ensures),
     )
 
 returns : tie.Need-returns Inv-loop μ-loop
@@ -56,7 +56,8 @@ returns c =
     let loop = c .before in
     let start = loop .before in
     let all : loop .loop .j ≡ 4 = omega arith in
-    loop .loop .inv .3 ∙ ap (λ (k : ℕ). all-points (vec2-within (start .args .limit)) (take k (drop (start .args .from) (start .args .t2)))) all
+    let rest = drop (start .args .from) (start .args .t2) in
+    loop .loop .inv .3 ∙ ap (λ (k : ℕ). all-points (vec2-within (start .args .limit)) (take k rest)) all
 
 pub four-within-spec : {M : Type 1} → statement M
 four-within-spec =

@@ -13,7 +13,8 @@ returns : tie.Need-returns
 returns c =
     let first = c .before .before in
     let args = first .before .args in
-    first-four (vec2-within (args .limit)) (args .ps) (args .n) (c .if2 .taken) (sym (first .four-within .ensures) ∙ c .before .if1 .taken)
+    first-four (vec2-within (args .limit)) (args .ps) (args .n) (c .if2 .taken)
+    (sym (first .four-within .ensures) ∙ c .before .if1 .taken)
 
 four-within-requires-2 : tie.Need-four-within-requires-2
 four-within-requires-2 c κs = search needs

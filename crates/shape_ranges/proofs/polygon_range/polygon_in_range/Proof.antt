@@ -20,7 +20,8 @@ unfolding polygon-in-range point-in-range normal-in-range
 returns c =
     let centroid = c .before in
     fails-before _ _
-    (first-fails _ _ _ (ap₂ _&&_ (centroid .before .radius-in-range .ensures) (centroid .point-in-range .ensures)) (c .if1 .taken))
+    (first-fails _ _ _ (ap₂ _&&_ (centroid .before .radius-in-range .ensures)
+    (centroid .point-in-range .ensures)) (c .if1 .taken))
 
 points-within-requires : tie.Need-points-within-requires
 points-within-requires c κs = search needs
@@ -33,7 +34,8 @@ returns-2 c =
     let centroid = tested .before in
     fails-before _ _
     (sym (not-true _ (c .if2 .taken)) ∙ vertices .points-within .ensures
-    ∙ first-holds _ _ _ (ap₂ _&&_ (centroid .before .radius-in-range .ensures) (centroid .point-in-range .ensures)) (tested .if1 .left))
+    ∙ first-holds _ _ _ (ap₂ _&&_ (centroid .before .radius-in-range .ensures)
+    (centroid .point-in-range .ensures)) (tested .if1 .left))
 
 points-within-requires-2 : tie.Need-points-within-requires-2
 points-within-requires-2 c κs = search needs
@@ -46,7 +48,8 @@ returns-3 c =
     let centroid = tested .before in
     c .points-within2 .ensures
     ∙ first-holds _ _ _ (vertices .points-within .ensures
-    ∙ first-holds _ _ _ (ap₂ _&&_ (centroid .before .radius-in-range .ensures) (centroid .point-in-range .ensures)) (tested .if1 .left))
+    ∙ first-holds _ _ _ (ap₂ _&&_ (centroid .before .radius-in-range .ensures)
+    (centroid .point-in-range .ensures)) (tested .if1 .left))
     (c .before .if2 .left)
 
 pub polygon-in-range-spec : {M : Type 1} → statement M

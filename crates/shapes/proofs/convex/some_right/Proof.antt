@@ -37,7 +37,8 @@ loop-holds : tie.Need-loop-holds Inv-loop μ-loop
 unfolding corners-not-right
 loop-holds c =
     let start = c .before .before .before .before in
-    (omega arith, start .pre .2, start .pre .3, omega arith, simp (min-eq-left {n = 0} {m = start .args .count} (omega arith)))
+    let none = min-eq-left {n = 0} {m = start .args .count} (omega arith) in
+    (omega arith, start .pre .2, start .pre .3, omega arith, simp none)
 
 corner-requires-3 : tie.Need-corner-requires-3 Inv-loop μ-loop
 corner-requires-3 c κs = search needs

@@ -1,0 +1,3 @@
+// The axis search of two outlines: the face of either that keeps the other off most.
+pub mod b2_collide_polygon;
+pub mod rows;

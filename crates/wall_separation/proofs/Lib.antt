@@ -1,0 +1,4 @@
+pub mod Filled
+pub mod Scans
+pub mod EdgeSide
+pub mod FaceScan

@@ -1,0 +1,92 @@
+-- What both scans keep from here is what they keep of all places. Assumes nothing.
+use mathlib.Core.Path.{_≡_}
+use Prim.Native.Nat.{ℕ, _≤_, _-_}
+use lib.Ieee.{Float}
+use lib.ListN.{length}
+use native.Mathlib.Omega.{arith}
+use Rattle.contact_definitions.specs.Searches.{below-value, least}
+use Rattle.wall_separation.specs.Rows.{Row}
+use Rattle.wall_separation.proofs.Scans.{scanned-from, scanned-ended, least-begun, least-next}
+use borrow.Author.Needs.{needs}
+use Rattle.wall_separation.proofs.edge_separation.least_of.Statement.{statement}
+use Rattle.wall_separation.proofs.edge_separation.least_of.Tie as tie
+
+abbrev Inv-loop : tie.InvT-loop
+Inv-loop f b count front₀ back₀ i₀ front back i =
+    (i ≤ count) × (count ≤ 8) × (length f ≡ 8) × (length b ≡ 8)
+    × ((ahead behind : ℕ → Float) → Row ahead count f → Row behind count b
+    → (scanned-from below-value ahead front i count ≡ least ahead count) × (scanned-from below-value behind back i count ≡ least behind count))
+
+abbrev μ-loop : tie.MeasureT-loop
+μ-loop f b count front₀ back₀ i₀ front back i = count - i
+
+loop-holds : tie.Need-loop-holds Inv-loop μ-loop
+loop-holds c = (omega arith, omega arith, c .pre .1, c .pre .2, λ ahead behind f b. (least-begun ahead _, least-begun behind _))
+
+mul-lesser : tie.Need-mul-lesser Inv-loop μ-loop
+mul-lesser c = search needs
+
+element-copy-out-lesser : tie.Need-element-copy-out-lesser Inv-loop μ-loop
+element-copy-out-lesser c = search needs
+
+lesser-requires : tie.Need-lesser-requires Inv-loop μ-loop
+lesser-requires c κs = search needs
+
+mul-lesser-2 : tie.Need-mul-lesser-2 Inv-loop μ-loop
+mul-lesser-2 c = search needs
+
+element-copy-out-lesser-2 : tie.Need-element-copy-out-lesser-2 Inv-loop μ-loop
+element-copy-out-lesser-2 c = search needs
+
+lesser-requires-2 : tie.Need-lesser-requires-2 Inv-loop μ-loop
+lesser-requires-2 c κs = search needs
+
+add-i : tie.Need-add-i Inv-loop μ-loop
+add-i c = search needs
+
+loop-less : tie.Need-loop-less Inv-loop μ-loop
+loop-less c = search needs
+
+loop-again : tie.Need-loop-again Inv-loop μ-loop
+loop-again c =
+    let lesser′ = c .before .before .lesser in
+    let loop′ = c .before .before .before .before .before .loop in
+    let i = loop′ .i in
+    let inv = loop′ .inv in (
+      omega arith,
+      omega arith,
+      inv .2,
+      inv .3,
+      λ ahead behind f b. (
+        least-next ahead _ _ _ _ i _ (omega arith) (f .at i _ (omega arith)) (lesser′ .ensures) (inv .4 ahead behind f b .0),
+        least-next behind _ _ _ _ i _ (omega arith) (b .at i _ (omega arith)) (c .lesser2 .ensures) (inv .4 ahead behind f b .1),
+      ),
+    )
+
+returns : tie.Need-returns Inv-loop μ-loop
+returns c =
+    let loop′ = c .before .loop in
+    let i = loop′ .i in
+    let inv = loop′ .inv in
+    λ ahead behind f b. (
+      scanned-ended below-value ahead _ _ i _ (omega arith) (inv .4 ahead behind f b .0),
+      scanned-ended below-value behind _ _ i _ (omega arith) (inv .4 ahead behind f b .1),
+    )
+
+pub least-of-spec : {M : Type 1} → statement M
+least-of-spec =
+    tie.close
+    (tie.spec
+    Inv-loop
+    μ-loop
+    loop-holds
+    mul-lesser
+    element-copy-out-lesser
+    lesser-requires
+    mul-lesser-2
+    element-copy-out-lesser-2
+    lesser-requires-2
+    add-i
+    loop-less
+    loop-again
+    returns)

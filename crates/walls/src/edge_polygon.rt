@@ -1,0 +1,198 @@
+// Wall against outline, in the wall's frame: the axis is searched for, and the manifold is that of its reference face.
+ghost use mathlib.Core.Path.{_≡_};
+ghost use mathlib.Core.Bool.{false, _&&_};
+ghost use Prim.Native.Nat.{_<_, _≤_};
+ghost use lib.Ieee.{lt};
+ghost use Rattle.rounding.specs.Literals.{zero32};
+ghost use Rattle.floats.specs.B2Math.{b2-sub, b2-dot, b2-normalize, b2-mul-transform-by-vec2};
+ghost use Rattle.contact_definitions.specs.Axis.{separation-of};
+ghost use Rattle.contact_definitions.specs.Manifold.{with-count};
+ghost use Rattle.contact_definitions.specs.EdgeAxis.{placed-corner, placed-normal, right-of, smoothed-if};
+ghost use Rattle.contact_definitions.specs.EdgeAxis.{b2-compute-edge-separation, edge-polygon-axis};
+ghost use Rattle.contact_definitions.specs.EdgeReference.{edge-manifold-on};
+ghost use Rattle.contact_definitions.specs.B2CollideEdge.{edge-polygon-manifold};
+ghost use Rattle.clipping.specs.Unit.{unit-scale};
+ghost use Rattle.wall_separation.specs.Rows.{PointRows};
+ghost use Rattle.walls.specs.Places.{place-below};
+use clipping::manifolds;
+use contact_definitions::axis::Axis;
+use contact_definitions::b2_collision::B2manifold;
+use floats::b2_math;
+use floats::b2_math::B2Transform;
+use floats::b2_math::B2vec2;
+use shape_definitions::b2_edge_shape::B2edgeShape;
+use shape_definitions::b2_polygon_shape::B2polygonShape;
+use wall_axis::axes;
+use wall_axis::gauss_map;
+use wall_clipping::edge_clipping;
+use wall_reference::edge_reference;
+use wall_separation::edge_separation;
+use wall_separation::polygon_separation;
+use wall_separation::rows;
+
+// The axis is known: the reference face is made of it, and the rest is clipping.
+fn edge_manifold_on(
+    axis: Axis,
+    m: B2manifold,
+    edge: B2edgeShape,
+    edge1: B2vec2,
+    xf: B2Transform,
+    polygon: B2polygonShape,
+    radius: f32,
+    xs: &[f32; 8],
+    ys: &[f32; 8],
+    nxs: &[f32; 8],
+    nys: &[f32; 8],
+) -> B2manifold
+    requires { ⌜ (0 < polygon .«m_count») × (polygon .«m_count» ≤ 8) × place-below (polygon .«m_count») axis
+        × PointRows (placed-corner xf polygon) (polygon .«m_count») (now xs) (now ys)
+        × PointRows (placed-normal xf polygon) (polygon .«m_count») (now nxs) (now nys) ⌝ }
+    ensures { λ r. ⌜ r ≡ edge-manifold-on axis (with-count m 0) edge edge1 xf polygon radius ⌝ }
+{
+    let count = polygon.m_count;
+    let v1 = edge.m_vertex1;
+    let v2 = edge.m_vertex2;
+    let f = match axis {
+        Axis::Apart(s) => {
+            return manifolds::no_points(m);
+        }
+        Axis::FaceA(s, x, y, i) => edge_reference::reference_a(
+            xs,
+            ys,
+            nxs,
+            nys,
+            count,
+            v1,
+            v2,
+            edge1,
+            B2vec2 { x, y },
+        ),
+        Axis::FaceB(s, x, y, i) => {
+            let vb = polygon.m_vertices;
+            let nb = polygon.m_normals;
+            edge_reference::reference_b(xs, ys, nxs, nys, count, v1, v2, i, nb[i], vb[i])
+        }
+    };
+    edge_clipping::reference_manifold(m, f, xf, radius)
+}
+
+// The Gauss map is asked of one-sided walls only.
+fn smoothed_if(edge: B2edgeShape, edge1: B2vec2, edge_axis: Axis, axis: Axis) -> Axis
+    ensures { λ r. ⌜ r ≡ smoothed-if (edge .«m_one_sided») edge edge1 «edge_axis» axis ⌝ }
+{
+    if edge.m_one_sided {
+        return gauss_map::smoothed(edge, edge1, edge_axis, axis);
+    }
+    axis
+}
+
+// The wall's own axis does not keep the outline off: the outline's faces are looked at.
+fn with_faces(
+    m: B2manifold,
+    edge: B2edgeShape,
+    edge1: B2vec2,
+    xf: B2Transform,
+    polygon: B2polygonShape,
+    radius: f32,
+    xs: &[f32; 8],
+    ys: &[f32; 8],
+    n: usize,
+    wall: Axis,
+) -> B2manifold
+    requires { ⌜ (0 < polygon .«m_count») × (polygon .«m_count» ≤ n) × (n ≤ 8)
+        × (wall ≡ b2-compute-edge-separation xf polygon (edge .«m_vertex1») (right-of edge1))
+        × (lt radius (separation-of wall) ≡ false) × PointRows (placed-corner xf polygon) n (now xs) (now ys) ⌝ }
+    ensures { λ r. ⌜ r ≡ edge-manifold-on (edge-polygon-axis radius edge edge1 xf polygon) (with-count m 0) edge edge1 xf polygon radius ⌝ }
+{
+    let count = polygon.m_count;
+    let mut nxs = [0.0f32; 8];
+    let mut nys = [0.0f32; 8];
+    let mut faces = [0.0f32; 8];
+    let ns = polygon.m_normals;
+    polygon_separation::normal_rows(
+        xf.q,
+        ns,
+        xs,
+        ys,
+        n,
+        edge.m_vertex1,
+        edge.m_vertex2,
+        &mut nxs,
+        &mut nys,
+        &mut faces,
+    );
+    let face = polygon_separation::b2_compute_polygon_separation(&faces, &nxs, &nys, count);
+    let axis = smoothed_if(edge, edge1, wall, axes::primary_axis(radius, wall, face));
+    edge_manifold_on(
+        axis,
+        m,
+        edge,
+        edge1,
+        xf,
+        polygon,
+        radius,
+        xs,
+        ys,
+        &nxs,
+        &nys,
+    )
+}
+
+// A vector times the factor that makes it unit.
+fn scaled(e: B2vec2, k: f32) -> B2vec2
+    requires { ⌜ k ≡ unit-scale e ⌝ }
+    ensures { λ r. ⌜ r ≡ b2-normalize e .v ⌝ }
+{
+    B2vec2 {
+        x: e.x * k,
+        y: e.y * k,
+    }
+}
+
+// Whether the outline's centroid lies behind a one-sided wall.
+fn centroid_behind(edge: B2edgeShape, normal1: B2vec2, xf: B2Transform, centroid: B2vec2) -> bool
+    ensures { λ r. ⌜ r ≡ (edge .«m_one_sided»
+        && lt (b2-dot normal1 (b2-sub (b2-mul-transform-by-vec2 xf centroid) (edge .«m_vertex1»))) zero32) ⌝ }
+{
+    if edge.m_one_sided {
+        let c = b2_math::b2_mul_transform_by_vec2(xf, centroid);
+        return b2_math::b2_dot(normal1, b2_math::b2_sub(c, edge.m_vertex1)) < 0.0;
+    }
+    false
+}
+
+// xf carries the outline to the wall's frame; k is the factor that makes the wall's direction unit. It comes from the
+// caller, who takes its root before anything else, since all waits for it.
+pub fn edge_polygon_manifold(
+    m: B2manifold,
+    edge: B2edgeShape,
+    k: f32,
+    xf: B2Transform,
+    polygon: B2polygonShape,
+) -> B2manifold
+    requires { ⌜ (0 < polygon .«m_count») × (polygon .«m_count» ≤ 8)
+        × (k ≡ unit-scale (b2-sub (edge .«m_vertex2») (edge .«m_vertex1»))) ⌝ }
+    ensures { λ r. ⌜ r ≡ edge-polygon-manifold (with-count m 0) edge xf polygon ⌝ }
+{
+    let count = polygon.m_count;
+    let v1 = edge.m_vertex1;
+    let edge1 = scaled(b2_math::b2_sub(edge.m_vertex2, v1), k);
+    let normal1 = B2vec2 {
+        x: edge1.y,
+        y: -edge1.x,
+    };
+    if centroid_behind(edge, normal1, xf, polygon.m_centroid) {
+        return manifolds::no_points(m);
+    }
+    let n = rows::padded(count);
+    let mut xs = [0.0f32; 8];
+    let mut ys = [0.0f32; 8];
+    let vs = polygon.m_vertices;
+    rows::place_rows(xf, vs, n, &mut xs, &mut ys);
+    let radius = polygon.m_radius + edge.m_radius;
+    let wall = edge_separation::b2_compute_edge_separation(&xs, &ys, n, count, v1, normal1);
+    if axes::separation_of(wall) > radius {
+        return manifolds::no_points(m);
+    }
+    with_faces(m, edge, edge1, xf, polygon, radius, &xs, &ys, n, wall)
+}
