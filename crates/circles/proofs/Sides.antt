@@ -128,7 +128,7 @@ module _ (vs ns : List B2vec2) (count : ℕ) (c : B2vec2) (radius : Float) where
       let done = so-far .done in
       let all : i ≡ count = omega arith in
       let best = scanned-all is-greater (valued (out-of-face vs ns c)) (best-at index separation)
-          (first-greatest (out-of-face vs ns c) count) i count (so-far .best-is) past in
+      (first-greatest (out-of-face vs ns c) count) i count (so-far .best-is) past in
       record {
         outside-is = sym (ap (some-below (λ k. lt radius (out-of-face vs ns c k))) (sym all) ∙ so-far .none-out);
         face = λ _. record {
