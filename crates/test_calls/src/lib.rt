@@ -1,8 +1,6 @@
 // The C entry points for tests: every call behind a number, on byte slices.
 ghost use Rattle.wire_records.specs.Words.{Written};
 ghost use Rattle.test_calls.specs.Entries.{root-answer, normalize-answer, answer};
-use contact_entries::pair_entries;
-use contact_entries::point_entries;
 use floats::b2_math;
 use floats::b2_math::B2vec2;
 use floats::bits;
@@ -49,17 +47,16 @@ pub extern "C" fn calls(input: &[u8], out: &mut [u8]) -> u32
     if input.len() < 4 {
         return 0;
     }
-    match words::word(input, 0) {
-        1 => shape_entries::set(input, out),
-        2 => shape_entries::set_as_box(input, out),
-        3 => shape_entries::set_as_box_angle(input, out),
-        4 => shape_entries::validate(input, out),
-        5 => shape_entries::set_one_sided(input, out),
-        6 => shape_entries::set_two_sided(input, out),
-        7 => pair_entries::circles(input, out),
-        14 => point_entries::states(input, out),
+    let entry = words::word(input, 0);
+    match entry {
         15 => root(input, out),
         16 => normalize(input, out),
-        _ => 0,
+        _ => {
+            if entry < 7 {
+                shape_entries::call(entry, input, out)
+            } else {
+                contact_entries::call(entry, input, out)
+            }
+        }
     }
 }

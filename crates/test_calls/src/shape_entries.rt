@@ -3,7 +3,7 @@ ghost use mathlib.Core.Path.{_≡_};
 ghost use Prim.Native.Nat.{_≤_};
 ghost use Rattle.wire_records.specs.Words.{Written};
 ghost use Rattle.test_calls.specs.Entries.{set-answer, box-answer, box-angle-answer, validate-answer};
-ghost use Rattle.test_calls.specs.Entries.{one-sided-answer, two-sided-answer};
+ghost use Rattle.test_calls.specs.Entries.{one-sided-answer, two-sided-answer, shape-answer};
 use lines::fields;
 use shapes::b2_edge_shape;
 use shapes::b2_polygon_shape;
@@ -115,4 +115,19 @@ pub fn set_two_sided(input: &[u8], out: &mut [u8]) -> u32
     let v2 = records::vector(input, 13);
     let answer = b2_edge_shape::b2_set_two_sided(old, v1, v2);
     records::put_edge(out, answer)
+}
+
+// The entry of this number, or 0 where no entry here has it.
+pub fn call(entry: u32, input: &[u8], out: &mut [u8]) -> u32
+    ensures { λ r. ⌜ Written (shape-answer entry (now (input .entry))) (now (out .entry)) r (now (out .exit)) ⌝ }
+{
+    match entry {
+        1 => set(input, out),
+        2 => set_as_box(input, out),
+        3 => set_as_box_angle(input, out),
+        4 => validate(input, out),
+        5 => set_one_sided(input, out),
+        6 => set_two_sided(input, out),
+        _ => 0,
+    }
 }
