@@ -11,6 +11,7 @@ mod compare;
 mod contacts;
 mod floats;
 mod generators;
+mod lent_slice;
 mod malformed;
 mod manifolds;
 mod ranges;
@@ -62,7 +63,6 @@ fn main() {
     let (cases, seed) = (number(0), number(1));
     println!("seed {seed}");
     let mut results = vec![malformed::run(cases, seed)];
-    results.extend(table::SLICE.map(|call| malformed::run_slice(call, cases, seed)));
     for (i, row) in TABLE.iter().enumerate() {
         if compare::REFERENCES + row.ours.is_some() as usize >= 2 {
             results.push(compare::run(row, cases, seed + 1 + i as u64));

@@ -1,7 +1,7 @@
 //! Requests that are no request, under every entry's number and others, and outputs that are too short: 0 words, and
 //! nothing written.
 use crate::row::Row;
-use crate::support::{calls_bytes, coordinates, to_bytes, to_words, Random, Tally};
+use crate::support::{calls_bytes, to_bytes, to_words, Random, Tally};
 use crate::table::TABLE;
 
 const SPOILS: [&str; 10] = [
@@ -128,30 +128,6 @@ pub fn run(cases: u64, seed: u64) -> bool {
         tally.met("any bytes");
     }
     tally.report(&wanted)
-}
-
-/// The lent slice: an old outline that is not 144 bytes, and outputs around the 148 that an answer takes.
-pub fn run_slice(call: fn(&[u8], &[f32], &mut [u8]) -> u32, cases: u64, seed: u64) -> bool {
-    let mut random = Random::new(seed);
-    let mut tally = Tally::new("malformed requests and short outputs, lent slice");
-    for _ in 0..cases {
-        let request = crate::shapes::set_any_count(&mut random);
-        let mut old = to_bytes(&request[1..37]);
-        let (mut room, whole) = (148 + random.below(9) as usize, random.below(3));
-        match whole {
-            1 => old.resize([0, 1, 140, 143, 145, 148, 288][random.below(7) as usize], 7),
-            2 => room = [0, 4, 144, 147][random.below(4) as usize],
-            _ => {}
-        }
-        let mut out: Vec<u8> = (0..room).map(|_| random.next() as u8).collect();
-        let before = out.clone();
-        let count = call(&old, &coordinates(&request), &mut out) as usize;
-        let words = if whole == 0 { 37 } else { 0 };
-        let right = count == words && out[4 * words..] == before[4 * words..];
-        tally.case(right, || format!("{} old bytes, room for {room}: {count} words, not {words}", old.len()));
-        tally.met(["answered", "an old outline of another length", "too short an output"][whole as usize]);
-    }
-    tally.report(&["answered", "an old outline of another length", "too short an output"].map(String::from))
 }
 
 /// Malformed requests in whole words, for tests/stored.

@@ -5,16 +5,6 @@ extern "C" {
     // A `&[u8]` of Rattle is a pointer and a length.
     #[link_name = "calls"]
     fn calls_raw(input: *const u8, input_len: usize, out: *mut u8, out_len: usize) -> u32;
-    // Entry 1 on a lent slice: the old outline's 144 bytes, the points as floats x, y; count is the number of points.
-    #[allow(dead_code)]
-    fn calls_outline_slice(
-        old: *const u8,
-        old_len: usize,
-        points: *const f32,
-        count: usize,
-        out: *mut u8,
-        out_len: usize,
-    ) -> u32;
 }
 
 pub fn to_bytes(words: &[u32]) -> Vec<u8> {
@@ -35,19 +25,6 @@ pub fn calls(request: &[u32]) -> Vec<u32> {
     let mut out = [0u8; 256];
     let count = calls_bytes(&to_bytes(request), &mut out) as usize;
     to_words(&out[..4 * count])
-}
-
-/// The same of the entry that takes points as a lent slice: the old outline's bytes, and coordinates x, y.
-#[allow(dead_code)]
-pub fn slice_bytes(old: &[u8], points: &[f32], out: &mut [u8]) -> u32 {
-    unsafe {
-        calls_outline_slice(old.as_ptr(), old.len(), points.as_ptr(), points.len() / 2, out.as_mut_ptr(), out.len())
-    }
-}
-
-/// The points of a request of entry 1, as coordinates.
-pub fn coordinates(request: &[u32]) -> Vec<f32> {
-    request[38..].iter().map(|w| f32::from_bits(*w)).collect()
 }
 
 /// Words for a comparison: every NaN is one value. Those at the places `plain` are no floats.

@@ -5,20 +5,11 @@ use crate::manifolds;
 use crate::ranges::{EDGE, POLYGON};
 use crate::row::Row;
 use crate::shapes;
-use crate::support::{calls, coordinates, to_bytes, to_words};
+use crate::lent_slice;
+use crate::support::calls;
 
-/// What we do not have yet: entries 7 to 14, `Some(calls)` when they are there, and the outline builder on a lent slice,
-/// `Some(support::slice_bytes)`.
+/// Entries 7 to 12 and 14 (entry 13, the world points, is compared between the references alone).
 const CONTACTS: Option<fn(&[u32]) -> Vec<u32>> = None;
-pub const SLICE: Option<fn(&[u8], &[f32], &mut [u8]) -> u32> = None;
-
-/// A request of entry 1, answered through the lent slice.
-fn lent_slice(request: &[u32]) -> Vec<u32> {
-    let mut out = [0u8; 256];
-    let call = SLICE.expect("the entry on a lent slice");
-    let count = call(&to_bytes(&request[1..37]), &coordinates(request), &mut out) as usize;
-    to_words(&out[..4 * count])
-}
 
 fn none(_: &[u32]) -> u32 {
     0
@@ -131,7 +122,7 @@ pub const TABLE: &[Row] = &[
     Row {
         name: "outline builder, lent slice",
         generate: shapes::set_any_count,
-        ours: if SLICE.is_some() { Some(lent_slice) } else { None },
+        ours: Some(lent_slice::answer),
         ..OUTLINE
     },
     BOX,

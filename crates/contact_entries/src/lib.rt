@@ -12,6 +12,9 @@ pub fn call(entry: u32, input: &[u8], out: &mut [u8]) -> u32
     match entry {
         7 => pair_entries::circles(input, out),
         8 => pair_entries::polygon_and_circle(input, out),
+        9 => pair_entries::polygons(input, out),
+        10 => pair_entries::edge_and_circle(input, out),
+        11 => pair_entries::edge_and_polygon(input, out),
         12 => point_entries::clip(input, out),
         14 => point_entries::states(input, out),
         _ => 0,

@@ -123,3 +123,11 @@ counted-well n h = by-few (ltb n 3) refl (ltb 8 n) refl h
     by-few true few-is many many-is both = never both
     by-few false few-is true many-is both = never both
     by-few false few-is false many-is both = let three = ltb-false n 3 few-is in (omega arith, ltb-false 8 n many-is)
+
+pub both-counted-well : (a b : ℕ) → (miscounted a || miscounted b) ≡ false → (0 < a) × (a ≤ 8) × (0 < b) × (b ≤ 8)
+both-counted-well a b h = go (miscounted a) refl h
+  where
+    go : (t : Bool) → miscounted a ≡ t → (t || miscounted b) ≡ false → (0 < a) × (a ≤ 8) × (0 < b) × (b ≤ 8)
+    go true a-is both = never both
+    go false a-is both =
+        let a-well = counted-well a a-is in let b-well = counted-well b both in (a-well .0, a-well .1, b-well .0, b-well .1)

@@ -1,6 +1,6 @@
 -- The manifold of two outlines by the axis that the search has answered. Assumes nothing.
 use mathlib.Core.Path.{_≡_, sym, ap, subst, _∙_}
-use mathlib.Core.Bool.{Bool, true, false}
+use mathlib.Core.Bool.{Bool, true, false, cond}
 use Prim.Native.Nat.{ℕ}
 use lib.Ieee.{Float}
 use Rattle.floats.specs.declared.b2_math.B2vec2.{B2vec2}
@@ -11,14 +11,17 @@ use Rattle.shape_definitions.specs.Outline.{point-at}
 use Rattle.contact_definitions.specs.declared.axis.Axis.{Axis}
 use Rattle.contact_definitions.specs.declared.axis.Axis.the-variants.{Apart, FaceA, FaceB}
 use Rattle.contact_definitions.specs.declared.b2_collision.B2manifold.{B2manifold}
-use Rattle.contact_definitions.specs.Manifold.{with-count}
+use Rattle.contact_definitions.specs.declared.b2_collision.B2manifoldType.the-variants.{EFaceA, EFaceB}
+use Rattle.contact_definitions.specs.Manifold.{with-count, with-kind}
 use Rattle.contact_definitions.specs.B2CollidePolygon.{face-separation, b2-find-max-separation, axis-of, polygons-axis}
+use Rattle.contact_definitions.specs.B2CollidePolygon.{incident-place, incident-end, b2-find-incident-edge}
+use Rattle.contact_definitions.specs.B2CollidePolygon.{local-tangent, face-middle, outline-face, outline-manifold}
 use Rattle.contact_definitions.specs.B2CollidePolygon.{manifold-on, polygons-manifold}
 use Rattle.axis_search.specs.Outlines.{outlined, Placed}
-use Rattle.outline_pairs.specs.declared.faces.Face.{Face}
-use Rattle.outline_pairs.specs.Faces.{face-of}
+use Rattle.outline_faces.specs.declared.faces.Face.{Face}
+use Rattle.outline_faces.specs.Faces.{face-of}
+use Rattle.outline_pairs.specs.Kept.{named-by}
 use Rattle.outline_pairs.specs.OnFace.{manifold-on-face}
-use Rattle.outline_pairs.proofs.Gathered.{on-face}
 
 -- an outline by its corners, normals and count, as the search takes it
 abbrev pub bare : B2polygonShape → B2polygonShape
@@ -29,6 +32,20 @@ abbrev pub face-between : B2polygonShape → B2Transform → B2polygonShape → 
 face-between poly1 xf1 poly2 xf2 edge normal flip =
     face-of (poly1 .«m_vertices») edge normal (poly1 .«m_count») xf1 (poly2 .«m_vertices») (poly2 .«m_normals»)
     (poly2 .«m_count») xf2 flip
+
+-- the manifold on it is the definition's
+on-face : (m : B2manifold) (total : Float) (flip : Bool) (poly1 : B2polygonShape) (xf1 : B2Transform)
+    (poly2 : B2polygonShape) (xf2 : B2Transform) (edge : ℕ) (normal : B2vec2) (f : Face) (r : B2manifold)
+    → normal ≡ point-at (poly1 .«m_normals») edge
+    → f ≡ face-between poly1 xf1 poly2 xf2 edge normal flip
+    → r ≡ manifold-on-face m f total
+    → r ≡ outline-manifold (with-kind (with-count m 0) (cond flip EFaceB EFaceA)) (named-by flip) total poly1 xf1 edge
+    poly2 xf2
+unfolding manifold-on-face face-of outline-manifold outline-face local-tangent face-middle b2-find-incident-edge
+    incident-end incident-place
+on-face m total flip poly1 xf1 poly2 xf2 edge normal f r normal-is f-is r-is =
+    r-is ∙ ap (λ (g : Face). manifold-on-face m g total) f-is
+    ∙ ap (λ (n : B2vec2). manifold-on-face m (face-between poly1 xf1 poly2 xf2 edge n flip) total) normal-is
 
 module _ (m : B2manifold) (total : Float) (polyA : B2polygonShape) (xfA : B2Transform) (polyB : B2polygonShape)
     (xfB : B2Transform) (axis : Axis) (axis-is : axis ≡ polygons-axis total (bare polyA) xfA (bare polyB) xfB) where

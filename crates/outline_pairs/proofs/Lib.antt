@@ -1,4 +1,3 @@
 pub mod Ends
-pub mod Gathered
 pub mod Written
 pub mod Axes

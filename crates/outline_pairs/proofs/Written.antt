@@ -20,9 +20,9 @@ use Rattle.contact_definitions.specs.B2CollidePolygon.{within-skins, outline-po
 use Rattle.contact_definitions.proofs.Clipping.{never-three}
 use Rattle.clipping.specs.declared.clip.Clip.{Clip}
 use Rattle.clipping.specs.Places.{left-over}
-use Rattle.outline_pairs.specs.declared.faces.Face.{Face}
+use Rattle.outline_faces.specs.declared.faces.Face.{Face}
 use Rattle.outline_pairs.specs.declared.kept.Kept.{Kept}
-use Rattle.outline_pairs.specs.Faces.{incident-ends, placed-along}
+use Rattle.outline_faces.specs.Faces.{incident-ends, placed-along}
 use Rattle.outline_pairs.specs.Kept.{named-by, kept-ends, points-kept}
 use Rattle.outline_pairs.specs.OnFace.{tangent-of, manifold-on-face}
 use Rattle.outline_pairs.proofs.Ends.{nothing-written, points-written}

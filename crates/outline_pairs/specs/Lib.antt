@@ -1,3 +1,2 @@
-pub mod Faces
 pub mod Kept
 pub mod OnFace

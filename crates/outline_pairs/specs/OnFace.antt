@@ -9,8 +9,8 @@ use Rattle.contact_definitions.specs.declared.b2_collision.B2manifoldType.the-v
 use Rattle.contact_definitions.specs.Manifold.{with-count, with-kind}
 use Rattle.contact_definitions.specs.ReferenceFace.{clipped-to-sides, manifold-of-ends}
 use Rattle.contact_definitions.specs.B2CollidePolygon.{within-skins, outline-point}
-use Rattle.outline_pairs.specs.declared.faces.Face.{Face}
-use Rattle.outline_pairs.specs.Faces.{incident-ends, placed-along}
+use Rattle.outline_faces.specs.declared.faces.Face.{Face}
+use Rattle.outline_faces.specs.Faces.{incident-ends, placed-along}
 use Rattle.outline_pairs.specs.Kept.{named-by}
 
 abbrev pub tangent-of : Face → B2vec2

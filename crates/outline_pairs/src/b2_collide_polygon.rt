@@ -5,11 +5,6 @@ ghost use lib.Ieee.{binary32, add};
 ghost use Rattle.contact_definitions.specs.Manifold.{with-count};
 ghost use Rattle.contact_definitions.specs.B2CollidePolygon.{polygons-manifold};
 ghost use Rattle.outline_pairs.specs.OnFace.{manifold-on-face};
-use crate::faces::Face;
-use crate::faces::face_of;
-use crate::faces::incident_ends;
-use crate::faces::placed_face;
-use crate::faces::within_skins;
 use crate::kept::outline_points;
 use axis_search::b2_collide_polygon::polygons_axis;
 use clipping::clip::clip_to_sides;
@@ -25,6 +20,11 @@ use floats::b2_math::b2_add;
 use floats::b2_math::b2_cross_vec_by_scalar;
 use floats::b2_math::b2_scale;
 use floats::b2_math::b2_sub;
+use outline_faces::faces::Face;
+use outline_faces::faces::face_of;
+use outline_faces::faces::incident_ends;
+use outline_faces::faces::placed_face;
+use outline_faces::faces::within_skins;
 use shape_definitions::b2_polygon_shape::B2polygonShape;
 
 // The incident edge clipped to the sides of the reference face, and what is left of it within both skins.

@@ -1,9 +1,8 @@
-// The Gauss map of a one-sided wall, which keeps an outline from catching on the seam of two walls. Only the ghost point
-// on the normal's side is looked at, so one root is taken, not two.
+// The Gauss map of a one-sided wall, which keeps an outline from catching on the seam of two walls. Only the ghost
+// point on the normal's side is looked at, so one root is taken, not two.
 ghost use mathlib.Core.Path.{_≡_};
-ghost use Rattle.floats.specs.B2Math.{vec2};
-ghost use Rattle.contact_definitions.specs.Axis.{separation-of};
-ghost use Rattle.contact_definitions.specs.EdgeAxis.{region-by, region-before, region-after, gauss-region, in-region, smoothed};
+ghost use Rattle.contact_definitions.specs.EdgeAxis.{region-by, region-before, region-after, gauss-region, in-region};
+ghost use Rattle.contact_definitions.specs.EdgeAxis.{smoothed};
 ghost use Rattle.wall_axis.specs.AxisNormal.{is-apart, axis-normal};
 use crate::axes;
 use clipping::unit;
@@ -92,7 +91,8 @@ fn in_region(region: GaussRegion, edge_axis: Axis, axis: Axis) -> Axis
     }
 }
 
-// The axis of a one-sided wall that the primary one becomes: apart in the skip region, the wall's own in the snap region.
+// The axis of a one-sided wall that the primary one becomes: apart in the skip region, the wall's own in the snap
+// region.
 pub fn smoothed(edge: B2edgeShape, edge1: B2vec2, edge_axis: Axis, axis: Axis) -> Axis
     ensures { λ r. ⌜ r ≡ smoothed edge edge1 «edge_axis» axis ⌝ }
 {

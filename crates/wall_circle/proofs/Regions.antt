@@ -18,9 +18,10 @@ use Rattle.contact_definitions.specs.Manifold.{vertex-feature, face-feature, co
 use Rattle.contact_definitions.specs.Manifold.{with-count, with-one-point, manifold-refused, manifold-accepted}
 use Rattle.contact_definitions.specs.EdgeAxis.{right-of}
 use Rattle.contact_definitions.specs.B2CollideCircle.{farther}
-use Rattle.contact_definitions.specs.B2CollideEdge.{circle-at-end, circle-at-wall, over-before, over-after, edge-circle-answer}
+use Rattle.contact_definitions.specs.B2CollideEdge.{circle-at-end, circle-at-wall, over-before, over-after}
+use Rattle.contact_definitions.specs.B2CollideEdge.{edge-circle-answer}
 use Rattle.wall_circle.specs.declared.edge_circle.Touch.{Touch}
-use Rattle.wall_circle.specs.declared.edge_circle.Touch.the-variants.{Nothing, End, Face, Flat}
+use Rattle.wall_circle.specs.declared.edge_circle.Touch.the-variants.{Nothing, End, Flat}
 use Rattle.wall_circle.specs.EdgeCircle.{end-touch, face-of, face-touch, touch-answer}
 
 -- a point is written over the first place whatever the count was
@@ -73,13 +74,16 @@ module _ (old : B2manifold) (edge : B2edgeShape) (centre : B2vec2) where
     by-regions : Bool → Bool → Bool → ManifoldAnswer
     by-regions behind before after =
         cond behind (manifold-accepted none)
-        (cond before (manifold-accepted (circle-at-end none (edge .«m_vertex1») 0 (over-before edge q) q radius centre))
+        (cond before (manifold-accepted (circle-at-end none (edge .«m_vertex1») 0
+        (over-before edge q) q radius centre))
         (cond after (manifold-accepted (circle-at-end none (edge .«m_vertex2») 1 (over-after edge q) q radius centre))
         (cond (lt zero32 (b2-dot e e))
-        (manifold-accepted (circle-at-wall none (edge .«m_vertex1») (edge .«m_vertex2») u v (b2-dot e e) offset q radius centre))
+        (manifold-accepted (circle-at-wall none (edge .«m_vertex1») (edge .«m_vertex2») u v
+        (b2-dot e e) offset q radius centre))
         (manifold-refused wall-too-short old))))
 
-    regions-are : (behind before after : Bool) → (edge .«m_one_sided» && lt offset zero32) ≡ behind → le v zero32 ≡ before
+    regions-are : (behind before after : Bool) → (edge .«m_one_sided» && lt offset zero32) ≡ behind
+        → le v zero32 ≡ before
         → le u zero32 ≡ after → by-regions behind before after ≡ edge-circle-answer old edge q radius centre
     unfolding edge-circle-answer right-of by-regions none
     regions-are behind before after behind-is before-is after-is =
@@ -98,7 +102,8 @@ module _ (old : B2manifold) (edge : B2edgeShape) (centre : B2vec2) where
           over-neighbour (farther radius q (edge .«m_vertex1»)) (edge .«m_vertex1») 0
           ∙ rw over at (regions-are false true (le u zero32) front before refl)
 
-      pub touch-end1 : (t : Touch) → le v zero32 ≡ true → over-before edge q ≡ false → t ≡ end-touch (edge .«m_vertex1») q radius 0
+      pub touch-end1 : (t : Touch) → le v zero32 ≡ true → over-before edge q ≡ false
+          → t ≡ end-touch (edge .«m_vertex1») q radius 0
           → touch-answer t old edge centre ≡ edge-circle-answer old edge q radius centre
       unfolding by-regions circle-at-end end-touch
       touch-end1 t before over t-is =
@@ -113,7 +118,8 @@ module _ (old : B2manifold) (edge : B2edgeShape) (centre : B2vec2) where
           ∙ rw over at (regions-are false false true front before after)
 
       pub touch-end2 : (t : Touch) → le v zero32 ≡ false → le u zero32 ≡ true → over-after edge q ≡ false
-          → t ≡ end-touch (edge .«m_vertex2») q radius 1 → touch-answer t old edge centre ≡ edge-circle-answer old edge q radius centre
+          → t ≡ end-touch (edge .«m_vertex2») q radius 1
+          → touch-answer t old edge centre ≡ edge-circle-answer old edge q radius centre
       unfolding by-regions circle-at-end end-touch
       touch-end2 t before after over t-is =
           rw t-is (at-end (farther radius q (edge .«m_vertex2»)) (edge .«m_vertex2») 1)
@@ -125,14 +131,16 @@ module _ (old : B2manifold) (edge : B2edgeShape) (centre : B2vec2) where
       unfolding by-regions circle-at-wall face-touch right-of
       touch-middle t before after t-is =
           let d = b2-sub (edge .«m_vertex2») (edge .«m_vertex1») in
-          let foot = b2-scale (div binary32 one32 (b2-dot d d)) (b2-add (b2-scale u (edge .«m_vertex1»)) (b2-scale v (edge .«m_vertex2»))) in
+          let foot = b2-scale (div binary32 one32 (b2-dot d d))
+          (b2-add (b2-scale u (edge .«m_vertex1»)) (b2-scale v (edge .«m_vertex2»))) in
           let normal = b2-normalize (cond (lt offset zero32) (b2-neg (right-of d)) (right-of d)) .v in
           rw (t-is, e-is)
           (at-wall (lt zero32 (b2-dot d d)) (farther radius q foot) normal
           ∙ rw e-is at (regions-are false false false front before after))
 
 -- the answer from the way to touch
-pub answered : (m : B2manifold) (edge : B2edgeShape) (centre : B2vec2) (t way : Touch) (a answer : ManifoldAnswer) → t ≡ way
+pub answered : (m : B2manifold) (edge : B2edgeShape) (centre : B2vec2) (t way : Touch) (a answer : ManifoldAnswer)
+    → t ≡ way
     → a ≡ touch-answer way m edge centre → touch-answer t m edge centre ≡ answer → a ≡ answer
 answered m edge centre t way a answer t-is a-is answer-is =
     a-is ∙ ap (λ (w : Touch). touch-answer w m edge centre) (sym t-is) ∙ answer-is

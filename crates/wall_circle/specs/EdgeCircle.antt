@@ -1,4 +1,5 @@
--- How a circle touches a wall, in the parts that the code has, and what the call answers for each way. Definitions only.
+-- How a circle touches a wall, in the parts that the code has, and what the call answers for each way. Definitions
+-- only.
 use mathlib.Core.Bool.{cond}
 use Prim.Native.Nat.{ℕ}
 use lib.Ieee.{Float, binary32, div, lt}
@@ -26,7 +27,8 @@ face-of normal = Face (normal .x) (normal .y)
 unfoldable pub face-touch : B2vec2 → B2vec2 → B2vec2 → B2vec2 → Float → Float → B2vec2 → Float → Float → Touch
 face-touch a b q e u v n offset radius =
     cond (lt zero32 (b2-dot e e))
-    (cond (farther radius q (b2-scale (div binary32 one32 (b2-dot e e)) (b2-add (b2-scale u a) (b2-scale v b)))) Nothing
+    (cond (farther radius q (b2-scale (div binary32 one32 (b2-dot e e)) (b2-add (b2-scale u a) (b2-scale v b))))
+    Nothing
     (face-of (b2-normalize (cond (lt offset zero32) (b2-neg n) n) .v))) Flat
 
 unfoldable pub touch-answer : Touch → B2manifold → B2edgeShape → B2vec2 → ManifoldAnswer

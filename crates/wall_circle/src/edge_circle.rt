@@ -1,5 +1,5 @@
-// Wall against circle, in the wall's frame: by regions, end 1, end 2, the middle. The manifold is touched in one place,
-// once it is known how they touch.
+// Wall against circle, in the wall's frame: by regions, end 1, end 2, the middle. The manifold is touched in one
+// place, once it is known how they touch.
 ghost use mathlib.Core.Path.{_≡_};
 ghost use mathlib.Core.Bool.{cond};
 ghost use lib.Ieee.{lt};
@@ -104,7 +104,8 @@ fn over_after(edge: B2edgeShape, q: B2vec2) -> bool
 
 // How the circle with the centre q meets the wall.
 fn wall_touch(edge: B2edgeShape, q: B2vec2, radius: f32) -> Touch
-    ensures { λ r. ⌜ ((old : B2manifold) (centre : B2vec2) → touch-answer r old edge centre ≡ edge-circle-answer old edge q radius centre) ⌝ }
+    ensures { λ r. ⌜ ((old : B2manifold) (centre : B2vec2)
+        → touch-answer r old edge centre ≡ edge-circle-answer old edge q radius centre) ⌝ }
 {
     let a = B2vec2 {
         x: edge.m_vertex1.x,

@@ -9,7 +9,6 @@ use lib.ListN.{length, getD}
 use Rattle.algebra.specs.Buffer.{over}
 use Rattle.floats.specs.declared.b2_math.B2vec2.{B2vec2}
 use Rattle.floats.specs.declared.b2_math.B2Transform.{B2Transform}
-use Rattle.contact_definitions.specs.declared.b2_collide_edge.B2referenceFace.{B2referenceFace}
 use Rattle.contact_definitions.specs.declared.b2_collision.B2clipVertex.{B2clipVertex}
 use Rattle.contact_definitions.specs.declared.b2_collision.B2manifold.{B2manifold}
 use Rattle.contact_definitions.specs.declared.b2_collision.B2manifoldType.{B2manifoldType}
@@ -27,14 +26,6 @@ use Rattle.wall_reference.specs.Reference.{point-by, reference-manifold}
 use Rattle.wall_clipping.specs.Kept.{kept-over}
 use Rattle.wall_clipping.proofs.KeptPoints.{two-ends}
 
--- of fewer than two ends nothing is left
-short-clipped : (l : List B2clipVertex) (normal : B2vec2) (offset : Float) (i : ℕ) → length l < 2
-    → clipped l normal offset i ≡ []
-unfolding clipped
-short-clipped [] normal offset i few = refl
-short-clipped (a ∷ []) normal offset i few = refl
-short-clipped (a ∷ b ∷ l) normal offset i few = absurd (omega arith)
-
 -- two or more over two places are two, and all that stands there
 whole-left : {A : Type 0} (left old : List A) → length old ≡ 2 → length (over left old) ≡ 2 → 2 ≤ length left
     → over left old ≡ left
@@ -51,30 +42,6 @@ left-whole c left old c-is two out-two many =
     let out-is = ap (λ (k : Clip). k .out) c-is in
     out-is ∙ whole-left left old two (ap length (sym out-is) ∙ out-two) (omega arith)
 
--- ---- the two clips of an edge
-module _ (face : B2referenceFace) (ends : List B2clipVertex) where
-  abbrev to-side1 : List B2clipVertex → List B2clipVertex
-  to-side1 l = clipped l (face .«side_normal1») (face .«side_offset1») (face .i1)
-
-  abbrev to-side2 : List B2clipVertex → List B2clipVertex
-  to-side2 l = clipped l (face .«side_normal2») (face .«side_offset2») (face .i2)
-
-  module _ (c1 : Clip) (c1-is : c1 ≡ left-over (to-side1 ends) ends) where
-    -- the first leaves fewer than two
-    pub nothing-left : c1 .count < 2 → left-over [] ends ≡ left-over (clipped-to-sides face ends) ends
-    unfolding clipped-to-sides
-    nothing-left few =
-        let counted = ap (λ (k : Clip). k .count) c1-is in
-        sym (ap (λ (l : List B2clipVertex). left-over l ends) (short-clipped (to-side1 ends) _ _ _ (omega arith)))
-
-    -- it leaves two, and the second takes them
-    pub second-left : (c2 : Clip) → length ends ≡ 2 → length (c1 .out) ≡ 2 → 2 ≤ c1 .count
-        → c2 ≡ left-over (to-side2 (c1 .out)) ends → c2 ≡ left-over (clipped-to-sides face ends) ends
-    unfolding clipped-to-sides
-    second-left c2 two out-two many c2-is =
-        c2-is ∙ ap (λ (l : List B2clipVertex). left-over (to-side2 l) ends)
-        (left-whole c1 (to-side1 ends) ends c1-is two out-two many)
-
 -- ---- the manifold of what they leave
 module _ (f : Reference) (m : B2manifold) (xf : B2Transform) (radius : Float) where
   abbrev ends-of : List B2clipVertex
@@ -88,22 +55,27 @@ module _ (f : Reference) (m : B2manifold) (xf : B2Transform) (radius : Float) wh
       manifold-of-ends begun (f .«local_normal») (f .«local_point») (within-radius radius (f .face))
       (point-by (f .flip) xf) l
 
-  is-of-ends : of-ends (clipped-to-sides (f .face) ends-of) ≡ reference-manifold f m xf radius
-  unfolding reference-manifold
-  is-of-ends = refl
-
   short-ends : (l : List B2clipVertex) → length l < 2 → begun ≡ of-ends l
   unfolding manifold-of-ends
   short-ends [] few = refl
   short-ends (a ∷ []) few = refl
   short-ends (a ∷ b ∷ l) few = absurd (omega arith)
 
-  module _ (c : Clip) (c-is : c ≡ left-over (clipped-to-sides (f .face) ends-of) ends-of) where
+  abbrev left : List B2clipVertex
+  left =
+      clipped (clipped ends-of (f .face .«side_normal1») (f .face .«side_offset1») (f .face .i1))
+      (f .face .«side_normal2») (f .face .«side_offset2») (f .face .i2)
+
+  is-of-ends : of-ends left ≡ reference-manifold f m xf radius
+  unfolding reference-manifold clipped-to-sides
+  is-of-ends = refl
+
+  module _ (c : Clip) (c-is : c ≡ left-over left ends-of) where
     -- fewer than two are left
     pub given-up : (r : B2manifold) → c .count < 2 → r ≡ begun → r ≡ reference-manifold f m xf radius
     given-up r few r-is =
         let counted = ap (λ (k : Clip). k .count) c-is in
-        r-is ∙ short-ends (clipped-to-sides (f .face) ends-of) (omega arith) ∙ is-of-ends
+        r-is ∙ short-ends left (omega arith) ∙ is-of-ends
 
     -- two are left; d is whatever is said to stand past the end
     pub points-left : (d : B2clipVertex) (near0 near1 : Bool) (k : Kept) (kind : B2manifoldType) → length (c .out) ≡ 2
@@ -122,7 +94,7 @@ module _ (f : Reference) (m : B2manifold) (xf : B2Transform) (radius : Float) wh
     points-left d near0 near1 k kind out-two many near0-is near1-is k-is kind-is =
         let e0 = getD (c .out) 0 d in
         let e1 = getD (c .out) 1 d in
-        let whole = left-whole c (clipped-to-sides (f .face) ends-of) ends-of c-is refl out-two many in
+        let whole = left-whole c left ends-of c-is refl out-two many in
         let two = both-places (c .out) d out-two ∙ whole in
         let new = two-ends (point-by (f .flip) xf) begun e0 e1 (within-radius radius (f .face)) in
         rw (k-is, kind-is, near0-is, near1-is) (rw new at (ap of-ends two ∙ is-of-ends))

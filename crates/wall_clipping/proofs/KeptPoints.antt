@@ -18,7 +18,8 @@ kept points count = record { points = points; count = count }
 -- ---- d is whatever is said to stand past the end of the old points
 module _ (made : B2manifoldPoint → B2clipVertex → B2manifoldPoint) (old : List B2manifoldPoint) (d : B2manifoldPoint)
     (e0 e1 : B2clipVertex) (near0 near1 : Bool) (p : B2manifoldPoint) (old-two : length old ≡ 2) where
-  pub kept-both : (q : B2manifoldPoint) → near0 ≡ true → near1 ≡ true → p ≡ made (getD old 0 d) e0 → q ≡ made (getD old 1 d) e1
+  pub kept-both : (q : B2manifoldPoint) → near0 ≡ true → near1 ≡ true → p ≡ made (getD old 0 d) e0
+      → q ≡ made (getD old 1 d) e1
       → kept (p ∷ q ∷ []) 2 ≡ kept-over made old near0 near1 e0 e1
   kept-both q near0-is near1-is p-is q-is =
       _∙_ {b = kept-over made old true true e0 e1} (rw (p-is, q-is) (go (two-of old old-two)))
@@ -48,9 +49,11 @@ module _ (made : B2manifoldPoint → B2clipVertex → B2manifoldPoint) (old : Li
           → kept (made (getD l 0 d) e1 ∷ getD l 1 d ∷ []) 1 ≡ kept-over made l false true e0 e1
       go (two a b) = refl
 
-pub kept-none : (made : B2manifoldPoint → B2clipVertex → B2manifoldPoint) (old : List B2manifoldPoint) (e0 e1 : B2clipVertex)
+pub kept-none : (made : B2manifoldPoint → B2clipVertex → B2manifoldPoint) (old : List B2manifoldPoint)
+    (e0 e1 : B2clipVertex)
     (near0 near1 : Bool) → near0 ≡ false → near1 ≡ false → kept old 0 ≡ kept-over made old near0 near1 e0 e1
-kept-none made old e0 e1 near0 near1 near0-is near1-is = sym (ap₂ (λ (s t : Bool). kept-over made old s t e0 e1) near0-is near1-is)
+kept-none made old e0 e1 near0 near1 near0-is near1-is =
+    sym (ap₂ (λ (s t : Bool). kept-over made old s t e0 e1) near0-is near1-is)
 
 -- ---- the definition's points of two ends
 module _ (made : B2manifoldPoint → B2clipVertex → B2manifoldPoint) (m : B2manifold) (e0 e1 : B2clipVertex) where

@@ -3,15 +3,11 @@
 ghost use mathlib.Core.Path.{_≡_};
 ghost use lib.Ieee.{le};
 ghost use Rattle.floats.specs.B2Math.{b2-sub, b2-dot};
-ghost use Rattle.contact_definitions.specs.ReferenceFace.{clipped-to-sides};
-ghost use Rattle.clipping.specs.Places.{left-over};
 ghost use Rattle.contact_definitions.specs.EdgeReference.{point-in-frame, point-as-it-is};
 ghost use Rattle.wall_reference.specs.Reference.{point-by, reference-manifold};
 ghost use Rattle.wall_clipping.specs.Kept.{kept-over};
 use clipping::clip;
-use clipping::clip::Clip;
 use clipping::manifolds;
-use contact_definitions::b2_collide_edge::B2referenceFace;
 use contact_definitions::b2_collision::B2clipVertex;
 use contact_definitions::b2_collision::B2manifold;
 use contact_definitions::b2_collision::B2manifoldPoint;
@@ -19,21 +15,6 @@ use floats::b2_math;
 use floats::b2_math::B2Transform;
 use floats::b2_math::B2vec2;
 use wall_reference::edge_reference::Reference;
-
-// What is left of an edge clipped to side 1 of the face and then to side 2; of fewer than two ends nothing is.
-fn clipped_to_sides(face: B2referenceFace, ends: [B2clipVertex; 2]) -> Clip
-    ensures { λ r. ⌜ r ≡ left-over (clipped-to-sides face ends) ends ⌝ }
-{
-    let c1 = clip::clip_ends(ends, ends, face.side_normal1, face.side_offset1, face.i1);
-    if c1.count < 2 {
-        return Clip {
-            out: ends,
-            count: 0,
-        };
-    }
-    let once = c1.out;
-    clip::clip_ends(ends, once, face.side_normal2, face.side_offset2, face.i2)
-}
 
 // Whether v lies within the radius of the face through v1.
 fn within_radius(radius: f32, normal: B2vec2, v1: B2vec2, v: B2vec2) -> bool
@@ -157,7 +138,15 @@ pub fn reference_manifold(m: B2manifold, f: Reference, xf: B2Transform, radius: 
     let face = f.face;
     let a = f.a;
     let b = f.b;
-    let c = clipped_to_sides(face, [a, b]);
+    let c = clip::clip_to_sides(
+        [a, b],
+        face.side_normal1,
+        face.side_offset1,
+        face.i1,
+        face.side_normal2,
+        face.side_offset2,
+        face.i2,
+    );
     if c.count < 2 {
         return manifolds::only_kind(m, f.flip);
     }

@@ -17,9 +17,11 @@ use Rattle.wall_reference.specs.declared.edge_reference.Reference.{Refer
 use Rattle.wall_reference.specs.Reference.{wall-reference, face-reference}
 
 abbrev pub vertex : B2vec2 → ℕ → ℕ → ℕ → ℕ → B2clipVertex
-vertex v index-a index-b type-a type-b = record { v = v; id = contact-id (as-byte index-a) (as-byte index-b) type-a type-b }
+vertex v index-a index-b type-a type-b =
+    record { v = v; id = contact-id (as-byte index-a) (as-byte index-b) type-a type-b }
 
-module _ (xf : B2Transform) (poly : B2polygonShape) (v1 v2 : B2vec2) (count : ℕ) (count-is : poly .«m_count» ≡ count) where
+module _ (xf : B2Transform) (poly : B2polygonShape) (v1 v2 : B2vec2) (count : ℕ)
+    (count-is : poly .«m_count» ≡ count) where
   pub wall-reference-is : (edge1 normal w1 w2 back : B2vec2) (i1 i2 : ℕ) (face : B2referenceFace) (a b : B2clipVertex)
       → i1 ≡ most-against xf poly normal → i2 ≡ place-after count i1
       → w1 ≡ placed-corner xf poly i1 → w2 ≡ placed-corner xf poly i2
@@ -37,8 +39,10 @@ module _ (xf : B2Transform) (poly : B2polygonShape) (v1 v2 : B2vec2) (count : �
   wall-reference-is edge1 normal w1 w2 back i1 i2 face a b i1-is i2-is w1-is w2-is back-is face-is a-is b-is =
       rw (face-is, a-is, b-is, back-is, w1-is, w2-is, i2-is, i1-is, ← count-is) refl
 
-  pub face-reference-is : (i1 i2 : ℕ) (w1 w2 normal back local-normal local-point : B2vec2) (face : B2referenceFace) (a b : B2clipVertex)
-      → i2 ≡ place-after count i1 → w1 ≡ placed-corner xf poly i1 → w2 ≡ placed-corner xf poly i2 → normal ≡ placed-normal xf poly i1
+  pub face-reference-is : (i1 i2 : ℕ) (w1 w2 normal back local-normal local-point : B2vec2) (face : B2referenceFace)
+      (a b : B2clipVertex)
+      → i2 ≡ place-after count i1 → w1 ≡ placed-corner xf poly i1 → w2 ≡ placed-corner xf poly i2
+      → normal ≡ placed-normal xf poly i1
       → back ≡ b2-neg (vec2 (normal .y) (neg (normal .x)))
       → face ≡ face-between i1 i2 w1 w2 normal (vec2 (normal .y) (neg (normal .x))) back
       → a ≡ vertex v2 1 i1 0 1 → b ≡ vertex v1 0 i1 0 1
@@ -51,5 +55,6 @@ module _ (xf : B2Transform) (poly : B2polygonShape) (v1 v2 : B2vec2) (count : �
         flip = true;
       }) (face-reference xf poly v1 v2 i1 local-normal local-point)
   unfolding face-reference placed-face right-of
-  face-reference-is i1 i2 w1 w2 normal back local-normal local-point face a b i2-is w1-is w2-is normal-is back-is face-is a-is b-is =
+  face-reference-is i1 i2 w1 w2 normal back local-normal local-point face a b i2-is w1-is w2-is normal-is back-is
+      face-is a-is b-is =
       rw (face-is, a-is, b-is, back-is, w1-is, w2-is, normal-is, i2-is, ← count-is) refl

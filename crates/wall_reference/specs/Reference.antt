@@ -1,9 +1,8 @@
 -- What is clipped against what in wall against outline, as one record, and the manifold of it. Definitions only.
 use mathlib.Core.Bool.{Bool, true, false, cond}
-use mathlib.Core.List.{List, [], _∷_}
+use mathlib.Core.List.{[], _∷_}
 use Prim.Native.Nat.{ℕ}
 use lib.Ieee.{Float}
-use lib.ListN.{getD}
 use Rattle.floats.specs.declared.b2_math.B2vec2.{B2vec2}
 use Rattle.floats.specs.declared.b2_math.B2Transform.{B2Transform}
 use Rattle.floats.specs.B2Math.{b2-neg}
@@ -13,9 +12,11 @@ use Rattle.contact_definitions.specs.declared.b2_collision.B2manifold.{B2manifo
 use Rattle.contact_definitions.specs.declared.b2_collision.B2manifoldPoint.{B2manifoldPoint}
 use Rattle.contact_definitions.specs.declared.b2_collision.B2manifoldType.the-variants.{EFaceA, EFaceB}
 use Rattle.contact_definitions.specs.declared.b2_collision.B2clipVertex.{B2clipVertex}
-use Rattle.contact_definitions.specs.Manifold.{vertex-feature, face-feature, as-byte, contact-id, with-count, with-kind}
+use Rattle.contact_definitions.specs.Manifold.{vertex-feature, face-feature, as-byte, contact-id, with-count}
+use Rattle.contact_definitions.specs.Manifold.{with-kind}
 use Rattle.contact_definitions.specs.ReferenceFace.{clipped-to-sides, manifold-of-ends}
-use Rattle.contact_definitions.specs.EdgeReference.{face-between, within-radius, most-against, outline-end, placed-face}
+use Rattle.contact_definitions.specs.EdgeReference.{face-between, within-radius, most-against, outline-end}
+use Rattle.contact_definitions.specs.EdgeReference.{placed-face}
 use Rattle.contact_definitions.specs.EdgeReference.{point-in-frame, point-as-it-is}
 use Rattle.wall_reference.specs.declared.edge_reference.Reference.{Reference}
 

@@ -1,7 +1,6 @@
-// Wall against outline, the reference face: that of the wall, with the outline's edge most against it, or a face of the
-// outline, with the wall. What is clipped is chosen first, so that the clipping has one caller.
+// Wall against outline, the reference face: that of the wall, with the outline's edge most against it, or a face of
+// the outline, with the wall. What is clipped is chosen first, so that the clipping has one caller.
 ghost use mathlib.Core.Path.{_≡_};
-ghost use mathlib.Core.List.{[], _∷_};
 ghost use Prim.Native.Nat.{ℕ, _<_, _≤_};
 ghost use lib.ListN.{length};
 ghost use Rattle.floats.specs.declared.b2_math.B2Transform.{B2Transform};
@@ -22,7 +21,8 @@ use floats::b2_math::B2vec2;
 // The point at place i of two rows.
 fn row_point(xs: &[f32; 8], ys: &[f32; 8], i: usize) -> B2vec2
     requires { ⌜ (i < 8) × (length (now xs) ≡ 8) × (length (now ys) ≡ 8) ⌝ }
-    ensures { λ r. ⌜ ((point : ℕ → B2vec2) (n : ℕ) → i < n → PointRows point n (now (xs .entry)) (now (ys .entry)) → r ≡ point i) ⌝ }
+    ensures { λ r. ⌜ ((point : ℕ → B2vec2) (n : ℕ) → i < n → PointRows point n (now (xs .entry)) (now (ys .entry))
+        → r ≡ point i) ⌝ }
 {
     B2vec2 { x: xs[i], y: ys[i] }
 }
@@ -45,9 +45,11 @@ fn most_against(
     requires { ⌜ (0 < count) × (count ≤ 8) × (length (now nxs) ≡ 8) × (length (now nys) ≡ 8)
         × (length (now xs) ≡ 8) × (length (now ys) ≡ 8) ⌝ }
     ensures { λ r. ⌜ (r .index < count)
-        × ((corner : ℕ → B2vec2) → PointRows corner count (now (xs .entry)) (now (ys .entry)) → r .v ≡ corner (r .index))
+        × ((corner : ℕ → B2vec2) → PointRows corner count (now (xs .entry)) (now (ys .entry))
+        → r .v ≡ corner (r .index))
         × ((xf : B2Transform) (poly : B2polygonShape) → poly .«m_count» ≡ count
-        → PointRows (placed-normal xf poly) count (now (nxs .entry)) (now (nys .entry)) → r .index ≡ most-against xf poly n) ⌝ }
+        → PointRows (placed-normal xf poly) count (now (nxs .entry)) (now (nys .entry))
+        → r .index ≡ most-against xf poly n) ⌝ }
 {
     let mut index = 0usize;
     let mut best = b2_math::b2_dot(n, row_point(nxs, nys, 0));
@@ -74,8 +76,8 @@ fn next_index(i: usize, count: usize) -> usize
     if next < count { next } else { 0 }
 }
 
-// What is clipped against what: the reference face, the ends of the edge that is clipped to it, the normal and the point
-// of the manifold, and whether the face is the outline's.
+// What is clipped against what: the reference face, the ends of the edge that is clipped to it, the normal and the
+// point of the manifold, and whether the face is the outline's.
 pub struct Reference {
     pub face: B2referenceFace,
     pub a: B2clipVertex,
@@ -86,7 +88,11 @@ pub struct Reference {
 }
 
 fn clip_vertex(v: B2vec2, index_a: usize, index_b: usize, type_a: u8, type_b: u8) -> B2clipVertex
-    ensures { λ r. ⌜ r ≡ record { v = v; id = contact-id (as-byte «index_a») (as-byte «index_b») «type_a» «type_b» } ⌝ }
+    ensures { λ r. ⌜ r ≡ record {
+      v = v;
+      id = contact-id (as-byte «index_a»)
+          (as-byte «index_b») «type_a» «type_b»;
+    } ⌝ }
 {
     B2clipVertex {
         v,

@@ -15,11 +15,13 @@ use Rattle.contact_definitions.specs.Searches.{least}
 use Rattle.contact_definitions.specs.Axis.{face-a, farthest}
 use Rattle.contact_definitions.specs.EdgeAxis.{placed-corner, side-axis, b2-compute-edge-separation}
 
-pub edge-separation-from : (xf : B2Transform) (poly : B2polygonShape) (v1 normal1 : B2vec2) (count : ℕ) (front back : Float) (r : Axis)
+pub edge-separation-from : (xf : B2Transform) (poly : B2polygonShape) (v1 normal1 : B2vec2) (count : ℕ)
+    (front back : Float) (r : Axis)
     → poly .«m_count» ≡ count
     → front ≡ least (λ i. b2-dot normal1 (b2-sub (placed-corner xf poly i) v1)) count
     → back ≡ least (λ i. b2-dot (b2-neg normal1) (b2-sub (placed-corner xf poly i) v1)) count
-    → r ≡ farthest (FaceA (neg b2-max-float) zero32 zero32 0) (face-a front normal1 0 ∷ face-a back (b2-neg normal1) 1 ∷ [])
+    → r ≡ farthest (FaceA (neg b2-max-float) zero32 zero32 0)
+    (face-a front normal1 0 ∷ face-a back (b2-neg normal1) 1 ∷ [])
     → r ≡ b2-compute-edge-separation xf poly v1 normal1
 unfolding b2-compute-edge-separation side-axis
 edge-separation-from xf poly v1 normal1 count front back r count-is front-is back-is r-is =

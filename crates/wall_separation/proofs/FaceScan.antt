@@ -14,9 +14,11 @@ use Rattle.shape_definitions.specs.declared.b2_polygon_shape.B2polygonShape.{B2
 use Rattle.contact_definitions.specs.declared.axis.Axis.{Axis}
 use Rattle.contact_definitions.specs.declared.axis.Axis.the-variants.{FaceB}
 use Rattle.contact_definitions.specs.Axis.{keeps-farther, farthest}
-use Rattle.contact_definitions.specs.EdgeAxis.{placed-corner, placed-normal, outline-axis, b2-compute-polygon-separation}
+use Rattle.contact_definitions.specs.EdgeAxis.{placed-corner, placed-normal, outline-axis}
+use Rattle.contact_definitions.specs.EdgeAxis.{b2-compute-polygon-separation}
+use Rattle.contact_definitions.proofs.Searches.{scan-starts}
 use Rattle.wall_separation.specs.Rows.{face-distance}
-use Rattle.wall_separation.proofs.Scans.{scanned-from, scanned-begun}
+use Rattle.wall_separation.proofs.Scans.{scanned-from}
 
 module _ (xf : B2Transform) (poly : B2polygonShape) (v1 v2 : B2vec2) where
   -- what the scan keeps from face j on
@@ -27,8 +29,9 @@ module _ (xf : B2Transform) (poly : B2polygonShape) (v1 v2 : B2vec2) where
       → faces-from (FaceB (neg b2-max-float) zero32 zero32 0) 0 count ≡ b2-compute-polygon-separation xf poly v1 v2
   unfolding b2-compute-polygon-separation
   faces-begun count count-is =
-      scanned-begun keeps-farther (outline-axis xf poly v1 v2) (FaceB (neg b2-max-float) zero32 zero32 0) count
-      ∙ ap (λ (n : ℕ). farthest (FaceB (neg b2-max-float) zero32 zero32 0) (map (outline-axis xf poly v1 v2) (places 0 n)))
+      scan-starts keeps-farther (outline-axis xf poly v1 v2) (FaceB (neg b2-max-float) zero32 zero32 0) count
+      ∙ ap (λ (n : ℕ). farthest (FaceB (neg b2-max-float) zero32 zero32 0)
+      (map (outline-axis xf poly v1 v2) (places 0 n)))
       (sym count-is)
 
   module _ (i : ℕ) (s separation kept-x kept-y : Float) (kept-place : ℕ)
@@ -42,7 +45,8 @@ module _ (xf : B2Transform) (poly : B2polygonShape) (v1 v2 : B2vec2) where
     face-here x y x-is y-is = rw (s-is, x-is, y-is) refl
 
     -- face i is farther than the one kept
-    pub face-taken : (x y : Float) → x ≡ placed-normal xf poly i .x → y ≡ placed-normal xf poly i .y → lt separation s ≡ true
+    pub face-taken : (x y : Float) → x ≡ placed-normal xf poly i .x → y ≡ placed-normal xf poly i .y
+        → lt separation s ≡ true
         → FaceB s (neg x) (neg y) i
         ≡ cond (keeps-farther kept-face (outline-axis xf poly v1 v2 i)) (outline-axis xf poly v1 v2 i) kept-face
     face-taken x y x-is y-is farther =
@@ -51,7 +55,9 @@ module _ (xf : B2Transform) (poly : B2polygonShape) (v1 v2 : B2vec2) where
 
     -- it is not
     pub face-left : lt separation s ≡ false
-        → kept-face ≡ cond (keeps-farther kept-face (outline-axis xf poly v1 v2 i)) (outline-axis xf poly v1 v2 i) kept-face
+        → kept-face ≡ cond (keeps-farther kept-face (outline-axis xf poly v1 v2 i))
+        (outline-axis xf poly v1 v2 i) kept-face
     face-left not-farther =
-        ap (λ (t : Bool). cond t (FaceB s (neg (placed-normal xf poly i .x)) (neg (placed-normal xf poly i .y)) i) kept-face) (sym not-farther)
+        ap (λ (t : Bool). cond t (FaceB s (neg (placed-normal xf poly i .x)) (neg (placed-normal xf poly i .y)) i)
+        kept-face) (sym not-farther)
         ∙ ap (λ (a : Axis). cond (keeps-farther kept-face a) a kept-face) (face-here _ _ refl refl)

@@ -21,7 +21,8 @@ pub row-fewer : {f : ℕ → Float} {m n : ℕ} {xs : List Float} → m ≤ n �
 row-fewer fewer row = record { size = row .size; at = λ i d below. row .at i d (omega arith) }
 
 -- a store at the first place that is not filled yet
-pub row-next : {f : ℕ → Float} {i : ℕ} {xs : List Float} (v : Float) → i < 8 → Row f i xs → v ≡ f i → Row f (i + 1) (set xs i v)
+pub row-next : {f : ℕ → Float} {i : ℕ} {xs : List Float} (v : Float) → i < 8 → Row f i xs → v ≡ f i
+    → Row f (i + 1) (set xs i v)
 row-next {f} {i} {xs} v room row v-is = record { size = length-set xs i v ∙ row .size; at = filled }
   where
     filled : (k : ℕ) (d : Float) → k < i + 1 → getD (set xs i v) k d ≡ f k
@@ -52,7 +53,8 @@ pub point-read : {f : ℕ → B2vec2} {n : ℕ} {xs ys : List Float} (i : ℕ) (
     → vec2 (getD xs i d) (getD ys i e) ≡ f i
 point-read i d e below rows = ap₂ vec2 (rows .x .at i d below) (rows .y .at i e below)
 
-pub difference-read : {f : ℕ → B2vec2} {n : ℕ} {xs ys : List Float} (i : ℕ) (d e : Float) (v r : B2vec2) → i < n → PointRows f n xs ys
+pub difference-read : {f : ℕ → B2vec2} {n : ℕ} {xs ys : List Float} (i : ℕ) (d e : Float) (v r : B2vec2) → i < n
+    → PointRows f n xs ys
     → r ≡ b2-sub (vec2 (getD xs i d) (getD ys i e)) v → r ≡ b2-sub (f i) v
 difference-read i d e v r below rows r-is = r-is ∙ ap (λ (p : B2vec2). b2-sub p v) (point-read i d e below rows)
 
@@ -63,7 +65,9 @@ at-place (x ∷ l) zero d within = refl
 at-place (x ∷ l) (suc i) d within = at-place l i d (omega arith)
 
 -- the distance of a face whose corner is read from rows
-pub face-read : {f : ℕ → B2vec2} {n : ℕ} {xs ys : List Float} (i : ℕ) (d e : Float) (m normal v1 v2 : B2vec2) (r : Float) → i < n
-    → PointRows f n xs ys → m ≡ normal → r ≡ face-distance m (vec2 (getD xs i d) (getD ys i e)) v1 v2 → r ≡ face-distance normal (f i) v1 v2
+pub face-read : {f : ℕ → B2vec2} {n : ℕ} {xs ys : List Float} (i : ℕ) (d e : Float) (m normal v1 v2 : B2vec2)
+    (r : Float) → i < n
+    → PointRows f n xs ys → m ≡ normal → r ≡ face-distance m (vec2 (getD xs i d) (getD ys i e)) v1 v2
+    → r ≡ face-distance normal (f i) v1 v2
 face-read i d e m normal v1 v2 r below rows m-is r-is =
     r-is ∙ ap₂ (λ (a b : B2vec2). face-distance a b v1 v2) m-is (point-read i d e below rows)

@@ -29,7 +29,8 @@ fn side_rows(
     front: &mut [f32; 8],
     back: &mut [f32; 8],
 )
-    requires { ⌜ (n ≤ 8) × (length (now xs) ≡ 8) × (length (now ys) ≡ 8) × (length (now front) ≡ 8) × (length (now back) ≡ 8) ⌝ }
+    requires { ⌜ (n ≤ 8) × (length (now xs) ≡ 8) × (length (now ys) ≡ 8) × (length (now front) ≡ 8)
+        × (length (now back) ≡ 8) ⌝ }
     ensures { λ _. ⌜ (length (now (front .exit)) ≡ 8) × (length (now (back .exit)) ≡ 8)
         × ((corner : ℕ → B2vec2) → PointRows corner n (now (xs .entry)) (now (ys .entry))
         → Row (λ i. b2-dot n1 (b2-sub (corner i) v1)) n (now (front .exit))
@@ -76,7 +77,8 @@ fn least_of(f: &[f32; 8], b: &[f32; 8], count: usize) -> Least
 // The side of the greater distance, 0 with the normal and 1 with it reversed; no side where both are the largest float
 // negated or below.
 fn farther_side(l: Least, normal1: B2vec2) -> Axis
-    ensures { λ r. ⌜ r ≡ farthest (Axis.FaceA (neg b2-max-float) zero32 zero32 0) (face-a (l .front) normal1 0 ∷ face-a (l .back) (b2-neg normal1) 1 ∷ []) ⌝ }
+    ensures { λ r. ⌜ r ≡ farthest (Axis.FaceA (neg b2-max-float) zero32 zero32 0)
+        (face-a (l .front) normal1 0 ∷ face-a (l .back) (b2-neg normal1) 1 ∷ []) ⌝ }
 {
     let front = l.front;
     let back = l.back;
@@ -103,7 +105,8 @@ pub fn b2_compute_edge_separation(
 ) -> Axis
     requires { ⌜ (count ≤ n) × (n ≤ 8) × (length (now xs) ≡ 8) × (length (now ys) ≡ 8) ⌝ }
     ensures { λ r. ⌜ ((xf : B2Transform) (poly : B2polygonShape) → poly .«m_count» ≡ count
-        → PointRows (placed-corner xf poly) n (now (xs .entry)) (now (ys .entry)) → r ≡ b2-compute-edge-separation xf poly v1 normal1) ⌝ }
+        → PointRows (placed-corner xf poly) n (now (xs .entry)) (now (ys .entry))
+        → r ≡ b2-compute-edge-separation xf poly v1 normal1) ⌝ }
 {
     let mut front = [0.0f32; 8];
     let mut back = [0.0f32; 8];

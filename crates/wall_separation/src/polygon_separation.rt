@@ -25,8 +25,8 @@ fn face_distance(n: B2vec2, v: B2vec2, v1: B2vec2, v2: B2vec2) -> f32
     )
 }
 
-// The first n normals, turned by q, and how far each face keeps the wall from v1 to v2 off. The rows xs and ys hold the
-// corners.
+// The first n normals, turned by q, and how far each face keeps the wall from v1 to v2 off. The rows xs and ys hold
+// the corners.
 pub fn normal_rows(
     q: B2Rot,
     ns: [B2vec2; 8],

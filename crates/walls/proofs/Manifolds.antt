@@ -19,8 +19,10 @@ use Rattle.contact_definitions.specs.declared.b2_collision.B2manifold.{B2manifo
 use Rattle.contact_definitions.specs.Axis.{separation-of}
 use Rattle.contact_definitions.specs.Manifold.{with-count}
 use Rattle.contact_definitions.specs.EdgeAxis.{placed-corner, placed-normal, right-of, b2-compute-edge-separation}
-use Rattle.contact_definitions.specs.EdgeAxis.{b2-compute-polygon-separation, primary-axis, smoothed, smoothed-if, edge-polygon-axis}
-use Rattle.contact_definitions.specs.EdgeReference.{outline-edge, wall-edge, wall-manifold, face-manifold, edge-manifold-on}
+use Rattle.contact_definitions.specs.EdgeAxis.{b2-compute-polygon-separation, primary-axis, smoothed, smoothed-if}
+use Rattle.contact_definitions.specs.EdgeAxis.{edge-polygon-axis}
+use Rattle.contact_definitions.specs.EdgeReference.{outline-edge, wall-edge, wall-manifold, face-manifold}
+use Rattle.contact_definitions.specs.EdgeReference.{edge-manifold-on}
 use Rattle.contact_definitions.specs.B2CollideEdge.{edge-polygon-manifold}
 use Rattle.wall_separation.specs.Rows.{Row, PointRows, face-distance}
 use Rattle.wall_separation.proofs.Filled.{at-place}
@@ -28,17 +30,20 @@ use Rattle.wall_reference.specs.Reference.{wall-reference, face-reference, refe
 
 -- ---- the rows, by the names of the definitions
 pub corners-placed : (xf : B2Transform) (poly : B2polygonShape) {n : ℕ} {xs ys : List Float}
-    → PointRows (λ i. b2-mul-transform-by-vec2 xf (point-at (poly .«m_vertices») i)) n xs ys → PointRows (placed-corner xf poly) n xs ys
+    → PointRows (λ i. b2-mul-transform-by-vec2 xf (point-at (poly .«m_vertices») i)) n xs ys
+    → PointRows (placed-corner xf poly) n xs ys
 unfolding placed-corner
 corners-placed xf poly rows = rows
 
 pub normals-placed : (xf : B2Transform) (poly : B2polygonShape) {n : ℕ} {xs ys : List Float}
-    → PointRows (λ i. b2-mul-rot-by-vec2 (xf .q) (point-at (poly .«m_normals») i)) n xs ys → PointRows (placed-normal xf poly) n xs ys
+    → PointRows (λ i. b2-mul-rot-by-vec2 (xf .q) (point-at (poly .«m_normals») i)) n xs ys
+    → PointRows (placed-normal xf poly) n xs ys
 unfolding placed-normal
 normals-placed xf poly rows = rows
 
 pub faces-placed : (xf : B2Transform) (poly : B2polygonShape) (v1 v2 : B2vec2) {n : ℕ} {faces : List Float}
-    → Row (λ i. face-distance (b2-mul-rot-by-vec2 (xf .q) (point-at (poly .«m_normals») i)) (placed-corner xf poly i) v1 v2) n faces
+    → Row (λ i. face-distance (b2-mul-rot-by-vec2 (xf .q) (point-at (poly .«m_normals») i))
+    (placed-corner xf poly i) v1 v2) n faces
     → Row (λ i. face-distance (placed-normal xf poly i) (placed-corner xf poly i) v1 v2) n faces
 unfolding placed-normal
 faces-placed xf poly v1 v2 row = row
@@ -72,10 +77,13 @@ module _ (edge : B2edgeShape) (edge1 : B2vec2) (xf : B2Transform) (poly : B2poly
   wall-axis = b2-compute-edge-separation xf poly (edge .«m_vertex1») (right-of edge1)
 
   pub axis-found : (wall face primary axis : Axis) → wall ≡ wall-axis
-      → face ≡ b2-compute-polygon-separation xf poly (edge .«m_vertex1») (edge .«m_vertex2») → primary ≡ primary-axis radius wall face
-      → axis ≡ smoothed-if (edge .«m_one_sided») edge edge1 wall primary → axis ≡ edge-polygon-axis radius edge edge1 xf poly
+      → face ≡ b2-compute-polygon-separation xf poly (edge .«m_vertex1») (edge .«m_vertex2»)
+      → primary ≡ primary-axis radius wall face
+      → axis ≡ smoothed-if (edge .«m_one_sided») edge edge1 wall primary
+      → axis ≡ edge-polygon-axis radius edge edge1 xf poly
   unfolding edge-polygon-axis
-  axis-found wall face primary axis wall-is face-is primary-is axis-is = rw (axis-is, primary-is, wall-is, face-is) refl
+  axis-found wall face primary axis wall-is face-is primary-is axis-is =
+      rw (axis-is, primary-is, wall-is, face-is) refl
 
   -- the wall keeps the outline off: whatever its faces say, there is no point
   off-the-wall : (old : B2manifold) (one-sided : Bool) (s : Float)
@@ -92,7 +100,8 @@ module _ (edge : B2edgeShape) (edge1 : B2vec2) (xf : B2Transform) (poly : B2poly
       rw test (off-the-wall old (edge .«m_one_sided») (separation-of wall-axis))
 
 -- ---- the whole
-module _ (m : B2manifold) (edge : B2edgeShape) (edge1 : B2vec2) (xf : B2Transform) (poly : B2polygonShape) (behind : Bool)
+module _ (m : B2manifold) (edge : B2edgeShape) (edge1 : B2vec2) (xf : B2Transform) (poly : B2polygonShape)
+    (behind : Bool)
     (edge1-is : edge1 ≡ b2-normalize (b2-sub (edge .«m_vertex2») (edge .«m_vertex1»)) .v)
     (behind-is : behind ≡ (edge .«m_one_sided» && lt (b2-dot (vec2 (edge1 .y) (neg (edge1 .x)))
     (b2-sub (b2-mul-transform-by-vec2 xf (poly .«m_centroid»)) (edge .«m_vertex1»))) zero32)) where
@@ -105,7 +114,8 @@ module _ (m : B2manifold) (edge : B2edgeShape) (edge1 : B2vec2) (xf : B2Transfor
   unfolding edge-polygon-manifold right-of
   by-side old t t-is = rw (← t-is, behind-is, edge1-is) refl
 
-  pub none-behind : (r : B2manifold) → behind ≡ true → r ≡ with-count m 0 → r ≡ edge-polygon-manifold (with-count m 0) edge xf poly
+  pub none-behind : (r : B2manifold) → behind ≡ true → r ≡ with-count m 0
+      → r ≡ edge-polygon-manifold (with-count m 0) edge xf poly
   none-behind r holds r-is = r-is ∙ by-side (with-count m 0) true holds
 
   pub in-front : (r : B2manifold) → behind ≡ false

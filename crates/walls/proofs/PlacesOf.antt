@@ -17,9 +17,10 @@ use Rattle.contact_definitions.specs.declared.axis.Axis.the-variants.{Apart, Fa
 use Rattle.contact_definitions.specs.declared.b2_collide_edge.GaussRegion.{GaussRegion}
 use Rattle.contact_definitions.specs.declared.b2_collide_edge.GaussRegion.the-variants.{Skip, Admit, Snap}
 use Rattle.contact_definitions.specs.Axis.{separation-of, keeps-farther}
-use Rattle.contact_definitions.specs.EdgeAxis.{right-of, side-axis, outline-axis, clearly-above, b2-compute-edge-separation}
+use Rattle.contact_definitions.specs.EdgeAxis.{right-of, side-axis, outline-axis, clearly-above}
+use Rattle.contact_definitions.specs.EdgeAxis.{b2-compute-edge-separation}
 use Rattle.contact_definitions.specs.EdgeAxis.{b2-compute-polygon-separation, primary-axis, gauss-region, in-region}
-use Rattle.contact_definitions.specs.EdgeAxis.{smoothed, smoothed-if, edge-polygon-axis}
+use Rattle.contact_definitions.specs.EdgeAxis.{smoothed, edge-polygon-axis}
 use Rattle.walls.specs.Places.{place-below}
 
 picked : (P : Axis → Type 0) (t : Bool) (a b : Axis) → P a → P b → P (cond t a b)
@@ -32,7 +33,8 @@ scan-keeps : (P : Axis → Type 0) (f : ℕ → Axis) (kept : Axis) (j n : ℕ) 
 scan-keeps P f kept j zero kept-has all-have = kept-has
 scan-keeps P f kept j (suc n) kept-has all-have =
     scan-keeps P f (cond (keeps-farther kept (f j)) (f j) kept) (suc j) n
-    (picked P (keeps-farther kept (f j)) (f j) kept (all-have j (omega arith)) kept-has) (λ i below. all-have i (omega arith))
+    (picked P (keeps-farther kept (f j)) (f j) kept (all-have j (omega arith)) kept-has)
+    (λ i below. all-have i (omega arith))
 
 module _ (xf : B2Transform) (poly : B2polygonShape) where
   below : Axis → Type 0
@@ -45,11 +47,14 @@ module _ (xf : B2Transform) (poly : B2polygonShape) where
       let side0 = side-axis xf poly v1 normal1 0 in
       let side1 = side-axis xf poly v1 (b2-neg normal1) 1 in
       let first = cond (keeps-farther none side0) side0 none in
-      picked below (keeps-farther first side1) side1 first tt (picked below (keeps-farther none side0) side0 none tt tt)
+      picked below (keeps-farther first side1) side1 first tt
+      (picked below (keeps-farther none side0) side0 none tt tt)
 
   polygon-place : (v1 v2 : B2vec2) → 0 < poly .«m_count» → below (b2-compute-polygon-separation xf poly v1 v2)
   unfolding below b2-compute-polygon-separation outline-axis
-  polygon-place v1 v2 some = scan-keeps below (outline-axis xf poly v1 v2) (FaceB (neg b2-max-float) zero32 zero32 0) 0 (poly .«m_count») some (λ i within. omega arith)
+  polygon-place v1 v2 some =
+      scan-keeps below (outline-axis xf poly v1 v2) (FaceB (neg b2-max-float) zero32 zero32 0) 0 (poly .«m_count») some
+      (λ i within. omega arith)
 
   primary-place : (radius : Float) (wall face : Axis) → below wall → below face → below (primary-axis radius wall face)
   unfolding below primary-axis
@@ -62,7 +67,8 @@ module _ (xf : B2Transform) (poly : B2polygonShape) where
       picked below (lt radius wall-s) (Apart wall-s) unless-apart tt
       (picked below (lt radius face-s) (Apart face-s) chosen tt (picked below above face wall face-below wall-below))
 
-  region-place : (region : GaussRegion) (wall axis : Axis) → below wall → below axis → below (in-region region wall axis)
+  region-place : (region : GaussRegion) (wall axis : Axis) → below wall → below axis
+      → below (in-region region wall axis)
   unfolding below
   region-place Skip wall axis wall-below axis-below = tt
   region-place Admit wall axis wall-below axis-below = axis-below
@@ -72,7 +78,8 @@ module _ (xf : B2Transform) (poly : B2polygonShape) where
       → below (smoothed edge edge1 wall axis)
   unfolding below smoothed
   smoothed-place edge edge1 wall (Apart s) wall-below axis-below = tt
-  smoothed-place edge edge1 wall (FaceA s x y i) wall-below axis-below = region-place (gauss-region edge edge1 (vec2 x y)) wall (FaceA s x y i) wall-below tt
+  smoothed-place edge edge1 wall (FaceA s x y i) wall-below axis-below =
+      region-place (gauss-region edge edge1 (vec2 x y)) wall (FaceA s x y i) wall-below tt
   smoothed-place edge edge1 wall (FaceB s x y i) wall-below axis-below =
       region-place (gauss-region edge edge1 (vec2 x y)) wall (FaceB s x y i) wall-below axis-below
 

@@ -102,7 +102,8 @@ fn with_faces(
     requires { ⌜ (0 < polygon .«m_count») × (polygon .«m_count» ≤ n) × (n ≤ 8)
         × (wall ≡ b2-compute-edge-separation xf polygon (edge .«m_vertex1») (right-of edge1))
         × (lt radius (separation-of wall) ≡ false) × PointRows (placed-corner xf polygon) n (now xs) (now ys) ⌝ }
-    ensures { λ r. ⌜ r ≡ edge-manifold-on (edge-polygon-axis radius edge edge1 xf polygon) (with-count m 0) edge edge1 xf polygon radius ⌝ }
+    ensures { λ r. ⌜ r ≡ edge-manifold-on (edge-polygon-axis radius edge edge1 xf polygon)
+        (with-count m 0) edge edge1 xf polygon radius ⌝ }
 {
     let count = polygon.m_count;
     let mut nxs = [0.0f32; 8];

@@ -64,7 +64,8 @@ returns-2 : tie.Need-returns-2
 returns-2 c =
     let match = c .before .match in
     let polygons-axis = c .before .before .polygons-axis in
-    let args = c .before .before .before .before .before .before .before .before .before .args in
+    let at-args = c .before .before .before .before .before .before .before .before .before in
+    let args = at-args .args in
     let total = add binary32 (args .pa .«m_radius») (args .pb .«m_radius») in
     ⊎-elim
     (λ w. on-face-of-a (args .m) total (args .pa) (args .xa) (args .pb) (args .xb) _ (polygons-axis .ensures .0)

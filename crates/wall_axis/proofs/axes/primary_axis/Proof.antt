@@ -1,7 +1,5 @@
 -- By the tests on the way. Assumes nothing.
 use Rattle.contact_definitions.specs.EdgeAxis.{clearly-above, primary-axis}
-use mathlib.Core.Path.{_≡_, refl, sym, _∙_, ap}
-use lib.Ieee.{lt}
 use borrow.Author.Needs.{needs}
 use Rattle.wall_axis.proofs.axes.primary_axis.Statement.{statement}
 use Rattle.wall_axis.proofs.axes.primary_axis.Tie as tie

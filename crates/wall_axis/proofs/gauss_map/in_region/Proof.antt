@@ -22,7 +22,8 @@ returns : tie.Need-returns
 returns c =
     let enum-told′ = c .before .enum-told in
     let args′ = c .before .before .before .args in
-    ap Apart (c .separation-of .ensures) ∙ ap (λ region. in-region region (args′ .edge-axis) (args′ .axis)) (sym (enum-told′ .given .1))
+    ap Apart (c .separation-of .ensures) ∙ ap (λ region. in-region region (args′ .edge-axis) (args′ .axis))
+    (sym (enum-told′ .given .1))
 
 returns-2 : tie.Need-returns-2
 returns-2 c = search needs

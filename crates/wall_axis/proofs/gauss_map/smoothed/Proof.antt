@@ -13,7 +13,8 @@ returns : tie.Need-returns
 returns c =
     let is-apart′ = c .before .is-apart in
     let args′ = c .before .before .args in
-    smoothed-apart (args′ .edge) (args′ .edge1) (args′ .edge-axis) (args′ .axis) (sym (is-apart′ .ensures) ∙ c .if1 .taken)
+    smoothed-apart (args′ .edge) (args′ .edge1) (args′ .edge-axis) (args′ .axis)
+    (sym (is-apart′ .ensures) ∙ c .if1 .taken)
 
 axis-normal-requires : tie.Need-axis-normal-requires
 axis-normal-requires c κs = search needs
@@ -34,7 +35,8 @@ returns-2 c =
     c .in-region .ensures
     ∙ ap (λ region. in-region region (args′ .edge-axis) (args′ .axis))
     (gauss-region′ .ensures ∙ ap (gauss-region (args′ .edge) (args′ .edge1)) (axis-normal′ .ensures))
-    ∙ smoothed-face (args′ .edge) (args′ .edge1) (args′ .edge-axis) (args′ .axis) (sym (is-apart′ .ensures) ∙ if1′ .left)
+    ∙ smoothed-face (args′ .edge) (args′ .edge1) (args′ .edge-axis) (args′ .axis)
+    (sym (is-apart′ .ensures) ∙ if1′ .left)
 
 pub smoothed-spec : {M : Type 1} → statement M
 smoothed-spec =

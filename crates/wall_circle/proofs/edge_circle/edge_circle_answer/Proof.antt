@@ -47,7 +47,8 @@ returns-2 c =
     let wall-touch′ = c .before .before .before .before .wall-touch in
     let args′ = c .before .before .before .before .before .args in
     answered (args′ .m) (args′ .edge) (args′ .centre) _ _ _ _ (t′ .given .1)
-    (ap manifold-accepted (c .circle-point .ensures ∙ uncounted (args′ .m) _ _ _ _ _)) (wall-touch′ .ensures (args′ .m) (args′ .centre))
+    (ap manifold-accepted (c .circle-point .ensures ∙ uncounted (args′ .m) _ _ _ _ _))
+    (wall-touch′ .ensures (args′ .m) (args′ .centre))
 
 returns-3 : tie.Need-returns-3
 unfolding touch-answer
@@ -56,7 +57,8 @@ returns-3 c =
     let wall-touch′ = c .before .before .before .before .wall-touch in
     let args′ = c .before .before .before .before .before .args in
     answered (args′ .m) (args′ .edge) (args′ .centre) _ _ _ _ (t2′ .given .1)
-    (ap manifold-accepted (c .circle-point2 .ensures ∙ uncounted (args′ .m) _ _ _ _ _)) (wall-touch′ .ensures (args′ .m) (args′ .centre))
+    (ap manifold-accepted (c .circle-point2 .ensures ∙ uncounted (args′ .m) _ _ _ _ _))
+    (wall-touch′ .ensures (args′ .m) (args′ .centre))
 
 returns-4 : tie.Need-returns-4
 unfolding touch-answer

@@ -38,7 +38,8 @@ returns c =
     let if1′ = c .before .before .before .before .before .before .if1 in
     let b2-dot′ = c .before .before .before .before .before .before .before .b2-dot in
     let args′ = c .before .before .before .before .before .before .before .before .args in
-    let foot = foot-is _ (args′ .a) (args′ .b) _ _ _ _ _ _ _ (b2-dot′ .ensures) (b2-scale′ .ensures) (b2-scale2′ .ensures) (b2-add′ .ensures) (b2-scale3′ .ensures) in
+    let foot = foot-is _ (args′ .a) (args′ .b) _ _ _ _ _ _ _ (b2-dot′ .ensures) (b2-scale′ .ensures)
+    (b2-scale2′ .ensures) (b2-add′ .ensures) (b2-scale3′ .ensures) in
     let test = farther′ .ensures ∙ ap (farther (args′ .radius) (args′ .q)) foot in
     let long = sym (ap (lt zero32) (b2-dot′ .ensures)) ∙ if1′ .taken in
     simp (long, sym test ∙ c .if2 .taken)
@@ -60,9 +61,11 @@ returns-2 c =
     let b2-scale2′ = c .before .before .before .before .before .before .b2-scale2 in
     let b2-scale′ = c .before .before .before .before .before .before .before .b2-scale in
     let if1′ = c .before .before .before .before .before .before .before .before .if1 in
-    let b2-dot′ = c .before .before .before .before .before .before .before .before .before .b2-dot in
-    let args′ = c .before .before .before .before .before .before .before .before .before .before .args in
-    let foot = foot-is _ (args′ .a) (args′ .b) _ _ _ _ _ _ _ (b2-dot′ .ensures) (b2-scale′ .ensures) (b2-scale2′ .ensures) (b2-add′ .ensures) (b2-scale3′ .ensures) in
+    let earlier = c .before .before .before .before .before .before .before .before .before in
+    let b2-dot′ = earlier .b2-dot in
+    let args′ = earlier .before .args in
+    let foot = foot-is _ (args′ .a) (args′ .b) _ _ _ _ _ _ _ (b2-dot′ .ensures) (b2-scale′ .ensures)
+    (b2-scale2′ .ensures) (b2-add′ .ensures) (b2-scale3′ .ensures) in
     let test = farther′ .ensures ∙ ap (farther (args′ .radius) (args′ .q)) foot in
     let long = sym (ap (lt zero32) (b2-dot′ .ensures)) ∙ if1′ .taken in
     simp (long, sym test ∙ if2′ .left, c .unit .ensures, facing′ .ensures)

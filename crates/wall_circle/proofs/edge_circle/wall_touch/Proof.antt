@@ -1,7 +1,8 @@
 -- By the regions. Assumes nothing.
-use mathlib.Core.Path.{_≡_, refl, sym, _∙_, ap}
+use mathlib.Core.Path.{refl, sym, _∙_, ap}
 use Rattle.floats.specs.B2Math.{b2-dot}
-use Rattle.wall_circle.proofs.Regions.{touch-behind, touch-before, touch-end1, touch-after, touch-end2, touch-middle}
+use Rattle.wall_circle.proofs.Regions.{touch-behind, touch-before, touch-end1, touch-after, touch-end2}
+use Rattle.wall_circle.proofs.Regions.{touch-middle}
 use borrow.Author.Needs.{needs}
 use Rattle.wall_circle.proofs.edge_circle.wall_touch.Statement.{statement}
 use Rattle.wall_circle.proofs.edge_circle.wall_touch.Tie as tie
@@ -22,7 +23,8 @@ returns c =
     let b2-sub′ = c .before .before .before .before .before .b2-sub in
     let args′ = c .before .before .before .before .before .before .args in
     λ old centre.
-    touch-behind old (args′ .edge) centre (args′ .q) _ _ (args′ .radius) _ _ _ (b2-sub′ .ensures) (b2-sub2′ .ensures) (b2-dot′ .ensures) refl refl (c .if1 .taken)
+    touch-behind old (args′ .edge) centre (args′ .q) _ _ (args′ .radius) _ _ _ (b2-sub′ .ensures) (b2-sub2′ .ensures)
+    (b2-dot′ .ensures) refl refl (c .if1 .taken)
 
 b2-sub-requires-3 : tie.Need-b2-sub-requires-3
 b2-sub-requires-3 c κs = search needs
@@ -45,14 +47,16 @@ returns-2 c =
     let b2-sub3′ = c .before .before .before .before .before .b2-sub3 in
     let if1′ = c .before .before .before .before .before .before .if1 in
     let b2-dot′ = c .before .before .before .before .before .before .before .before .b2-dot in
-    let b2-sub2′ = c .before .before .before .before .before .before .before .before .before .b2-sub2 in
-    let b2-sub′ = c .before .before .before .before .before .before .before .before .before .before .before .b2-sub in
-    let args′ = c .before .before .before .before .before .before .before .before .before .before .before .before .args in
+    let earlier = c .before .before .before .before .before .before .before .before .before in
+    let b2-sub2′ = earlier .b2-sub2 in
+    let b2-sub′ = earlier .before .before .b2-sub in
+    let args′ = earlier .before .before .before .args in
     let edge = args′ .edge in
     let q = args′ .q in
     let u-is = b2-dot2′ .ensures ∙ ap (b2-dot _) (b2-sub3′ .ensures) in
     λ old centre.
-    touch-before old edge centre q _ _ _ _ _ _ (b2-sub′ .ensures) (b2-sub2′ .ensures) (b2-dot′ .ensures) u-is (b2-dot3′ .ensures) (if1′ .left)
+    touch-before old edge centre q _ _ _ _ _ _ (b2-sub′ .ensures) (b2-sub2′ .ensures) (b2-dot′ .ensures) u-is
+    (b2-dot3′ .ensures) (if1′ .left)
     (if2′ .taken) (sym (over-before′ .ensures) ∙ c .if3 .taken)
 
 end-touch-requires : tie.Need-end-touch-requires
@@ -67,15 +71,17 @@ returns-3 c =
     let b2-dot2′ = c .before .before .before .before .before .b2-dot2 in
     let b2-sub3′ = c .before .before .before .before .before .before .b2-sub3 in
     let if1′ = c .before .before .before .before .before .before .before .if1 in
-    let b2-dot′ = c .before .before .before .before .before .before .before .before .before .b2-dot in
-    let b2-sub2′ = c .before .before .before .before .before .before .before .before .before .before .b2-sub2 in
-    let b2-sub′ = c .before .before .before .before .before .before .before .before .before .before .before .before .b2-sub in
-    let args′ = c .before .before .before .before .before .before .before .before .before .before .before .before .before .args in
+    let earlier = c .before .before .before .before .before .before .before .before .before in
+    let b2-dot′ = earlier .b2-dot in
+    let b2-sub2′ = earlier .before .b2-sub2 in
+    let b2-sub′ = earlier .before .before .before .b2-sub in
+    let args′ = earlier .before .before .before .before .args in
     let edge = args′ .edge in
     let q = args′ .q in
     let u-is = b2-dot2′ .ensures ∙ ap (b2-dot _) (b2-sub3′ .ensures) in
     λ old centre.
-    touch-end1 old edge centre q _ _ _ _ _ _ (b2-sub′ .ensures) (b2-sub2′ .ensures) (b2-dot′ .ensures) u-is (b2-dot3′ .ensures) (if1′ .left)
+    touch-end1 old edge centre q _ _ _ _ _ _ (b2-sub′ .ensures) (b2-sub2′ .ensures) (b2-dot′ .ensures) u-is
+    (b2-dot3′ .ensures) (if1′ .left)
     _ (if2′ .taken) (sym (over-before′ .ensures) ∙ if3′ .left) (c .end-touch .ensures)
 
 over-after-requires : tie.Need-over-after-requires
@@ -90,15 +96,17 @@ returns-4 c =
     let b2-dot2′ = c .before .before .before .before .before .b2-dot2 in
     let b2-sub3′ = c .before .before .before .before .before .before .b2-sub3 in
     let if1′ = c .before .before .before .before .before .before .before .if1 in
-    let b2-dot′ = c .before .before .before .before .before .before .before .before .before .b2-dot in
-    let b2-sub2′ = c .before .before .before .before .before .before .before .before .before .before .b2-sub2 in
-    let b2-sub′ = c .before .before .before .before .before .before .before .before .before .before .before .before .b2-sub in
-    let args′ = c .before .before .before .before .before .before .before .before .before .before .before .before .before .args in
+    let earlier = c .before .before .before .before .before .before .before .before .before in
+    let b2-dot′ = earlier .b2-dot in
+    let b2-sub2′ = earlier .before .b2-sub2 in
+    let b2-sub′ = earlier .before .before .before .b2-sub in
+    let args′ = earlier .before .before .before .before .args in
     let edge = args′ .edge in
     let q = args′ .q in
     let u-is = b2-dot2′ .ensures ∙ ap (b2-dot _) (b2-sub3′ .ensures) in
     λ old centre.
-    touch-after old edge centre q _ _ _ _ _ _ (b2-sub′ .ensures) (b2-sub2′ .ensures) (b2-dot′ .ensures) u-is (b2-dot3′ .ensures) (if1′ .left)
+    touch-after old edge centre q _ _ _ _ _ _ (b2-sub′ .ensures) (b2-sub2′ .ensures) (b2-dot′ .ensures) u-is
+    (b2-dot3′ .ensures) (if1′ .left)
     (if2′ .left) (if4′ .taken) (sym (over-after′ .ensures) ∙ c .if5 .taken)
 
 end-touch-requires-2 : tie.Need-end-touch-requires-2
@@ -114,15 +122,17 @@ returns-5 c =
     let b2-dot2′ = c .before .before .before .before .before .before .b2-dot2 in
     let b2-sub3′ = c .before .before .before .before .before .before .before .b2-sub3 in
     let if1′ = c .before .before .before .before .before .before .before .before .if1 in
-    let b2-dot′ = c .before .before .before .before .before .before .before .before .before .before .b2-dot in
-    let b2-sub2′ = c .before .before .before .before .before .before .before .before .before .before .before .b2-sub2 in
-    let b2-sub′ = c .before .before .before .before .before .before .before .before .before .before .before .before .before .b2-sub in
-    let args′ = c .before .before .before .before .before .before .before .before .before .before .before .before .before .before .args in
+    let earlier = c .before .before .before .before .before .before .before .before .before .before in
+    let b2-dot′ = earlier .b2-dot in
+    let b2-sub2′ = earlier .before .b2-sub2 in
+    let b2-sub′ = earlier .before .before .before .b2-sub in
+    let args′ = earlier .before .before .before .before .args in
     let edge = args′ .edge in
     let q = args′ .q in
     let u-is = b2-dot2′ .ensures ∙ ap (b2-dot _) (b2-sub3′ .ensures) in
     λ old centre.
-    touch-end2 old edge centre q _ _ _ _ _ _ (b2-sub′ .ensures) (b2-sub2′ .ensures) (b2-dot′ .ensures) u-is (b2-dot3′ .ensures) (if1′ .left)
+    touch-end2 old edge centre q _ _ _ _ _ _ (b2-sub′ .ensures) (b2-sub2′ .ensures) (b2-dot′ .ensures) u-is
+    (b2-dot3′ .ensures) (if1′ .left)
     _ (if2′ .left) (if4′ .taken) (sym (over-after′ .ensures) ∙ if5′ .left) (c .end-touch2 .ensures)
 
 face-touch-requires : tie.Need-face-touch-requires
@@ -137,14 +147,16 @@ returns-6 c =
     let b2-sub3′ = c .before .before .before .before .before .b2-sub3 in
     let if1′ = c .before .before .before .before .before .before .if1 in
     let b2-dot′ = c .before .before .before .before .before .before .before .before .b2-dot in
-    let b2-sub2′ = c .before .before .before .before .before .before .before .before .before .b2-sub2 in
-    let b2-sub′ = c .before .before .before .before .before .before .before .before .before .before .before .b2-sub in
-    let args′ = c .before .before .before .before .before .before .before .before .before .before .before .before .args in
+    let earlier = c .before .before .before .before .before .before .before .before .before in
+    let b2-sub2′ = earlier .b2-sub2 in
+    let b2-sub′ = earlier .before .before .b2-sub in
+    let args′ = earlier .before .before .before .args in
     let edge = args′ .edge in
     let q = args′ .q in
     let u-is = b2-dot2′ .ensures ∙ ap (b2-dot _) (b2-sub3′ .ensures) in
     λ old centre.
-    touch-middle old edge centre q _ _ _ _ _ _ (b2-sub′ .ensures) (b2-sub2′ .ensures) (b2-dot′ .ensures) u-is (b2-dot3′ .ensures) (if1′ .left)
+    touch-middle old edge centre q _ _ _ _ _ _ (b2-sub′ .ensures) (b2-sub2′ .ensures) (b2-dot′ .ensures) u-is
+    (b2-dot3′ .ensures) (if1′ .left)
     _ (if2′ .left) (if4′ .left) (c .face-touch .ensures)
 
 pub wall-touch-spec : {M : Type 1} → statement M

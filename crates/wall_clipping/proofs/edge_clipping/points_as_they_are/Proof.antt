@@ -27,10 +27,11 @@ returns c =
     let point-as-it-is′ = c .before .point-as-it-is in
     let if2′ = c .before .before .if2 in
     let if1′ = c .before .before .before .if1 in
-    let START′ = c .before .before .before .before .before .before in
+    let start′ = c .before .before .before .before .before .before in
     let args′ = c .before .before .before .before .before .before .args in
-    let two = two-points (START′) in
-    kept-both point-as-it-is (args′ .t1) _ _ _ _ _ _ two _ (if1′ .taken) (if2′ .taken) (point-as-it-is′ .ensures) (c .point-as-it-is2 .ensures)
+    let two = two-points start′ in
+    kept-both point-as-it-is (args′ .t1) _ _ _ _ _ _ two _ (if1′ .taken) (if2′ .taken) (point-as-it-is′ .ensures)
+    (c .point-as-it-is2 .ensures)
 
 point-as-it-is-requires-3 : tie.Need-point-as-it-is-requires-3
 point-as-it-is-requires-3 c κs = search needs
@@ -39,9 +40,9 @@ returns-2 : tie.Need-returns-2
 returns-2 c =
     let if2′ = c .before .if2 in
     let if1′ = c .before .before .if1 in
-    let START′ = c .before .before .before .before .before in
+    let start′ = c .before .before .before .before .before in
     let args′ = c .before .before .before .before .before .args in
-    let two = two-points (START′) in
+    let two = two-points start′ in
     kept-first point-as-it-is (args′ .t1) _ _ _ _ _ _ two (if1′ .taken) (if2′ .left) (c .point-as-it-is3 .ensures)
 
 point-as-it-is-requires-4 : tie.Need-point-as-it-is-requires-4
@@ -51,9 +52,9 @@ returns-3 : tie.Need-returns-3
 returns-3 c =
     let if3′ = c .before .if3 in
     let if1′ = c .before .before .if1 in
-    let START′ = c .before .before .before .before .before in
+    let start′ = c .before .before .before .before .before in
     let args′ = c .before .before .before .before .before .args in
-    let two = two-points (START′) in
+    let two = two-points start′ in
     kept-second point-as-it-is (args′ .t1) _ _ _ _ _ _ two (if1′ .left) (if3′ .taken) (c .point-as-it-is4 .ensures)
 
 returns-4 : tie.Need-returns-4

@@ -27,10 +27,11 @@ returns c =
     let point-in-frame′ = c .before .point-in-frame in
     let if2′ = c .before .before .if2 in
     let if1′ = c .before .before .before .if1 in
-    let START′ = c .before .before .before .before .before .before in
+    let start′ = c .before .before .before .before .before .before in
     let args′ = c .before .before .before .before .before .before .args in
-    let two = two-points (START′) in
-    kept-both (point-in-frame (args′ .xf)) (args′ .t1) _ _ _ _ _ _ two _ (if1′ .taken) (if2′ .taken) (point-in-frame′ .ensures) (c .point-in-frame2 .ensures)
+    let two = two-points start′ in
+    kept-both (point-in-frame (args′ .xf)) (args′ .t1) _ _ _ _ _ _ two _ (if1′ .taken) (if2′ .taken)
+    (point-in-frame′ .ensures) (c .point-in-frame2 .ensures)
 
 point-in-frame-requires-3 : tie.Need-point-in-frame-requires-3
 point-in-frame-requires-3 c κs = search needs
@@ -39,10 +40,11 @@ returns-2 : tie.Need-returns-2
 returns-2 c =
     let if2′ = c .before .if2 in
     let if1′ = c .before .before .if1 in
-    let START′ = c .before .before .before .before .before in
+    let start′ = c .before .before .before .before .before in
     let args′ = c .before .before .before .before .before .args in
-    let two = two-points (START′) in
-    kept-first (point-in-frame (args′ .xf)) (args′ .t1) _ _ _ _ _ _ two (if1′ .taken) (if2′ .left) (c .point-in-frame3 .ensures)
+    let two = two-points start′ in
+    kept-first (point-in-frame (args′ .xf)) (args′ .t1) _ _ _ _ _ _ two (if1′ .taken) (if2′ .left)
+    (c .point-in-frame3 .ensures)
 
 point-in-frame-requires-4 : tie.Need-point-in-frame-requires-4
 point-in-frame-requires-4 c κs = search needs
@@ -51,10 +53,11 @@ returns-3 : tie.Need-returns-3
 returns-3 c =
     let if3′ = c .before .if3 in
     let if1′ = c .before .before .if1 in
-    let START′ = c .before .before .before .before .before in
+    let start′ = c .before .before .before .before .before in
     let args′ = c .before .before .before .before .before .args in
-    let two = two-points (START′) in
-    kept-second (point-in-frame (args′ .xf)) (args′ .t1) _ _ _ _ _ _ two (if1′ .left) (if3′ .taken) (c .point-in-frame4 .ensures)
+    let two = two-points start′ in
+    kept-second (point-in-frame (args′ .xf)) (args′ .t1) _ _ _ _ _ _ two (if1′ .left) (if3′ .taken)
+    (c .point-in-frame4 .ensures)
 
 returns-4 : tie.Need-returns-4
 returns-4 c =

@@ -7,21 +7,22 @@ use borrow.Author.Needs.{needs}
 use Rattle.wall_clipping.proofs.edge_clipping.reference_manifold.Statement.{statement}
 use Rattle.wall_clipping.proofs.edge_clipping.reference_manifold.Tie as tie
 
-clipped-to-sides-requires : tie.Need-clipped-to-sides-requires
-clipped-to-sides-requires c κs = search needs
+clip-to-sides-requires : tie.Need-clip-to-sides-requires
+clip-to-sides-requires c κs = search needs
 
 only-kind-requires : tie.Need-only-kind-requires
 only-kind-requires c κs = search needs
 
-two-left : (c : tie.After-clipped-to-sides) → length (c .clipped-to-sides .result .out) ≡ 2
-two-left c = simp length-map at (c .clipped-to-sides .ok .1 .1 .0 .1 .0 .1)
+two-left : (c : tie.After-clip-to-sides) → length (c .clip-to-sides .result .out) ≡ 2
+two-left c = simp length-map at (c .clip-to-sides .ok .1 .1 .0 .1 .0 .1)
 
 returns : tie.Need-returns
 returns c =
     let if1′ = c .before .if1 in
-    let clipped-to-sides′ = c .before .before .clipped-to-sides in
+    let clip-to-sides′ = c .before .before .clip-to-sides in
     let args′ = c .before .before .before .before .before .before .args in
-    given-up (args′ .f) (args′ .m) (args′ .xf) (args′ .radius) _ (clipped-to-sides′ .ensures) _ (if1′ .taken) (c .only-kind .ensures)
+    given-up (args′ .f) (args′ .m) (args′ .xf) (args′ .radius) _ (clip-to-sides′ .ensures) _ (if1′ .taken)
+    (c .only-kind .ensures)
 
 element-copy-out-e0 : tie.Need-element-copy-out-e0
 element-copy-out-e0 c = search needs
@@ -47,17 +48,19 @@ returns-2 c =
     let kept-points′ = c .before .before .before .before .kept-points in
     let within-radius2′ = c .before .before .before .before .before .before .within-radius2 in
     let within-radius′ = c .before .before .before .before .before .before .before .within-radius in
-    let if1′ = c .before .before .before .before .before .before .before .before .before .before .if1 in
-    let clipped-to-sides′ = c .before .before .before .before .before .before .before .before .before .before .before .clipped-to-sides in
-    let args′ = c .before .before .before .before .before .before .before .before .before .before .before .before .before .before .before .args in
-    points-left (args′ .f) (args′ .m) (args′ .xf) (args′ .radius) _ (clipped-to-sides′ .ensures) _ _ _ _ _ (two-left (c .before .before .before .before .before .before .before .before .before .before .before)) (if1′ .left)
+    let earlier = c .before .before .before .before .before .before .before .before .before .before in
+    let if1′ = earlier .if1 in
+    let clip-to-sides′ = earlier .before .clip-to-sides in
+    let args′ = earlier .before .before .before .before .before .args in
+    points-left (args′ .f) (args′ .m) (args′ .xf) (args′ .radius) _ (clip-to-sides′ .ensures) _ _ _ _ _
+    (two-left (earlier .before)) (if1′ .left)
     (within-radius′ .ensures) (within-radius2′ .ensures) (kept-points′ .ensures) (c .kind-of .ensures)
 
 pub reference-manifold-spec : {M : Type 1} → statement M
 reference-manifold-spec =
     tie.close
     (tie.spec
-    clipped-to-sides-requires
+    clip-to-sides-requires
     only-kind-requires
     returns
     element-copy-out-e0

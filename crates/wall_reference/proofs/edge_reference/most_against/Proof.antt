@@ -12,16 +12,19 @@ use Rattle.shape_definitions.specs.declared.b2_polygon_shape.B2polygonShape.{B2
 use Rattle.contact_definitions.specs.EdgeAxis.{placed-normal}
 use Rattle.contact_definitions.specs.EdgeReference.{most-against}
 use Rattle.wall_separation.specs.Rows.{PointRows}
-use Rattle.wall_reference.proofs.Against.{dot-at, more-against, against-from, against-begun, against-taken, against-left}
+use Rattle.wall_reference.proofs.Against.{dot-at, more-against, against-from, against-begun, against-taken}
+use Rattle.wall_reference.proofs.Against.{against-left}
 use borrow.Author.Needs.{needs}
 use Rattle.wall_reference.proofs.edge_reference.most_against.Statement.{statement}
 use Rattle.wall_reference.proofs.edge_reference.most_against.Tie as tie
 
 abbrev Inv-loop : tie.InvT-loop
 Inv-loop n nxs nys xs ys count index₀ best₀ v₀ i₀ index best v i =
-    (i ≤ count) × (count ≤ 8) × (index < count) × (length nxs ≡ 8) × (length nys ≡ 8) × (length xs ≡ 8) × (length ys ≡ 8)
+    (i ≤ count) × (count ≤ 8) × (index < count) × (length nxs ≡ 8) × (length nys ≡ 8) × (length xs ≡ 8)
+    × (length ys ≡ 8)
     × ((corner : ℕ → B2vec2) → PointRows corner count xs ys → v ≡ corner index)
-    × ((xf : B2Transform) (poly : B2polygonShape) → poly .«m_count» ≡ count → PointRows (placed-normal xf poly) count nxs nys
+    × ((xf : B2Transform) (poly : B2polygonShape) → poly .«m_count» ≡ count
+    → PointRows (placed-normal xf poly) count nxs nys
     → (best ≡ dot-at xf poly n index) × (against-from xf poly n index i count ≡ most-against xf poly n))
 
 abbrev μ-loop : tie.MeasureT-loop
@@ -52,8 +55,11 @@ loop-holds c =
       pre .4,
       pre .5,
       λ corner rows. c .row-point2 .ensures corner _ (omega arith) rows,
-      λ xf poly count-is normals.
-          (b2-dot′ .ensures ∙ ap (b2-dot n) (row-point′ .ensures _ _ (omega arith) normals), against-begun xf poly n _ count-is),
+      λ xf poly count-is normals. (
+        b2-dot′ .ensures ∙ ap (b2-dot n) (row-point′ .ensures _ _ (omega arith) normals),
+        against-begun xf poly n _
+            count-is,
+      ),
     )
 
 row-point-requires-3 : tie.Need-row-point-requires-3 Inv-loop μ-loop

@@ -1,5 +1,4 @@
 -- From the parts. Assumes nothing.
-use native.Mathlib.Omega.{arith}
 use Rattle.wall_reference.proofs.References.{face-reference-is}
 use borrow.Author.Needs.{needs}
 use Rattle.wall_reference.proofs.edge_reference.reference_b.Statement.{statement}
@@ -37,8 +36,9 @@ returns c =
     let row-point3′ = c .before .before .before .before .before .row-point3 in
     let row-point2′ = c .before .before .before .before .before .before .row-point2 in
     let row-point′ = c .before .before .before .before .before .before .before .row-point in
-    let next-index′ = c .before .before .before .before .before .before .before .before .next-index in
-    let pre′ = c .before .before .before .before .before .before .before .before .before .pre in
+    let earlier = c .before .before .before .before .before .before .before .before in
+    let next-index′ = earlier .next-index in
+    let pre′ = earlier .before .pre in
     let next = next-index′ .ensures in
     λ xf poly count-is corners normals.
     face-reference-is xf poly _ _ _ count-is _ _ _ _ _ _ _ _ _ _ _ (next .1)

@@ -6,7 +6,8 @@ use lib.ListN.{length}
 use native.Mathlib.Omega.{arith}
 use Rattle.contact_definitions.specs.Searches.{below-value, least}
 use Rattle.wall_separation.specs.Rows.{Row}
-use Rattle.wall_separation.proofs.Scans.{scanned-from, scanned-ended, least-begun, least-next}
+use Rattle.contact_definitions.proofs.Searches.{scanned-all}
+use Rattle.wall_separation.proofs.Scans.{scanned-from, least-begun, least-next}
 use borrow.Author.Needs.{needs}
 use Rattle.wall_separation.proofs.edge_separation.least_of.Statement.{statement}
 use Rattle.wall_separation.proofs.edge_separation.least_of.Tie as tie
@@ -15,13 +16,15 @@ abbrev Inv-loop : tie.InvT-loop
 Inv-loop f b count front₀ back₀ i₀ front back i =
     (i ≤ count) × (count ≤ 8) × (length f ≡ 8) × (length b ≡ 8)
     × ((ahead behind : ℕ → Float) → Row ahead count f → Row behind count b
-    → (scanned-from below-value ahead front i count ≡ least ahead count) × (scanned-from below-value behind back i count ≡ least behind count))
+    → (scanned-from below-value ahead front i count ≡ least ahead count)
+    × (scanned-from below-value behind back i count ≡ least behind count))
 
 abbrev μ-loop : tie.MeasureT-loop
 μ-loop f b count front₀ back₀ i₀ front back i = count - i
 
 loop-holds : tie.Need-loop-holds Inv-loop μ-loop
-loop-holds c = (omega arith, omega arith, c .pre .1, c .pre .2, λ ahead behind f b. (least-begun ahead _, least-begun behind _))
+loop-holds c =
+    (omega arith, omega arith, c .pre .1, c .pre .2, λ ahead behind f b. (least-begun ahead _, least-begun behind _))
 
 mul-lesser : tie.Need-mul-lesser Inv-loop μ-loop
 mul-lesser c = search needs
@@ -58,8 +61,10 @@ loop-again c =
       inv .2,
       inv .3,
       λ ahead behind f b. (
-        least-next ahead _ _ _ _ i _ (omega arith) (f .at i _ (omega arith)) (lesser′ .ensures) (inv .4 ahead behind f b .0),
-        least-next behind _ _ _ _ i _ (omega arith) (b .at i _ (omega arith)) (c .lesser2 .ensures) (inv .4 ahead behind f b .1),
+        least-next ahead _ _ _ _ i _ (omega arith) (f .at i _ (omega arith)) (lesser′ .ensures)
+            (inv .4 ahead behind f b .0),
+        least-next behind _ _ _ _ i _ (omega arith) (b .at i _ (omega arith)) (c .lesser2 .ensures)
+            (inv .4 ahead behind f b .1),
       ),
     )
 
@@ -69,8 +74,8 @@ returns c =
     let i = loop′ .i in
     let inv = loop′ .inv in
     λ ahead behind f b. (
-      scanned-ended below-value ahead _ _ i _ (omega arith) (inv .4 ahead behind f b .0),
-      scanned-ended below-value behind _ _ i _ (omega arith) (inv .4 ahead behind f b .1),
+      scanned-all below-value ahead _ _ i _ (inv .4 ahead behind f b .0) (omega arith),
+      scanned-all below-value behind _ _ i _ (inv .4 ahead behind f b .1) (omega arith),
     )
 
 pub least-of-spec : {M : Type 1} → statement M

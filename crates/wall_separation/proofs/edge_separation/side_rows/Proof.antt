@@ -15,7 +15,8 @@ abbrev Inv-loop : tie.InvT-loop
 Inv-loop xs ys n v1 n1 front₀ back₀ i₀ front back i =
     (i ≤ n) × (n ≤ 8) × (length xs ≡ 8) × (length ys ≡ 8) × (length front ≡ 8) × (length back ≡ 8)
     × ((corner : ℕ → B2vec2) → PointRows corner n xs ys
-    → Row (λ k. b2-dot n1 (b2-sub (corner k) v1)) i front × Row (λ k. b2-dot (b2-neg n1) (b2-sub (corner k) v1)) i back)
+    → Row (λ k. b2-dot n1 (b2-sub (corner k) v1)) i front
+    × Row (λ k. b2-dot (b2-neg n1) (b2-sub (corner k) v1)) i back)
 
 abbrev μ-loop : tie.MeasureT-loop
 μ-loop xs ys n v1 n1 front₀ back₀ i₀ front back i = n - i
@@ -90,15 +91,23 @@ loop-again c =
       λ corner rows.
           let d-is = difference-read i _ _ _ _ (omega arith) rows (b2-sub′ .ensures) in (
             row-next _ (omega arith) (inv .6 corner rows .0) (b2-dot′ .ensures ∙ ap (b2-dot _) d-is),
-            row-next _ (omega arith) (inv .6 corner rows .1) (c .b2-dot2 .ensures ∙ ap₂ b2-dot (b2-neg′ .ensures) d-is),
+            row-next _ (omega arith) (inv .6 corner rows .1)
+                (c .b2-dot2 .ensures ∙ ap₂ b2-dot (b2-neg′ .ensures) d-is),
           ),
     )
 
 returns : tie.Need-returns Inv-loop μ-loop
 returns c =
     let loop′ = c .before .loop in
-    let inv = loop′ .inv in
-    (inv .4, inv .5, λ corner rows. (row-fewer (omega arith) (inv .6 corner rows .0), row-fewer (omega arith) (inv .6 corner rows .1)))
+    let inv = loop′ .inv in (
+      inv .4,
+      inv .5,
+      λ corner rows. (
+        row-fewer (omega arith) (inv .6 corner rows .0),
+        row-fewer (omega arith)
+            (inv .6 corner rows .1),
+      ),
+    )
 
 pub side-rows-spec : {M : Type 1} → statement M
 side-rows-spec =

@@ -1,7 +1,7 @@
 -- What the scan keeps from here is what it keeps of all faces. Assumes nothing.
 use mathlib.Core.Path.{_≡_}
 use mathlib.Core.Logic.{⊎-elim}
-use Prim.Native.Nat.{ℕ, _≤_, _-_}
+use Prim.Native.Nat.{_≤_, _-_}
 use lib.ListN.{length}
 use native.Mathlib.Omega.{arith}
 use Rattle.floats.specs.declared.b2_math.B2vec2.{B2vec2}
@@ -9,9 +9,10 @@ use Rattle.floats.specs.declared.b2_math.B2Transform.{B2Transform}
 use Rattle.shape_definitions.specs.declared.b2_polygon_shape.B2polygonShape.{B2polygonShape}
 use Rattle.contact_definitions.specs.declared.axis.Axis.the-variants.{FaceB}
 use Rattle.contact_definitions.specs.Axis.{keeps-farther}
-use Rattle.contact_definitions.specs.EdgeAxis.{placed-corner, placed-normal, outline-axis, b2-compute-polygon-separation}
+use Rattle.contact_definitions.specs.EdgeAxis.{placed-corner, placed-normal, outline-axis}
+use Rattle.contact_definitions.specs.EdgeAxis.{b2-compute-polygon-separation}
 use Rattle.wall_separation.specs.Rows.{Row, PointRows, face-distance}
-use Rattle.wall_separation.proofs.Scans.{scanned-next, scanned-ended}
+use Rattle.contact_definitions.proofs.Searches.{scanned, scanned-all}
 use Rattle.wall_separation.proofs.FaceScan.{faces-from, faces-begun, face-taken, face-left}
 use borrow.Author.Needs.{needs}
 use Rattle.wall_separation.proofs.polygon_separation.b2_compute_polygon_separation.Statement.{
@@ -23,14 +24,23 @@ abbrev Inv-loop : tie.InvT-loop
 Inv-loop faces nxs nys count separation₀ x₀ y₀ place₀ i₀ separation x y place i =
     (i ≤ count) × (count ≤ 8) × (length faces ≡ 8) × (length nxs ≡ 8) × (length nys ≡ 8)
     × ((xf : B2Transform) (poly : B2polygonShape) (v1 v2 : B2vec2) → poly .«m_count» ≡ count
-    → Row (λ k. face-distance (placed-normal xf poly k) (placed-corner xf poly k) v1 v2) count faces → PointRows (placed-normal xf poly) count nxs nys
+    → Row (λ k. face-distance (placed-normal xf poly k) (placed-corner xf poly k) v1 v2) count faces
+    → PointRows (placed-normal xf poly) count nxs nys
     → faces-from xf poly v1 v2 (FaceB separation x y place) i count ≡ b2-compute-polygon-separation xf poly v1 v2)
 
 abbrev μ-loop : tie.MeasureT-loop
 μ-loop faces nxs nys count separation₀ x₀ y₀ place₀ i₀ separation x y place i = count - i
 
 loop-holds : tie.Need-loop-holds Inv-loop μ-loop
-loop-holds c = (omega arith, omega arith, c .pre .1, c .pre .2, c .pre .3, λ xf poly v1 v2 count-is rows normals. faces-begun xf poly v1 v2 _ count-is)
+loop-holds c = (
+  omega arith,
+  omega arith,
+  c .pre .1,
+  c .pre .2,
+  c .pre .3,
+  λ xf poly v1 v2 count-is rows normals. faces-begun xf
+      poly v1 v2 _ count-is,
+)
 
 mul-s : tie.Need-mul-s Inv-loop μ-loop
 mul-s c = search needs
@@ -69,9 +79,10 @@ loop-again c =
       inv .3,
       inv .4,
       λ xf poly v1 v2 count-is rows normals.
-          scanned-next keeps-farther (outline-axis xf poly v1 v2) _ _ _ i _ (omega arith)
-          (face-taken xf poly v1 v2 i _ _ _ _ _ (rows .at i _ (omega arith)) _ _ (normals .x .at i _ (omega arith)) (normals .y .at i _ (omega arith)) (w .0 .taken))
-          (inv .5 xf poly v1 v2 count-is rows normals),
+          scanned keeps-farther (outline-axis xf poly v1 v2) _ _ i _ (inv .5 xf poly v1 v2 count-is rows normals) _
+          (omega arith)
+          (face-taken xf poly v1 v2 i _ _ _ _ _ (rows .at i _ (omega arith)) _ _ (normals .x .at i _ (omega arith))
+          (normals .y .at i _ (omega arith)) (w .0 .taken)),
     ))
     (λ w. rw (w .1, w .2, w .3, w .4) (
       omega arith,
@@ -80,9 +91,9 @@ loop-again c =
       inv .3,
       inv .4,
       λ xf poly v1 v2 count-is rows normals.
-          scanned-next keeps-farther (outline-axis xf poly v1 v2) _ _ _ i _ (omega arith)
-          (face-left xf poly v1 v2 i _ _ _ _ _ (rows .at i _ (omega arith)) (w .0 .left))
-          (inv .5 xf poly v1 v2 count-is rows normals),
+          scanned keeps-farther (outline-axis xf poly v1 v2) _ _ i _ (inv .5 xf poly v1 v2 count-is rows normals) _
+          (omega arith)
+          (face-left xf poly v1 v2 i _ _ _ _ _ (rows .at i _ (omega arith)) (w .0 .left)),
     ))
     (c .if1 .came)
 
@@ -91,7 +102,8 @@ returns c =
     let loop′ = c .before .loop in
     let i = loop′ .i in
     λ xf poly v1 v2 count-is rows normals.
-    scanned-ended keeps-farther (outline-axis xf poly v1 v2) _ _ i _ (omega arith) (loop′ .inv .5 xf poly v1 v2 count-is rows normals)
+    scanned-all keeps-farther (outline-axis xf poly v1 v2) _ _ i _
+    (loop′ .inv .5 xf poly v1 v2 count-is rows normals) (omega arith)
 
 pub b2-compute-polygon-separation-spec : {M : Type 1} → statement M
 b2-compute-polygon-separation-spec =

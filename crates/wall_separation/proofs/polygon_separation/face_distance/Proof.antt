@@ -30,7 +30,14 @@ returns c =
     let b2-dot′ = c .before .before .before .b2-dot in
     let b2-sub′ = c .before .before .before .before .b2-sub in
     let b2-neg′ = c .before .before .before .before .before .b2-neg in
-    simp (c .b2-min .ensures, b2-dot2′ .ensures, b2-sub2′ .ensures, b2-dot′ .ensures, b2-sub′ .ensures, b2-neg′ .ensures)
+    simp (
+      c .b2-min .ensures,
+      b2-dot2′ .ensures,
+      b2-sub2′ .ensures,
+      b2-dot′ .ensures,
+      b2-sub′ .ensures,
+      b2-neg′ .ensures,
+    )
 
 pub face-distance-spec : {M : Type 1} → statement M
 face-distance-spec =

@@ -7,7 +7,8 @@ use Rattle.floats.specs.declared.b2_math.B2vec2.{B2vec2}
 use Rattle.floats.specs.B2Math.{b2-mul-rot-by-vec2}
 use Rattle.shape_definitions.specs.Outline.{point-at}
 use Rattle.wall_separation.specs.Rows.{Row, PointRows, face-distance}
-use Rattle.wall_separation.proofs.Filled.{row-empty, row-fewer, row-next, points-empty, points-fewer, points-next, at-place, face-read}
+use Rattle.wall_separation.proofs.Filled.{row-empty, row-fewer, row-next, points-empty, points-fewer}
+use Rattle.wall_separation.proofs.Filled.{points-next, at-place, face-read}
 use borrow.Author.Needs.{needs}
 use Rattle.wall_separation.proofs.polygon_separation.normal_rows.Statement.{statement}
 use Rattle.wall_separation.proofs.polygon_separation.normal_rows.Tie as tie
@@ -95,7 +96,8 @@ loop-again c =
     let args′ = c .before .before .before .before .before .before .before .args in
     let i = loop′ .i in
     let inv = loop′ .inv in
-    let m-is = b2-mul-rot-by-vec2′ .ensures ∙ ap (b2-mul-rot-by-vec2 (args′ .q)) (at-place (args′ .t2) i _ (omega arith)) in (
+    let m-is = b2-mul-rot-by-vec2′ .ensures ∙ ap (b2-mul-rot-by-vec2 (args′ .q))
+    (at-place (args′ .t2) i _ (omega arith)) in (
       omega arith,
       omega arith,
       inv .2,
@@ -103,7 +105,8 @@ loop-again c =
       inv .4,
       simp length-set (inv .5),
       points-next _ (omega arith) (inv .6) m-is,
-      λ corner rows. row-next _ (omega arith) (inv .7 corner rows) (face-read i _ _ _ _ _ _ _ (omega arith) rows m-is (c .face-distance .ensures)),
+      λ corner rows. row-next _ (omega arith) (inv .7 corner rows)
+          (face-read i _ _ _ _ _ _ _ (omega arith) rows m-is (c .face-distance .ensures)),
     )
 
 returns : tie.Need-returns Inv-loop μ-loop

@@ -1,7 +1,7 @@
 -- The places below i are filled. Assumes nothing.
 use mathlib.Core.Path.{_≡_, _∙_, ap}
 use Prim.Native.Nat.{_≤_, _-_}
-use lib.ListN.{length, length-set}
+use lib.ListN.{length}
 use native.Mathlib.Omega.{arith}
 use Rattle.floats.specs.B2Math.{b2-mul-transform-by-vec2}
 use Rattle.shape_definitions.specs.Outline.{point-at}
@@ -64,7 +64,8 @@ loop-again c =
       omega arith,
       omega arith,
       inv .2,
-      points-next _ (omega arith) (inv .3) (c .b2-mul-transform-by-vec2 .ensures ∙ ap (b2-mul-transform-by-vec2 _) (at-place (args′ .t2) i _ (omega arith))),
+      points-next _ (omega arith) (inv .3) (c .b2-mul-transform-by-vec2 .ensures
+          ∙ ap (b2-mul-transform-by-vec2 _) (at-place (args′ .t2) i _ (omega arith))),
     )
 
 returns : tie.Need-returns Inv-loop μ-loop

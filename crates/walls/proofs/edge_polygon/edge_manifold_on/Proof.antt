@@ -21,7 +21,8 @@ enum-known-axis c = search needs
 no-points-requires : tie.Need-no-points-requires
 no-points-requires c κs = search needs
 
-eight-places : (c : tie.Start) → (length (c .args .polygon .«m_vertices») ≡ 8) × (length (c .args .polygon .«m_normals») ≡ 8)
+eight-places : (c : tie.Start) → (length (c .args .polygon .«m_vertices») ≡ 8)
+    × (length (c .args .polygon .«m_normals») ≡ 8)
 eight-places c =
     let polygon = c .good .1 .1 .1 .1 .1 .0 in
     (simp length-map at (polygon .1 .1 .1 .1 .0 .1 .0 .1), simp length-map at (polygon .1 .1 .1 .1 .1 .0 .1 .0 .1))
@@ -30,7 +31,8 @@ returns : tie.Need-returns
 returns c =
     let axis′ = c .before .before .axis in
     let args′ = c .before .before .before .before .before .before .args in
-    c .no-points .ensures ∙ ap (λ axis. edge-manifold-on axis (with-count (args′ .m) 0) (args′ .edge) (args′ .edge1) (args′ .xf) (args′ .polygon) (args′ .radius)) (sym (axis′ .given .1))
+    c .no-points .ensures ∙ ap (λ axis. edge-manifold-on axis (with-count (args′ .m) 0) (args′ .edge) (args′ .edge1)
+    (args′ .xf) (args′ .polygon) (args′ .radius)) (sym (axis′ .given .1))
 
 enum-known-axis-2 : tie.Need-enum-known-axis-2
 enum-known-axis-2 c = search needs
@@ -89,20 +91,23 @@ returns-2 c =
     let match′ = c .before .match in
     let args′ = c .before .before .before .before .args in
     let pre′ = c .before .before .before .before .pre in
-    let START′ = c .before .before .before .before in
+    let start′ = c .before .before .before .before in
     let args = args′ in
     let pre = pre′ in
-    let two = eight-places (START′) in
+    let two = eight-places start′ in
     let made : Reference → B2manifold = λ f. reference-manifold f (args .m) (args .xf) (args .radius) in
-    let on : Axis → B2manifold = λ axis. edge-manifold-on axis (with-count (args .m) 0) (args .edge) (args .edge1) (args .xf) (args .polygon) (args .radius) in
+    let on : Axis → B2manifold = λ axis. edge-manifold-on axis (with-count (args .m) 0) (args .edge) (args .edge1)
+    (args .xf) (args .polygon) (args .radius) in
     ⊎-elim
     (λ w.
     c .reference-manifold .ensures ∙ ap made (w .4 ∙ w .3 .ensures (args .xf) (args .polygon) refl (pre .3) (pre .4))
-    ∙ on-wall (args .m) (args .edge) (args .xf) (args .polygon) (args .radius) (args .edge1) _ ∙ ap on (sym (w .1 .given .1)))
+    ∙ on-wall (args .m) (args .edge) (args .xf) (args .polygon) (args .radius) (args .edge1) _
+    ∙ ap on (sym (w .1 .given .1)))
     (λ w.
     let below = subst (place-below (args .polygon .«m_count»)) (w .1 .given .1) (pre .2) in
     c .reference-manifold .ensures ∙ ap made (w .8 ∙ w .7 .ensures (args .xf) (args .polygon) refl (pre .3) (pre .4))
-    ∙ on-face-read (args .m) (args .edge) (args .xf) (args .polygon) (args .radius) _ _ _ (omega arith) (two .1) (two .0)
+    ∙ on-face-read (args .m) (args .edge) (args .xf) (args .polygon) (args .radius) _ _ _ (omega arith) (two .1)
+    (two .0)
     ∙ ap on (sym (w .1 .given .1)))
     (match′ .came)
 

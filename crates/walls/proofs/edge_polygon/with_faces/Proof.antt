@@ -3,9 +3,8 @@ use mathlib.Core.Path.{_≡_, refl, sym, _∙_, ap, subst}
 use Prim.Native.Nat.{_≤_}
 use native.Mathlib.Omega.{arith}
 use Rattle.contact_definitions.specs.Manifold.{with-count}
-use Rattle.contact_definitions.specs.EdgeAxis.{placed-corner, placed-normal, edge-polygon-axis}
+use Rattle.contact_definitions.specs.EdgeAxis.{edge-polygon-axis}
 use Rattle.contact_definitions.specs.EdgeReference.{edge-manifold-on}
-use Rattle.wall_separation.specs.Rows.{PointRows}
 use Rattle.wall_separation.proofs.Filled.{row-fewer, points-fewer}
 use Rattle.walls.specs.Places.{place-below}
 use Rattle.walls.proofs.PlacesOf.{axis-place}
@@ -29,32 +28,51 @@ smoothed-if-requires c κs = search needs
 few-places : (c : tie.Start) → c .args .polygon .«m_count» ≤ c .args .n
 few-places c = c .pre .1
 
+abbrev start-of : tie.After-smoothed-if → tie.Start
+start-of c = c .before .before .before .before .before .before .before .before .before .before .before
+
 axis-is : (c : tie.After-smoothed-if)
-    → c .smoothed-if .result ≡ edge-polygon-axis (c .before .before .before .before .before .before .before .before .before .before .before .args .radius) (c .before .before .before .before .before .before .before .before .before .before .before .args .edge) (c .before .before .before .before .before .before .before .before .before .before .before .args .edge1) (c .before .before .before .before .before .before .before .before .before .before .before .args .xf) (c .before .before .before .before .before .before .before .before .before .before .before .args .polygon)
+    → c .smoothed-if .result
+    ≡ edge-polygon-axis (start-of c .args .radius) (start-of c .args .edge) (start-of c .args .edge1)
+    (start-of c .args .xf) (start-of c .args .polygon)
 axis-is c =
-    let args = c .before .before .before .before .before .before .before .before .before .before .before .args in
-    let pre = c .before .before .before .before .before .before .before .before .before .before .before .pre in
-    let few = few-places (c .before .before .before .before .before .before .before .before .before .before .before) in
-    let faces = faces-placed (args .xf) (args .polygon) _ _ (c .before .before .before .before .before .before .normal-rows .ensures .2 _ (pre .5)) in
-    let face-is = c .before .before .b2-compute-polygon-separation .ensures (args .xf) (args .polygon) _ _ refl (row-fewer few faces) (points-fewer few (normals-placed (args .xf) (args .polygon) (c .before .before .before .before .before .before .normal-rows .ensures .0))) in
-    axis-found (args .edge) (args .edge1) (args .xf) (args .polygon) (args .radius) _ _ _ _ (pre .3) face-is (c .before .primary-axis .ensures) (c .smoothed-if .ensures)
+    let args = start-of c .args in
+    let pre = start-of c .pre in
+    let few = few-places (start-of c) in
+    let rows = c .before .before .before .before .before .before .normal-rows .ensures in
+    let faces = row-fewer few (faces-placed (args .xf) (args .polygon) _ _ (rows .2 _ (pre .5))) in
+    let normals = points-fewer few (normals-placed (args .xf) (args .polygon) (rows .0)) in
+    let face-is = c .before .before .b2-compute-polygon-separation .ensures (args .xf)
+    (args .polygon) _ _ refl faces normals in
+    axis-found (args .edge) (args .edge1) (args .xf) (args .polygon) (args .radius) _ _ _ _ (pre .3) face-is
+    (c .before .primary-axis .ensures) (c .smoothed-if .ensures)
 
 edge-manifold-on-requires : tie.Need-edge-manifold-on-requires
 edge-manifold-on-requires c κs =
-    let normal-rows′ = c .before .before .before .before .before .before .before .before .normal-rows in
-    let START′ = c .before .before .before .before .before .before .before .before .before .before .before .before .before in
-    let pre′ = c .before .before .before .before .before .before .before .before .before .before .before .before .before .pre in
-    let args′ = c .before .before .before .before .before .before .before .before .before .before .before .before .before .args in
-    let few = few-places (START′) in
+    let earlier = c .before .before .before .before .before .before .before .before in
+    let normal-rows′ = earlier .normal-rows in
+    let start′ = earlier .before .before .before .before .before in
+    let pre′ = earlier .before .before .before .before .before .pre in
+    let args′ = earlier .before .before .before .before .before .args in
+    let few = few-places start′ in
     let corners = points-fewer few (pre′ .5) in
-    let found = axis-is (c .before .before) in
-    (pre′ .0, omega arith, subst (place-below (args′ .polygon .«m_count»)) (sym found) (axis-place (args′ .xf) (args′ .polygon) (args′ .radius) (args′ .edge) (args′ .edge1) (pre′ .0)), corners, points-fewer few (normals-placed (args′ .xf) (args′ .polygon) (normal-rows′ .ensures .0)))
+    let found = axis-is (c .before .before) in (
+      pre′ .0,
+      omega arith,
+      subst (place-below (args′ .polygon .«m_count»)) (sym found)
+          (axis-place (args′ .xf) (args′ .polygon) (args′ .radius) (args′ .edge) (args′ .edge1) (pre′ .0)),
+      corners,
+      points-fewer few (normals-placed (args′ .xf) (args′ .polygon) (normal-rows′ .ensures .0)),
+    )
 
 returns : tie.Need-returns
 returns c =
-    let args′ = c .before .before .before .before .before .before .before .before .before .before .before .before .before .before .args in
+    let earlier = c .before .before .before .before .before .before .before in
+    let earlier2 = earlier .before .before .before .before .before .before .before in
+    let args′ = earlier2 .args in
     c .edge-manifold-on .ensures
-    ∙ ap (λ axis. edge-manifold-on axis (with-count (args′ .m) 0) (args′ .edge) (args′ .edge1) (args′ .xf) (args′ .polygon) (args′ .radius))
+    ∙ ap (λ axis. edge-manifold-on axis (with-count (args′ .m) 0) (args′ .edge) (args′ .edge1) (args′ .xf)
+    (args′ .polygon) (args′ .radius))
     (axis-is (c .before .before .before))
 
 pub with-faces-spec : {M : Type 1} → statement M

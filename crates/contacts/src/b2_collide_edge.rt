@@ -1,0 +1,101 @@
+// Wall against circle, and wall against outline (Box2D's b2_collide_edge.cpp).
+ghost use mathlib.Core.Path.{_≡_};
+ghost use mathlib.Core.Bool.{_&&_};
+ghost use Rattle.shape_definitions.specs.Circle.{circle-in-range};
+ghost use Rattle.shape_definitions.specs.Edge.{edge-in-range};
+ghost use Rattle.shape_definitions.specs.Validate.{polygon-in-range};
+ghost use Rattle.contact_definitions.specs.B2CollideEdge.{b2-collide-edge-and-circle, b2-collide-edge-and-polygon};
+ghost use Rattle.contacts.specs.Parts.{wall-circle};
+use crate::answers;
+use clipping::unit;
+use contact_definitions::b2_collision::B2manifold;
+use contact_definitions::b2_collision::ManifoldAnswer;
+use floats::b2_math;
+use floats::b2_math::B2Transform;
+use shape_definitions::b2_circle_shape::B2circleShape;
+use shape_definitions::b2_edge_shape::B2edgeShape;
+use shape_definitions::b2_polygon_shape::B2polygonShape;
+use shape_definitions::refusal;
+use shape_ranges::circle_range;
+use shape_ranges::edge_range;
+use shape_ranges::polygon_range;
+use wall_circle::edge_circle;
+use walls::edge_polygon;
+
+fn edge_circle_in_range(a: B2edgeShape, b: B2circleShape) -> bool
+    ensures { λ r. ⌜ r ≡ (edge-in-range a && circle-in-range b) ⌝ }
+{
+    let a_in = edge_range::edge_in_range(a);
+    let b_in = circle_range::circle_in_range(b);
+    a_in & b_in
+}
+
+// The answer for a wall and a circle in range: the circle's centre is taken to the wall's frame.
+fn wall_circle_answer(
+    m: B2manifold,
+    a: B2edgeShape,
+    xfa: B2Transform,
+    b: B2circleShape,
+    xfb: B2Transform,
+) -> ManifoldAnswer
+    ensures { λ r. ⌜ r ≡ wall-circle m a xfa b xfb ⌝ }
+{
+    let centre = b.m_p;
+    let radius = a.m_radius + b.m_radius;
+    let q = b2_math::b2_mul_t_transform_by_vec2(
+        xfa,
+        b2_math::b2_mul_transform_by_vec2(xfb, centre),
+    );
+    edge_circle::edge_circle_answer(m, a, q, radius, centre)
+}
+
+pub fn b2_collide_edge_and_circle(
+    m: B2manifold,
+    a: B2edgeShape,
+    xfa: B2Transform,
+    b: B2circleShape,
+    xfb: B2Transform,
+) -> ManifoldAnswer
+    ensures { λ r. ⌜ r ≡ b2-collide-edge-and-circle m a xfa b xfb ⌝ }
+{
+    let shapes = edge_circle_in_range(a, b);
+    let placed = answers::placements_in_range(xfa, xfb);
+    if shapes & placed {
+        return wall_circle_answer(m, a, xfa, b, xfb);
+    }
+    answers::out_of_range(m, shapes)
+}
+
+fn edge_polygon_in_range(a: B2edgeShape, b: B2polygonShape) -> bool
+    ensures { λ r. ⌜ r ≡ (edge-in-range a && polygon-in-range b) ⌝ }
+{
+    let a_in = edge_range::edge_in_range(a);
+    let b_in = polygon_range::polygon_in_range(b);
+    a_in & b_in
+}
+
+// The wall's root is taken first, since all that follows waits for it.
+pub fn b2_collide_edge_and_polygon(
+    m: B2manifold,
+    a: B2edgeShape,
+    xfa: B2Transform,
+    b: B2polygonShape,
+    xfb: B2Transform,
+) -> ManifoldAnswer
+    ensures { λ r. ⌜ r ≡ b2-collide-edge-and-polygon m a xfa b xfb ⌝ }
+{
+    let v1 = a.m_vertex1;
+    let v2 = a.m_vertex2;
+    let count = b.m_count;
+    let k = unit::unit_scale(b2_math::b2_sub(v2, v1));
+    if answers::miscounted(count) {
+        return answers::refused(m, refusal::COUNT_OUT_OF_RANGE);
+    }
+    let shapes = edge_polygon_in_range(a, b);
+    let placed = answers::placements_in_range(xfa, xfb);
+    if shapes & placed {
+        let xf = b2_math::b2_mul_t_transform(xfa, xfb);
+        return answers::accepted(edge_polygon::edge_polygon_manifold(m, a, k, xf, b));
+    }
+    answers::out_of_range(m, shapes)
+}

@@ -1,0 +1,2 @@
+// The reference face of one outline and the incident edge of the other, gathered and placed for the clipping.
+pub mod faces;
