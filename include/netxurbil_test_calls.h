@@ -4,7 +4,7 @@
 #include <stddef.h>
 #include <stdint.h>
 
-/* The refusals. 8 to 13 are given by no entry yet. */
+/* The refusals. 10 to 13 are given by no entry yet. */
 enum netxurbil_refusal {
     NETXURBIL_ACCEPTED = 0,
     NETXURBIL_WRONG_NUMBER_OF_POINTS = 1, /* an outline without 3 to 8 points */
@@ -28,8 +28,12 @@ enum netxurbil_refusal {
    writes outside the two slices.
 
    POLY is 36 words: radius, centroid x y, count, 8 vertices, 8 normals. EDGE is 10 words: radius, flag (1 for
-   one-sided, 0 for two-sided), v0, v1, v2, v3. Points are x then y. A refused call answers the record that it was
-   given.
+   one-sided, 0 for two-sided), v0, v1, v2, v3. CIRCLE is 3: radius, centre. XF, a placement, is 4: position, sine,
+   cosine. MAN is 16: kind (0 circles, 1 face A, 2 face B), count, local normal, local point, then twice: local point,
+   normal impulse, tangent impulse, id. CLIPV is 3: point, id. An id is one word, its bytes index A, index B, type A,
+   type B, highest first. A state is 0 for null, 1 for add, 2 for persist, 3 for remove. Points are x then y. A count
+   may be any word; a kind, flag or state that is none of these makes the request malformed. A refused call answers
+   the record that it was given.
 
       1, POLY, n, n points                     the outline builder: refusal, POLY
       2, POLY, hx, hy                          a box: refusal, POLY
@@ -37,6 +41,14 @@ enum netxurbil_refusal {
       4, POLY                                  is it convex: refusal, 0 or 1
       5, EDGE, v0, v1, v2, v3                  a one-sided wall: refusal, EDGE
       6, EDGE, v1, v2                          a two-sided wall: refusal, EDGE
+      7, MAN, CIRCLE, XF, CIRCLE, XF           circle A against circle B: refusal, MAN
+      8, MAN, POLY, XF, CIRCLE, XF             outline against circle: refusal, MAN
+      9, MAN, POLY, XF, POLY, XF               outline A against outline B: refusal, MAN
+     10, MAN, EDGE, XF, CIRCLE, XF             wall against circle: refusal, MAN
+     11, MAN, EDGE, XF, POLY, XF               wall against outline: refusal, MAN
+     12, 2 CLIPV, 2 CLIPV, normal, offset,     a segment clipped to a line, over the first two CLIPV: refusal, count,
+         index                                 2 CLIPV; an index counts by its remainder by 256
+     14, 4 states, MAN, MAN                    states of the old and the new manifold's points: refusal, 4 states
      15, x                                     the square root of x: refusal, root
      16, x, y                                  the vector (x, y) made unit: refusal, length, x, y; a length
                                                below 2^-23 is given as 0 and changes nothing */

@@ -7,9 +7,10 @@ use lib.ListN.{length}
 use lib.Ieee.{Float}
 use Rattle.floats.specs.declared.b2_math.Normalized.{Normalized}
 use Rattle.floats.specs.B2Math.{vec2, b2-sqrt, b2-normalize}
+use Rattle.contact_entries.specs.ContactEntries.{contact-answer}
 use Rattle.wire_records.specs.Words.{word-at}
 use Rattle.wire_records.specs.Records.{float-at, bits}
-use Rattle.test_calls.specs.Entries.{root-answer, normalize-answer, shape-answer, answer}
+use Rattle.test_calls.specs.Entries.{root-answer, normalize-answer, shape-answer, entry-answer, answer}
 
 pub root-words : (request : List ℕ) (x root : Float) (w : ℕ) → length request ≡ 8 → x ≡ float-at request 1
     → root ≡ b2-sqrt x
@@ -40,9 +41,8 @@ pub answers-as : (number entry : ℕ) (request : List ℕ) → entry ≡ number
     → shape-answer number request ≡ shape-answer entry request
 answers-as number entry request is = rw is
 
-pub no-shape : (entry : ℕ) (request : List ℕ) → (entry ≡ 1 → ⊥) → (entry ≡ 2 → ⊥) → (entry ≡ 3 → ⊥) → (entry ≡ 4 → ⊥)
-    → (entry ≡ 5 → ⊥)
-    → (entry ≡ 6 → ⊥) → shape-answer entry request ≡ []
+pub no-shape : (entry : ℕ) (request : List ℕ) → (entry ≡ 1 → ⊥) → (entry ≡ 2 → ⊥) → (entry ≡ 3 → ⊥)
+    → (entry ≡ 4 → ⊥) → (entry ≡ 5 → ⊥) → (entry ≡ 6 → ⊥) → shape-answer entry request ≡ []
 unfolding shape-answer
 no-shape entry request no-1 no-2 no-3 no-4 no-5 no-6 =
     simp (ne-eqb _ _ no-1, ne-eqb _ _ no-2, ne-eqb _ _ no-3, ne-eqb _ _ no-4, ne-eqb _ _ no-5, ne-eqb _ _ no-6)
@@ -52,20 +52,23 @@ unfolding answer
 no-entry request short = simp (lt-ltb _ _ short)
 
 module _ (request : List ℕ) (entry : ℕ) (room : 4 ≤ length request) (entry-is : entry ≡ word-at request 0) where
-  pub root-entry : entry ≡ 15 → root-answer request ≡ answer request
+  answers : entry-answer entry request ≡ answer request
   unfolding answer
-  root-entry is = simp (le-ltb _ _ room, eq-eqb _ _ (sym entry-is ∙ is))
+  answers = simp (le-ltb _ _ room, entry-is)
+
+  pub root-entry : entry ≡ 15 → root-answer request ≡ answer request
+  unfolding entry-answer
+  root-entry is = sym (simp is) ∙ answers
 
   pub normalize-entry : entry ≡ 16 → normalize-answer request ≡ answer request
-  unfolding answer
-  normalize-entry is = simp (le-ltb _ _ room, sym entry-is ∙ is)
+  unfolding entry-answer
+  normalize-entry is = sym (simp is) ∙ answers
 
-  pub shape-entry : (entry ≡ 15 → ⊥) → (entry ≡ 16 → ⊥) → shape-answer entry request ≡ answer request
-  unfolding answer
-  shape-entry no-15 no-16 =
-      simp (
-        le-ltb _ _ room,
-        entry-is,
-        ne-eqb _ _ (λ (e : word-at request 0 ≡ 15). no-15 (entry-is ∙ e)),
-        ne-eqb _ _ (λ (e : word-at request 0 ≡ 16). no-16 (entry-is ∙ e)),
-      )
+  module _ (no-15 : entry ≡ 15 → ⊥) (no-16 : entry ≡ 16 → ⊥) where
+    pub shape-entry : entry < 7 → shape-answer entry request ≡ answer request
+    unfolding entry-answer
+    shape-entry below = sym (simp (ne-eqb _ _ no-15, ne-eqb _ _ no-16, lt-ltb _ _ below)) ∙ answers
+
+    pub contact-entry : 7 ≤ entry → contact-answer entry request ≡ answer request
+    unfolding entry-answer
+    contact-entry above = sym (simp (ne-eqb _ _ no-15, ne-eqb _ _ no-16, le-ltb _ _ above)) ∙ answers

@@ -14,6 +14,7 @@ use Rattle.shape_definitions.specs.Polygon.{b2-polygon-shape-set}
 use Rattle.shape_definitions.specs.Boxes.{b2-polygon-shape-set-as-box, b2-polygon-shape-set-as-box-angle}
 use Rattle.shape_definitions.specs.Validate.{b2-polygon-shape-validate}
 use Rattle.shape_definitions.specs.Edge.{b2-set-one-sided, b2-set-two-sided}
+use Rattle.contact_entries.specs.ContactEntries.{contact-answer}
 use Rattle.wire_records.specs.Words.{word-at}
 use Rattle.wire_records.specs.Records.{float-at, vector-at, points-at, rotation-at, polygon-at, edge-at}
 use Rattle.wire_records.specs.Records.{bits, flag, polygon-words, edge-words}
@@ -64,6 +65,7 @@ two-sided-answer request =
     cond (eqb (length request) (4 * 15) && ltb (word-at request 2) 2)
     (wall-answer (b2-set-two-sided (edge-at request 1) (vector-at request 11) (vector-at request 13))) []
 
+-- the entry of a number, and none under another
 unfoldable pub shape-answer : ℕ → List ℕ → List ℕ
 shape-answer entry request =
     cond (eqb entry 1) (set-answer request)
@@ -87,10 +89,12 @@ unfoldable pub normalize-answer : List ℕ → List ℕ
 normalize-answer request =
     cond (eqb (length request) 12) (normalized-words (b2-normalize (vec2 (float-at request 1) (float-at request 2)))) []
 
--- ---- the entry is the first word
+-- ---- the entry is the first word: 1 to 6 make and test shapes, 7 to 14 are contact calls
+unfoldable pub entry-answer : ℕ → List ℕ → List ℕ
+entry-answer entry request =
+    cond (eqb entry 15) (root-answer request)
+    (cond (eqb entry 16) (normalize-answer request)
+    (cond (ltb entry 7) (shape-answer entry request) (contact-answer entry request)))
+
 unfoldable pub answer : List ℕ → List ℕ
-answer request =
-    cond (ltb (length request) 4) []
-    (cond (eqb (word-at request 0) 15) (root-answer request)
-    (cond (eqb (word-at request 0) 16) (normalize-answer request)
-    (shape-answer (word-at request 0) request)))
+answer request = cond (ltb (length request) 4) [] (entry-answer (word-at request 0) request)

@@ -48,11 +48,15 @@ pub extern "C" fn calls(input: &[u8], out: &mut [u8]) -> u32
         return 0;
     }
     let entry = words::word(input, 0);
-    if entry == 15 {
-        return root(input, out);
+    match entry {
+        15 => root(input, out),
+        16 => normalize(input, out),
+        _ => {
+            if entry < 7 {
+                shape_entries::call(entry, input, out)
+            } else {
+                contact_entries::call(entry, input, out)
+            }
+        }
     }
-    if entry == 16 {
-        return normalize(input, out);
-    }
-    shape_entries::call(entry, input, out)
 }

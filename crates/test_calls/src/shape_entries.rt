@@ -121,23 +121,13 @@ pub fn set_two_sided(input: &[u8], out: &mut [u8]) -> u32
 pub fn call(entry: u32, input: &[u8], out: &mut [u8]) -> u32
     ensures { λ r. ⌜ Written (shape-answer entry (now (input .entry))) (now (out .entry)) r (now (out .exit)) ⌝ }
 {
-    if entry == 1 {
-        return set(input, out);
+    match entry {
+        1 => set(input, out),
+        2 => set_as_box(input, out),
+        3 => set_as_box_angle(input, out),
+        4 => validate(input, out),
+        5 => set_one_sided(input, out),
+        6 => set_two_sided(input, out),
+        _ => 0,
     }
-    if entry == 2 {
-        return set_as_box(input, out);
-    }
-    if entry == 3 {
-        return set_as_box_angle(input, out);
-    }
-    if entry == 4 {
-        return validate(input, out);
-    }
-    if entry == 5 {
-        return set_one_sided(input, out);
-    }
-    if entry == 6 {
-        return set_two_sided(input, out);
-    }
-    0
 }

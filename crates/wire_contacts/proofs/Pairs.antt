@@ -18,8 +18,8 @@ use Rattle.contact_definitions.specs.declared.b2_collision.WorldAnswer.{WorldAn
 use Rattle.contact_definitions.specs.Manifold.{default-point, kind-number}
 use Rattle.wire_records.specs.Records.{bits, low-word}
 use Rattle.wire_contacts.specs.ContactAnswers.{id-word, vector-words, manifold-point-words, manifold-words}
-use Rattle.wire_contacts.specs.ContactAnswers.{manifold-answer, no-vertex, clip-vertex-words, clip-answer}
-use Rattle.wire_contacts.specs.ContactAnswers.{world-manifold-words, world-answer}
+use Rattle.wire_contacts.specs.ContactAnswers.{manifold-answer-words, no-vertex, clip-vertex-words, clip-answer-words}
+use Rattle.wire_contacts.specs.ContactAnswers.{world-manifold-words, world-answer-words}
 
 module _ {A : Type 0} (l : List A) (d e : A) (two : length l ≡ 2) where
   first-of : getD l 0 d ≡ getD l 0 e
@@ -45,7 +45,7 @@ pub manifold-written : (a : ManifoldAnswer) (d : B2manifoldPoint) (refusal kind 
     → px ≡ bits (a .manifold .«local_point» .x) → py ≡ bits (a .manifold .«local_point» .y)
     → words0 ≡ manifold-point-words (getD (a .manifold .points) 0 d)
     → words1 ≡ manifold-point-words (getD (a .manifold .points) 1 d)
-    → refusal ∷ kind ∷ count ∷ nx ∷ ny ∷ px ∷ py ∷ words0 ++ words1 ≡ manifold-answer a
+    → refusal ∷ kind ∷ count ∷ nx ∷ ny ∷ px ∷ py ∷ words0 ++ words1 ≡ manifold-answer-words a
 unfolding manifold-words
 manifold-written a d refusal kind count nx ny px py words0 words1 two refusal-is kind-is count-is nx-is ny-is px-is
     py-is words0-is words1-is =
@@ -70,8 +70,8 @@ pub clip-written : (a : ClipAnswer) (d : B2clipVertex) (refusal count x0 y0 id0 
     → id0 ≡ id-word (getD (a .points) 0 d .id)
     → x1 ≡ bits (getD (a .points) 1 d .v .x) → y1 ≡ bits (getD (a .points) 1 d .v .y)
     → id1 ≡ id-word (getD (a .points) 1 d .id)
-    → refusal ∷ count ∷ x0 ∷ y0 ∷ id0 ∷ x1 ∷ y1 ∷ id1 ∷ [] ≡ clip-answer a
-unfolding clip-answer clip-vertex-words
+    → refusal ∷ count ∷ x0 ∷ y0 ∷ id0 ∷ x1 ∷ y1 ∷ id1 ∷ [] ≡ clip-answer-words a
+unfolding clip-answer-words clip-vertex-words
 clip-written a d refusal count x0 y0 id0 x1 y1 id1 two refusal-is count-is x0-is y0-is id0-is x1-is y1-is id1-is =
     simp (
       refusal-is,
@@ -93,7 +93,7 @@ pub world-written : (a : WorldAnswer) (d : B2vec2) (e : Float) (refusal nx ny x0
     → x0 ≡ bits (getD (a .world .points) 0 d .x) → y0 ≡ bits (getD (a .world .points) 0 d .y)
     → x1 ≡ bits (getD (a .world .points) 1 d .x) → y1 ≡ bits (getD (a .world .points) 1 d .y)
     → s0 ≡ bits (getD (a .world .separations) 0 e) → s1 ≡ bits (getD (a .world .separations) 1 e)
-    → refusal ∷ nx ∷ ny ∷ x0 ∷ y0 ∷ x1 ∷ y1 ∷ s0 ∷ s1 ∷ [] ≡ world-answer a
+    → refusal ∷ nx ∷ ny ∷ x0 ∷ y0 ∷ x1 ∷ y1 ∷ s0 ∷ s1 ∷ [] ≡ world-answer-words a
 unfolding world-manifold-words
 world-written a d e refusal nx ny x0 y0 x1 y1 s0 s1 two two-separations refusal-is nx-is ny-is x0-is y0-is x1-is y1-is
     s0-is s1-is =

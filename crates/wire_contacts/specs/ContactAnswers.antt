@@ -38,8 +38,8 @@ manifold-words m =
     ++ manifold-point-words (manifold-point m 0)
     ++ manifold-point-words (manifold-point m 1)
 
-abbrev pub manifold-answer : ManifoldAnswer → List ℕ
-manifold-answer a = a .refusal ∷ manifold-words (a .manifold)
+abbrev pub manifold-answer-words : ManifoldAnswer → List ℕ
+manifold-answer-words a = a .refusal ∷ manifold-words (a .manifold)
 
 -- ---- clips: the number of points, and both output places
 unfoldable pub clip-vertex-words : B2clipVertex → List ℕ
@@ -48,8 +48,8 @@ clip-vertex-words c = vector-words (c .v) ++ (id-word (c .id) ∷ [])
 abbrev pub no-vertex : B2clipVertex
 no-vertex = record { v = origin; id = default-id }
 
-unfoldable pub clip-answer : ClipAnswer → List ℕ
-clip-answer a =
+unfoldable pub clip-answer-words : ClipAnswer → List ℕ
+clip-answer-words a =
     a .refusal ∷ low-word (a .count) ∷ clip-vertex-words (getD (a .points) 0 no-vertex)
     ++ clip-vertex-words (getD (a .points) 1 no-vertex)
 
@@ -59,13 +59,13 @@ world-manifold-words w =
     vector-words (w .normal) ++ vector-words (getD (w .points) 0 origin) ++ vector-words (getD (w .points) 1 origin)
     ++ (bits (getD (w .separations) 0 zero32) ∷ bits (getD (w .separations) 1 zero32) ∷ [])
 
-abbrev pub world-answer : WorldAnswer → List ℕ
-world-answer a = a .refusal ∷ world-manifold-words (a .world)
+abbrev pub world-answer-words : WorldAnswer → List ℕ
+world-answer-words a = a .refusal ∷ world-manifold-words (a .world)
 
 -- ---- point states
 unfoldable pub states-words : PointStates → List ℕ
 states-words s =
     state-number (s .old0) ∷ state-number (s .old1) ∷ state-number (s .new0) ∷ state-number (s .new1) ∷ []
 
-abbrev pub states-answer : PointStatesAnswer → List ℕ
-states-answer a = a .refusal ∷ states-words (a .states)
+abbrev pub states-answer-words : PointStatesAnswer → List ℕ
+states-answer-words a = a .refusal ∷ states-words (a .states)

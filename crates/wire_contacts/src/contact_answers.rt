@@ -3,8 +3,8 @@ ghost use mathlib.Core.Path.{_≡_};
 ghost use Rattle.wire_records.specs.Words.{Written};
 ghost use Rattle.contact_definitions.specs.Manifold.{kind-number};
 ghost use Rattle.contact_definitions.specs.PointStates.{state-number};
-ghost use Rattle.wire_contacts.specs.ContactAnswers.{id-word, manifold-answer, clip-answer, world-answer};
-ghost use Rattle.wire_contacts.specs.ContactAnswers.{states-answer};
+ghost use Rattle.wire_contacts.specs.ContactAnswers.{id-word, manifold-answer-words, clip-answer-words, world-answer-words};
+ghost use Rattle.wire_contacts.specs.ContactAnswers.{states-answer-words};
 use contact_definitions::b2_collision::B2contactId;
 use contact_definitions::b2_collision::B2manifoldType;
 use contact_definitions::b2_collision::B2pointState;
@@ -40,7 +40,7 @@ fn kind_word(kind: B2manifoldType) -> u32
 
 // The refusal and the manifold.
 pub fn put_manifold(out: &mut [u8], answer: ManifoldAnswer) -> u32
-    ensures { λ r. ⌜ Written (manifold-answer answer) (now (out .entry)) r (now (out .exit)) ⌝ }
+    ensures { λ r. ⌜ Written (manifold-answer-words answer) (now (out .entry)) r (now (out .exit)) ⌝ }
 {
     let refusal = answer.refusal;
     let m = answer.manifold;
@@ -76,7 +76,7 @@ pub fn put_manifold(out: &mut [u8], answer: ManifoldAnswer) -> u32
 
 // The refusal, the number of points, and both output places.
 pub fn put_clip(out: &mut [u8], answer: ClipAnswer) -> u32
-    ensures { λ r. ⌜ Written (clip-answer answer) (now (out .entry)) r (now (out .exit)) ⌝ }
+    ensures { λ r. ⌜ Written (clip-answer-words answer) (now (out .entry)) r (now (out .exit)) ⌝ }
 {
     let refusal = answer.refusal;
     let count = answer.count;
@@ -99,7 +99,7 @@ pub fn put_clip(out: &mut [u8], answer: ClipAnswer) -> u32
 
 // The refusal and the world manifold.
 pub fn put_world(out: &mut [u8], answer: WorldAnswer) -> u32
-    ensures { λ r. ⌜ Written (world-answer answer) (now (out .entry)) r (now (out .exit)) ⌝ }
+    ensures { λ r. ⌜ Written (world-answer-words answer) (now (out .entry)) r (now (out .exit)) ⌝ }
 {
     let refusal = answer.refusal;
     let w = answer.world;
@@ -135,7 +135,7 @@ fn state_word(state: B2pointState) -> u32
 
 // The refusal and the four states.
 pub fn put_states(out: &mut [u8], answer: PointStatesAnswer) -> u32
-    ensures { λ r. ⌜ Written (states-answer answer) (now (out .entry)) r (now (out .exit)) ⌝ }
+    ensures { λ r. ⌜ Written (states-answer-words answer) (now (out .entry)) r (now (out .exit)) ⌝ }
 {
     let refusal = answer.refusal;
     let states = answer.states;

@@ -1,6 +1,6 @@
 -- `calls` answers what the entry named by the first word answers, and nothing to any other request. Assumes nothing.
 use Rattle.wire_records.proofs.Bytes.{nothing-written, written-as}
-use Rattle.test_calls.proofs.Answers.{no-entry, root-entry, normalize-entry, shape-entry}
+use Rattle.test_calls.proofs.Answers.{no-entry, root-entry, normalize-entry, shape-entry, contact-entry}
 use borrow.Author.Needs.{needs}
 use Rattle.test_calls.proofs.calls.Statement.{statement}
 use Rattle.test_calls.proofs.calls.Tie as tie
@@ -14,18 +14,26 @@ word-requires c κs = search needs
 root-requires : tie.Need-root-requires
 root-requires c κs = search needs
 
+normalize-requires : tie.Need-normalize-requires
+normalize-requires c κs = search needs
+
+call-requires : tie.Need-call-requires
+call-requires c κs = search needs
+
+call-requires-2 : tie.Need-call-requires-2
+call-requires-2 c κs = search needs
+
 same-length : tie.Need-same-length
 same-length c = search needs
 
 returns-2 : tie.Need-returns-2
 returns-2 c =
     let called = c .before .before in
-    let then = called .before .before in
-    let word = then .before in
-    written-as _ _ _ _ _ (root-entry _ _ (word .before .if1 .left) (word .word .ensures) (then .if2 .taken)) (called .root .ensures)
-
-normalize-requires : tie.Need-normalize-requires
-normalize-requires c κs = search needs
+    let arm = called .before .before in
+    let entry = arm .before in
+    let size = entry .before in
+    written-as _ _ _ _ _ (root-entry _ _ (size .if1 .left) (entry .word .ensures) (arm .match .keys1))
+    (called .root .ensures)
 
 same-length-2 : tie.Need-same-length-2
 same-length-2 c = search needs
@@ -33,13 +41,11 @@ same-length-2 c = search needs
 returns-3 : tie.Need-returns-3
 returns-3 c =
     let called = c .before .before in
-    let then = called .before .before in
-    let word = then .before .before in
-    written-as _ _ _ _ _ (normalize-entry _ _ (word .before .if1 .left) (word .word .ensures) (then .if3 .taken))
+    let arm = called .before .before in
+    let entry = arm .before in
+    let size = entry .before in
+    written-as _ _ _ _ _ (normalize-entry _ _ (size .if1 .left) (entry .word .ensures) (arm .match .keys2))
     (called .normalize .ensures)
-
-call-requires : tie.Need-call-requires
-call-requires c κs = search needs
 
 same-length-3 : tie.Need-same-length-3
 same-length-3 c = search needs
@@ -47,10 +53,25 @@ same-length-3 c = search needs
 returns-4 : tie.Need-returns-4
 returns-4 c =
     let called = c .before .before in
-    let other = called .before .before in
-    let word = other .before .before in
-    written-as _ _ _ _ _ (shape-entry _ _ (word .before .if1 .left) (word .word .ensures) (other .before .if2 .left) (other .if3 .left))
+    let below = called .before .before in
+    let other = below .before in
+    let entry = other .before in
+    let size = entry .before in
+    written-as _ _ _ _ _ (shape-entry _ _ (size .if1 .left) (entry .word .ensures) (other .match .rest .0 .1) (other .match .rest .1) (below .if2 .taken))
     (called .call .ensures)
+
+same-length-4 : tie.Need-same-length-4
+same-length-4 c = search needs
+
+returns-5 : tie.Need-returns-5
+returns-5 c =
+    let called = c .before .before in
+    let above = called .before .before in
+    let other = above .before in
+    let entry = other .before in
+    let size = entry .before in
+    written-as _ _ _ _ _ (contact-entry _ _ (size .if1 .left) (entry .word .ensures) (other .match .rest .0 .1) (other .match .rest .1) (above .if2 .left))
+    (called .call2 .ensures)
 
 pub calls-spec : {M : Type 1} → statement M
 calls-spec =
@@ -59,11 +80,14 @@ calls-spec =
     returns
     word-requires
     root-requires
+    normalize-requires
+    call-requires
+    call-requires-2
     same-length
     returns-2
-    normalize-requires
     same-length-2
     returns-3
-    call-requires
     same-length-3
-    returns-4)
+    returns-4
+    same-length-4
+    returns-5)
