@@ -205,6 +205,7 @@ pub const TABLE: &[Row] = &[
         closed: &[(9, 2)],
         kinds: manifolds::world_kinds,
         wanted: &["0 points", "1 point", "2 points", "circles", "circles along x", "face A", "face B"],
+        ours: None,
         ..CIRCLES
     },
     Row {
