@@ -15,5 +15,6 @@ pub mod Normalise
 pub mod Normals
 pub mod Centroid
 pub mod Outline
+pub mod ContactRanges
 pub mod Theorem
 pub mod Controls

@@ -1,6 +1,6 @@
 -- Demand 3, first sentence, of the outline builder's definition, and what the second sentence needs of a built
 -- outline and of sums of grid numbers. Bodies only cite. Assumes nothing.
-use mathlib.Core.Path.{_≡_, sym, _∙_, subst}
+use mathlib.Core.Path.{_≡_, sym, _∙_, ap, subst}
 use mathlib.Core.List.{List}
 use Prim.Native.Nat.{ℕ, _+_, _^_}
 use lib.Dec.{T, leb}
@@ -8,7 +8,7 @@ use lib.Ieee.{Float, binary32, add}
 use Rattle.algebra.specs.Integer.{_⊞_, _≐_}
 use Rattle.algebra.specs.Plane.{Point}
 use Rattle.floats.specs.declared.b2_math.B2vec2.{B2vec2}
-use Rattle.floats.specs.Ranges.{radius-in-range}
+use Rattle.floats.specs.Ranges.{radius-in-range, transform-in-range}
 use Rattle.hull.proofs.Theorem.{one-hull}
 use Rattle.shape_definitions.specs.declared.b2_polygon_shape.B2polygonShape.{B2polygonShape}
 use Rattle.shape_definitions.specs.Refusal.{accepted}
@@ -19,6 +19,11 @@ use Rattle.grid.specs.Demand3.{FirstSentence, HullRow, refusal-of, outli
 use Rattle.grid.proofs.Exact.{steps-add, add-is}
 use Rattle.grid.proofs.FirstSentence.{grid-list-verdict}
 use Rattle.grid.proofs.Outline.{accepted-outline}
+use Rattle.grid.proofs.ContactRanges.{Taken, grid-taken, polygons-accepted}
+use Rattle.contact_definitions.specs.declared.b2_collision.B2manifold.{B2manifold}
+use Rattle.contact_definitions.specs.declared.b2_collision.ManifoldAnswer.{ManifoldAnswer}
+use Rattle.contact_definitions.specs.B2CollidePolygon.{b2-collide-polygons}
+use Rattle.floats.specs.declared.b2_math.B2Transform.{B2Transform}
 use Rattle.grid.specs.GridOutline.{GridOutline}
 
 module _ (old : B2polygonShape) (l : List B2vec2) (grid : GridList l) where
@@ -37,6 +42,16 @@ module _ (old : B2polygonShape) (l : List B2vec2) (grid : GridList l) where
   built-in-range r radius =
       let b = accepted-outline old l grid r in
       b .outline .in-range (subst (λ (x : Float). T (radius-in-range x)) (sym (b .radius)) radius)
+
+  -- so contact calls take it: proofs/ContactRanges
+  pub built-taken : refusal-of old l ≡ accepted → T (radius-in-range (old .«m_radius»)) → Taken (outline-from old l)
+  built-taken r radius = grid-taken (outline-from old l) (built-outline r) (built-in-range r radius)
+
+-- two built grid outlines, their radii and placements in range, are never refused by the call for outline pairs
+pub pair-never-refused : (m : B2manifold) (a b : B2polygonShape) (xfA xfB : B2Transform) → T (transform-in-range xfA)
+    → T (transform-in-range xfB) → Taken a → Taken b → b2-collide-polygons m a xfA b xfB .refusal ≡ accepted
+pair-never-refused m a b xfA xfB a-placed b-placed a-taken b-taken =
+    ap (λ (r : ManifoldAnswer). r .refusal) (polygons-accepted m xfA xfB a-placed b-placed a b a-taken b-taken)
 
 -- the exact hull is one row: two rows that are hulls of the same points are equal
 pub one-row : (s row row' : List Point) → HullRow s row → HullRow s row' → row ≡ row'
