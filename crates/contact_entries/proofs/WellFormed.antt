@@ -8,7 +8,7 @@ use borrow.Author.Tests.{eq-eqb, ne-eqb}
 use Rattle.floats.specs.declared.b2_math.B2Transform.{B2Transform}
 use Rattle.contact_definitions.specs.declared.b2_collision.B2manifold.{B2manifold}
 use Rattle.contact_definitions.specs.declared.b2_collision.ManifoldAnswer.{ManifoldAnswer}
-use Rattle.wire_contacts.specs.ContactAnswers.{manifold-answer-words}
+use Rattle.wire_answers.specs.ContactAnswers.{manifold-answer-words}
 use Rattle.contact_entries.specs.ContactEntries.{well-formed}
 
 not-true : (b : Bool) → not b ≡ true → b ≡ false

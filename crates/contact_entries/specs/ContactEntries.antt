@@ -14,7 +14,7 @@ use Rattle.wire_records.specs.Words.{word-at}
 use Rattle.wire_records.specs.Records.{float-at, vector-at, polygon-at, edge-at}
 use Rattle.wire_contacts.specs.ContactRecords.{circle-at, transform-at, manifold-at, kind-known, edge-known}
 use Rattle.wire_contacts.specs.ContactRecords.{clip-vertices-at, states-at, states-known}
-use Rattle.wire_contacts.specs.ContactAnswers.{manifold-answer-words, clip-answer-words, states-answer-words}
+use Rattle.wire_answers.specs.ContactAnswers.{manifold-answer-words, clip-answer-words, states-answer-words}
 
 -- the answer to a request of so many words whose kinds, flags and states are known; to another, none
 unfoldable pub well-formed : ℕ → Bool → List ℕ → List ℕ → List ℕ
