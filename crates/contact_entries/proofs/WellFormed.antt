@@ -30,7 +30,8 @@ module _ (words : ℕ) (known : Bool) (request answer : List ℕ) where
   unfolding well-formed
   unknown test size test-is none = simp (eq-eqb _ _ size, sym test-is ∙ not-true test none)
 
-  pub answered : (test : Bool) (ws : List ℕ) → length request ≡ 4 * words → test ≡ known → not test ≡ false → ws ≡ answer
+  pub answered : (test : Bool) (ws : List ℕ) → length request ≡ 4 * words → test ≡ known → not test ≡ false
+      → ws ≡ answer
       → ws ≡ well-formed words known request answer
   unfolding well-formed
   answered test ws size test-is all ws-is = ws-is ∙ simp (eq-eqb _ _ size, sym test-is ∙ not-false test all)

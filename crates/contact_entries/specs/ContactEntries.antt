@@ -33,28 +33,32 @@ circles-answer request =
 unfoldable pub polygon-and-circle-answer : List ℕ → List ℕ
 polygon-and-circle-answer request =
     well-formed 64 (kind-known request 1) request
-    (manifold-answer-words (b2-collide-polygon-and-circle (manifold-at request 1) (polygon-at request 17) (transform-at request 53)
+    (manifold-answer-words
+    (b2-collide-polygon-and-circle (manifold-at request 1) (polygon-at request 17) (transform-at request 53)
     (circle-at request 57) (transform-at request 60)))
 
 -- 9, a manifold, outline A, placement A, outline B, placement B
 unfoldable pub polygons-answer : List ℕ → List ℕ
 polygons-answer request =
     well-formed 97 (kind-known request 1) request
-    (manifold-answer-words (b2-collide-polygons (manifold-at request 1) (polygon-at request 17) (transform-at request 53)
+    (manifold-answer-words
+    (b2-collide-polygons (manifold-at request 1) (polygon-at request 17) (transform-at request 53)
     (polygon-at request 57) (transform-at request 93)))
 
 -- 10, a manifold, a wall A, placement A, a circle B, placement B
 unfoldable pub edge-and-circle-answer : List ℕ → List ℕ
 edge-and-circle-answer request =
     well-formed 38 (kind-known request 1 && edge-known request 17) request
-    (manifold-answer-words (b2-collide-edge-and-circle (manifold-at request 1) (edge-at request 17) (transform-at request 27)
+    (manifold-answer-words
+    (b2-collide-edge-and-circle (manifold-at request 1) (edge-at request 17) (transform-at request 27)
     (circle-at request 31) (transform-at request 34)))
 
 -- 11, a manifold, a wall A, placement A, an outline B, placement B
 unfoldable pub edge-and-polygon-answer : List ℕ → List ℕ
 edge-and-polygon-answer request =
     well-formed 71 (kind-known request 1 && edge-known request 17) request
-    (manifold-answer-words (b2-collide-edge-and-polygon (manifold-at request 1) (edge-at request 17) (transform-at request 27)
+    (manifold-answer-words
+    (b2-collide-edge-and-polygon (manifold-at request 1) (edge-at request 17) (transform-at request 27)
     (polygon-at request 31) (transform-at request 67)))
 
 -- ---- points
@@ -63,7 +67,8 @@ edge-and-polygon-answer request =
 unfoldable pub clip-answer : List ℕ → List ℕ
 clip-answer request =
     well-formed 17 true request
-    (clip-answer-words (b2-clip-segment-to-line (clip-vertices-at request 1) (clip-vertices-at request 7) (vector-at request 13)
+    (clip-answer-words
+    (b2-clip-segment-to-line (clip-vertices-at request 1) (clip-vertices-at request 7) (vector-at request 13)
     (float-at request 15) (word-at request 16)))
 
 -- 14, four states, the old manifold, the new manifold
