@@ -8,7 +8,7 @@ use borrow.Author.Tests.{eq-eqb, ne-eqb}
 use Rattle.floats.specs.declared.b2_math.B2Transform.{B2Transform}
 use Rattle.contact_definitions.specs.declared.b2_collision.B2manifold.{B2manifold}
 use Rattle.contact_definitions.specs.declared.b2_collision.ManifoldAnswer.{ManifoldAnswer}
-use Rattle.wire_contacts.specs.ContactAnswers.{manifold-answer-words}
+use Rattle.wire_answers.specs.ContactAnswers.{manifold-answer-words}
 use Rattle.contact_entries.specs.ContactEntries.{well-formed}
 
 not-true : (b : Bool) → not b ≡ true → b ≡ false
@@ -30,7 +30,8 @@ module _ (words : ℕ) (known : Bool) (request answer : List ℕ) where
   unfolding well-formed
   unknown test size test-is none = simp (eq-eqb _ _ size, sym test-is ∙ not-true test none)
 
-  pub answered : (test : Bool) (ws : List ℕ) → length request ≡ 4 * words → test ≡ known → not test ≡ false → ws ≡ answer
+  pub answered : (test : Bool) (ws : List ℕ) → length request ≡ 4 * words → test ≡ known → not test ≡ false
+      → ws ≡ answer
       → ws ≡ well-formed words known request answer
   unfolding well-formed
   answered test ws size test-is all ws-is = ws-is ∙ simp (eq-eqb _ _ size, sym test-is ∙ not-false test all)

@@ -14,7 +14,7 @@ use Rattle.wire_records.specs.Words.{word-at}
 use Rattle.wire_records.specs.Records.{float-at, vector-at, polygon-at, edge-at}
 use Rattle.wire_contacts.specs.ContactRecords.{circle-at, transform-at, manifold-at, kind-known, edge-known}
 use Rattle.wire_contacts.specs.ContactRecords.{clip-vertices-at, states-at, states-known}
-use Rattle.wire_contacts.specs.ContactAnswers.{manifold-answer-words, clip-answer-words, states-answer-words}
+use Rattle.wire_answers.specs.ContactAnswers.{manifold-answer-words, clip-answer-words, states-answer-words}
 
 -- the answer to a request of so many words whose kinds, flags and states are known; to another, none
 unfoldable pub well-formed : ℕ → Bool → List ℕ → List ℕ → List ℕ
@@ -33,28 +33,32 @@ circles-answer request =
 unfoldable pub polygon-and-circle-answer : List ℕ → List ℕ
 polygon-and-circle-answer request =
     well-formed 64 (kind-known request 1) request
-    (manifold-answer-words (b2-collide-polygon-and-circle (manifold-at request 1) (polygon-at request 17) (transform-at request 53)
+    (manifold-answer-words
+    (b2-collide-polygon-and-circle (manifold-at request 1) (polygon-at request 17) (transform-at request 53)
     (circle-at request 57) (transform-at request 60)))
 
 -- 9, a manifold, outline A, placement A, outline B, placement B
 unfoldable pub polygons-answer : List ℕ → List ℕ
 polygons-answer request =
     well-formed 97 (kind-known request 1) request
-    (manifold-answer-words (b2-collide-polygons (manifold-at request 1) (polygon-at request 17) (transform-at request 53)
+    (manifold-answer-words
+    (b2-collide-polygons (manifold-at request 1) (polygon-at request 17) (transform-at request 53)
     (polygon-at request 57) (transform-at request 93)))
 
 -- 10, a manifold, a wall A, placement A, a circle B, placement B
 unfoldable pub edge-and-circle-answer : List ℕ → List ℕ
 edge-and-circle-answer request =
     well-formed 38 (kind-known request 1 && edge-known request 17) request
-    (manifold-answer-words (b2-collide-edge-and-circle (manifold-at request 1) (edge-at request 17) (transform-at request 27)
+    (manifold-answer-words
+    (b2-collide-edge-and-circle (manifold-at request 1) (edge-at request 17) (transform-at request 27)
     (circle-at request 31) (transform-at request 34)))
 
 -- 11, a manifold, a wall A, placement A, an outline B, placement B
 unfoldable pub edge-and-polygon-answer : List ℕ → List ℕ
 edge-and-polygon-answer request =
     well-formed 71 (kind-known request 1 && edge-known request 17) request
-    (manifold-answer-words (b2-collide-edge-and-polygon (manifold-at request 1) (edge-at request 17) (transform-at request 27)
+    (manifold-answer-words
+    (b2-collide-edge-and-polygon (manifold-at request 1) (edge-at request 17) (transform-at request 27)
     (polygon-at request 31) (transform-at request 67)))
 
 -- ---- points
@@ -63,7 +67,8 @@ edge-and-polygon-answer request =
 unfoldable pub clip-answer : List ℕ → List ℕ
 clip-answer request =
     well-formed 17 true request
-    (clip-answer-words (b2-clip-segment-to-line (clip-vertices-at request 1) (clip-vertices-at request 7) (vector-at request 13)
+    (clip-answer-words
+    (b2-clip-segment-to-line (clip-vertices-at request 1) (clip-vertices-at request 7) (vector-at request 13)
     (float-at request 15) (word-at request 16)))
 
 -- 14, four states, the old manifold, the new manifold

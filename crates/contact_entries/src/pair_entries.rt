@@ -7,7 +7,7 @@ ghost use Rattle.contact_entries.specs.ContactEntries.{edge-and-polygon-
 use contacts::b2_collide_circle;
 use contacts::b2_collide_edge;
 use contacts::b2_collide_polygon;
-use wire_contacts::contact_answers;
+use wire_answers::contact_answers;
 use wire_contacts::contact_records;
 use wire_records::records;
 

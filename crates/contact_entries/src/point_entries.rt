@@ -3,7 +3,7 @@ ghost use Rattle.wire_records.specs.Words.{Written};
 ghost use Rattle.contact_entries.specs.ContactEntries.{clip-answer, point-states-answer};
 use contacts::b2_collision;
 use contacts::point_states;
-use wire_contacts::contact_answers;
+use wire_answers::contact_answers;
 use wire_contacts::contact_records;
 use wire_records::records;
 use wire_records::words;

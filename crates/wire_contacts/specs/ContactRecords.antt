@@ -1,6 +1,6 @@
 -- What contact requests hold, at word i: CIRCLE is radius and centre (3 words); XF is a position, sine and cosine (4);
 -- MAN is kind, count, local normal, local point and two points, each a local point, two impulses and an id (16); CLIPV
--- is a point and an id (3); WMAN is normal, two points, two separations (8); a point state is a word. An id is the four
+-- is a point and an id (3); WMAN is normal, two points, two separations (8); a point state is a word. An id is four
 -- bytes of a word. Each is total: what no kind, flag or state is, another test turns away. Definitions only.
 use Prim.Native.Nat.{ℕ, _+_, _*_}
 use mathlib.Core.Bool.{Bool, cond, _&&_}
@@ -34,7 +34,8 @@ transform-at request i = placement-at request (4 * i)
 -- ---- ids: index A, index B, type A, type B, a byte each
 unfoldable pub id-at : List ℕ → ℕ → B2contactId
 id-at request i =
-    contact-id (byte-at request (4 * i)) (byte-at request (4 * i + 1)) (byte-at request (4 * i + 2)) (byte-at request (4 * i + 3))
+    contact-id (byte-at request (4 * i)) (byte-at request (4 * i + 1)) (byte-at request (4 * i + 2))
+    (byte-at request (4 * i + 3))
 
 -- ---- manifolds
 unfoldable pub manifold-point-at : List ℕ → ℕ → B2manifoldPoint

@@ -1,2 +1,1 @@
 pub mod ContactRecords
-pub mod ContactAnswers

@@ -1,4 +1,3 @@
-// The records of contact requests and answers from words and to words: circles, placements, manifolds, clip vertices,
-// world manifolds and point states.
-pub mod contact_answers;
+// The records of contact requests from words: circles, placements, manifolds, clip vertices, world manifolds and point
+// states.
 pub mod contact_records;

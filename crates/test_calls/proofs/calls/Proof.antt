@@ -57,7 +57,9 @@ returns-4 c =
     let other = below .before in
     let entry = other .before in
     let size = entry .before in
-    written-as _ _ _ _ _ (shape-entry _ _ (size .if1 .left) (entry .word .ensures) (other .match .rest .0 .1) (other .match .rest .1) (below .if2 .taken))
+    written-as _ _ _ _ _
+    (shape-entry _ _ (size .if1 .left) (entry .word .ensures) (other .match .rest .0 .1) (other .match .rest .1)
+    (below .if2 .taken))
     (called .call .ensures)
 
 same-length-4 : tie.Need-same-length-4
@@ -70,7 +72,9 @@ returns-5 c =
     let other = above .before in
     let entry = other .before in
     let size = entry .before in
-    written-as _ _ _ _ _ (contact-entry _ _ (size .if1 .left) (entry .word .ensures) (other .match .rest .0 .1) (other .match .rest .1) (above .if2 .left))
+    written-as _ _ _ _ _
+    (contact-entry _ _ (size .if1 .left) (entry .word .ensures) (other .match .rest .0 .1) (other .match .rest .1)
+    (above .if2 .left))
     (called .call2 .ensures)
 
 pub calls-spec : {M : Type 1} → statement M

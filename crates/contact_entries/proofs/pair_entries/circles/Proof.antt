@@ -60,7 +60,8 @@ returns-3 c =
     let size = kind .before in
     written-as _ _ _ _ _
     (answered 31 _ _ _ _ _ (size .if1 .left) (kind .kind-known .ensures) (known .if2 .left)
-    (pair-words b2-collide-circles _ _ _ _ _ _ _ _ _ _ _ (old .manifold .ensures) (a .circle .ensures) (xfa .transform .ensures)
+    (pair-words b2-collide-circles _ _ _ _ _ _ _ _ _ _ _ (old .manifold .ensures) (a .circle .ensures)
+    (xfa .transform .ensures)
     (b .circle2 .ensures) (xfb .transform2 .ensures) (found .b2-collide-circles .ensures)))
     (written .put-manifold .ensures)
 

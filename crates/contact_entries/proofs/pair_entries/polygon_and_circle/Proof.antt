@@ -60,7 +60,8 @@ returns-3 c =
     let size = kind .before in
     written-as _ _ _ _ _
     (answered 64 _ _ _ _ _ (size .if1 .left) (kind .kind-known .ensures) (known .if2 .left)
-    (pair-words b2-collide-polygon-and-circle _ _ _ _ _ _ _ _ _ _ _ (old .manifold .ensures) (a .polygon .ensures) (xfa .transform .ensures)
+    (pair-words b2-collide-polygon-and-circle _ _ _ _ _ _ _ _ _ _ _ (old .manifold .ensures) (a .polygon .ensures)
+    (xfa .transform .ensures)
     (b .circle .ensures) (xfb .transform2 .ensures) (found .b2-collide-polygon-and-circle .ensures)))
     (written .put-manifold .ensures)
 

@@ -28,7 +28,10 @@ returns-2 c =
     let kind1 = kind2 .before in
     let states = kind1 .before in
     let size = states .before in
-    nothing-written _ _ (unknown 37 _ _ _ _ (size .if1 .left) (ap₂ _&&_ (ap₂ _&&_ (states .states-known .ensures) (kind1 .kind-known .ensures)) (kind2 .kind-known2 .ensures)) (c .if2 .taken))
+    nothing-written _ _
+    (unknown 37 _ _ _ _ (size .if1 .left)
+    (ap₂ _&&_ (ap₂ _&&_ (states .states-known .ensures) (kind1 .kind-known .ensures))
+    (kind2 .kind-known2 .ensures)) (c .if2 .taken))
 
 states-requires : tie.Need-states-requires
 states-requires c κs = search needs
@@ -63,8 +66,14 @@ returns-3 c =
     let size = states .before in
     written-as _ _ _ _ _
     (answered 37 _ _ _ _ _ (size .if1 .left)
-    (ap₂ _&&_ (ap₂ _&&_ (states .states-known .ensures) (kind1 .kind-known .ensures)) (kind2 .kind-known2 .ensures)) (known .if2 .left)
-    (simp (found .b2-get-point-states .ensures, given .states .ensures, m1 .manifold .ensures, m2 .manifold2 .ensures)))
+    (ap₂ _&&_ (ap₂ _&&_ (states .states-known .ensures) (kind1 .kind-known .ensures))
+    (kind2 .kind-known2 .ensures)) (known .if2 .left)
+    (simp (
+      found .b2-get-point-states .ensures,
+      given .states .ensures,
+      m1 .manifold .ensures,
+      m2 .manifold2 .ensures,
+    )))
     (written .put-states .ensures)
 
 pub states-spec : {M : Type 1} → statement M

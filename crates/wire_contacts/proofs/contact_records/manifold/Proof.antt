@@ -52,7 +52,15 @@ returns c =
     let word2 = vector .before in
     let kind = word2 .before in
     let word = kind .before in
-    simp (c .manifold-point2 .ensures, manifold-point .manifold-point .ensures, vector2 .vector2 .ensures, vector .vector .ensures, word2 .word2 .ensures, kind .kind .ensures, word .word .ensures)
+    simp (
+      c .manifold-point2 .ensures,
+      manifold-point .manifold-point .ensures,
+      vector2 .vector2 .ensures,
+      vector .vector .ensures,
+      word2 .word2 .ensures,
+      kind .kind .ensures,
+      word .word .ensures,
+    )
 
 pub manifold-spec : {M : Type 1} → statement M
 manifold-spec =

@@ -47,7 +47,16 @@ returns c =
     let word2 = state2 .before in
     let state = word2 .before in
     let word = state .before in
-    simp (c .state4 .ensures, word4 .word4 .ensures, state3 .state3 .ensures, word3 .word3 .ensures, state2 .state2 .ensures, word2 .word2 .ensures, state .state .ensures, word .word .ensures)
+    simp (
+      c .state4 .ensures,
+      word4 .word4 .ensures,
+      state3 .state3 .ensures,
+      word3 .word3 .ensures,
+      state2 .state2 .ensures,
+      word2 .word2 .ensures,
+      state .state .ensures,
+      word .word .ensures,
+    )
 
 pub states-spec : {M : Type 1} → statement M
 states-spec =

@@ -31,7 +31,12 @@ returns c =
     let state-known3 = c .before in
     let state-known2 = state-known3 .before in
     let state-known = state-known2 .before in
-    simp (c .state-known4 .ensures, state-known3 .state-known3 .ensures, state-known2 .state-known2 .ensures, state-known .state-known .ensures)
+    simp (
+      c .state-known4 .ensures,
+      state-known3 .state-known3 .ensures,
+      state-known2 .state-known2 .ensures,
+      state-known .state-known .ensures,
+    )
 
 pub states-known-spec : {M : Type 1} → statement M
 states-known-spec =

@@ -38,7 +38,13 @@ returns c =
     let vector3 = float .before in
     let vector2 = vector3 .before in
     let vector = vector2 .before in
-    simp (c .float2 .ensures, float .float .ensures, vector3 .vector3 .ensures, vector2 .vector2 .ensures, vector .vector .ensures)
+    simp (
+      c .float2 .ensures,
+      float .float .ensures,
+      vector3 .vector3 .ensures,
+      vector2 .vector2 .ensures,
+      vector .vector .ensures,
+    )
 
 pub world-manifold-spec : {M : Type 1} → statement M
 world-manifold-spec =

@@ -2,10 +2,10 @@
 use mathlib.Core.Path.{sym, _∙_}
 use lib.ListN.{length-map}
 use Rattle.wire_records.proofs.Bytes.{written-as}
-use Rattle.wire_contacts.proofs.Pairs.{world-written}
+use Rattle.wire_answers.proofs.Pairs.{world-written}
 use borrow.Author.Needs.{needs}
-use Rattle.wire_contacts.proofs.contact_answers.put_world.Statement.{statement}
-use Rattle.wire_contacts.proofs.contact_answers.put_world.Tie as tie
+use Rattle.wire_answers.proofs.contact_answers.put_world.Statement.{statement}
+use Rattle.wire_answers.proofs.contact_answers.put_world.Tie as tie
 
 element-copy-out-p0 : tie.Need-element-copy-out-p0
 element-copy-out-p0 c = search needs

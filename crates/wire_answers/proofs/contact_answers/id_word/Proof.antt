@@ -1,8 +1,8 @@
 -- Four bytes are a word. Assumes nothing.
-use Rattle.wire_contacts.specs.ContactAnswers.{id-word}
+use Rattle.wire_answers.specs.ContactAnswers.{id-word}
 use borrow.Author.Needs.{needs}
-use Rattle.wire_contacts.proofs.contact_answers.id_word.Statement.{statement}
-use Rattle.wire_contacts.proofs.contact_answers.id_word.Tie as tie
+use Rattle.wire_answers.proofs.contact_answers.id_word.Statement.{statement}
+use Rattle.wire_answers.proofs.contact_answers.id_word.Tie as tie
 
 wide-requires : tie.Need-wide-requires
 wide-requires c κs = search needs

@@ -17,9 +17,10 @@ use Rattle.contact_definitions.specs.declared.b2_collision.ClipAnswer.{ClipAnsw
 use Rattle.contact_definitions.specs.declared.b2_collision.WorldAnswer.{WorldAnswer}
 use Rattle.contact_definitions.specs.Manifold.{default-point, kind-number}
 use Rattle.wire_records.specs.Records.{bits, low-word}
-use Rattle.wire_contacts.specs.ContactAnswers.{id-word, vector-words, manifold-point-words, manifold-words}
-use Rattle.wire_contacts.specs.ContactAnswers.{manifold-answer-words, no-vertex, clip-vertex-words, clip-answer-words}
-use Rattle.wire_contacts.specs.ContactAnswers.{world-manifold-words, world-answer-words}
+use Rattle.wire_answers.specs.ContactAnswers.{id-word, vector-words, manifold-point-words, manifold-words}
+use Rattle.wire_answers.specs.ContactAnswers.{manifold-answer-words, no-vertex, clip-vertex-words}
+use Rattle.wire_answers.specs.ContactAnswers.{clip-answer-words}
+use Rattle.wire_answers.specs.ContactAnswers.{world-manifold-words, world-answer-words}
 
 module _ {A : Type 0} (l : List A) (d e : A) (two : length l ≡ 2) where
   first-of : getD l 0 d ≡ getD l 0 e

@@ -2,10 +2,10 @@
 use mathlib.Core.Path.{sym, _∙_}
 use lib.ListN.{getD, length-map}
 use Rattle.wire_records.proofs.Bytes.{written-as}
-use Rattle.wire_contacts.proofs.Pairs.{point-words, manifold-written}
+use Rattle.wire_answers.proofs.Pairs.{point-words, manifold-written}
 use borrow.Author.Needs.{needs}
-use Rattle.wire_contacts.proofs.contact_answers.put_manifold.Statement.{statement}
-use Rattle.wire_contacts.proofs.contact_answers.put_manifold.Tie as tie
+use Rattle.wire_answers.proofs.contact_answers.put_manifold.Statement.{statement}
+use Rattle.wire_answers.proofs.contact_answers.put_manifold.Tie as tie
 
 element-copy-out-first : tie.Need-element-copy-out-first
 element-copy-out-first c = search needs
@@ -100,9 +100,11 @@ returns c =
     (refusal .wide .ensures .0) (kind .kind-word .ensures) (count .low-word .ensures)
     (normal-x .f32-to-bits .ensures) (normal-y .f32-to-bits2 .ensures)
     (point-x .f32-to-bits3 .ensures) (point-y .f32-to-bits4 .ensures)
-    (point-words (getD (start .args .answer .manifold .points) 0 _) _ _ _ _ _ (x0 .f32-to-bits5 .ensures) (y0 .f32-to-bits6 .ensures)
+    (point-words (getD (start .args .answer .manifold .points) 0 _) _ _ _ _ _ (x0 .f32-to-bits5 .ensures)
+    (y0 .f32-to-bits6 .ensures)
     (impulse0 .f32-to-bits7 .ensures) (tangent0 .f32-to-bits8 .ensures) (id0 .id-word .ensures))
-    (point-words (getD (start .args .answer .manifold .points) 1 _) _ _ _ _ _ (x1 .f32-to-bits9 .ensures) (y1 .f32-to-bits10 .ensures)
+    (point-words (getD (start .args .answer .manifold .points) 1 _) _ _ _ _ _ (x1 .f32-to-bits9 .ensures)
+    (y1 .f32-to-bits10 .ensures)
     (impulse1 .f32-to-bits11 .ensures) (tangent1 .f32-to-bits12 .ensures) (id1 .id-word2 .ensures)))
     (written .put-words .ensures)
 

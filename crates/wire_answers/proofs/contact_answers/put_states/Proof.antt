@@ -1,9 +1,9 @@
 -- `put_states` writes the refusal and four states. Assumes nothing.
-use Rattle.wire_contacts.specs.ContactAnswers.{states-words}
+use Rattle.wire_answers.specs.ContactAnswers.{states-words}
 use Rattle.wire_records.proofs.Bytes.{written-as}
 use borrow.Author.Needs.{needs}
-use Rattle.wire_contacts.proofs.contact_answers.put_states.Statement.{statement}
-use Rattle.wire_contacts.proofs.contact_answers.put_states.Tie as tie
+use Rattle.wire_answers.proofs.contact_answers.put_states.Statement.{statement}
+use Rattle.wire_answers.proofs.contact_answers.put_states.Tie as tie
 
 wide-requires : tie.Need-wide-requires
 wide-requires c κs = search needs

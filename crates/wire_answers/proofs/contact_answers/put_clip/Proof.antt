@@ -2,10 +2,10 @@
 use mathlib.Core.Path.{sym, _∙_}
 use lib.ListN.{length-map}
 use Rattle.wire_records.proofs.Bytes.{written-as}
-use Rattle.wire_contacts.proofs.Pairs.{clip-written}
+use Rattle.wire_answers.proofs.Pairs.{clip-written}
 use borrow.Author.Needs.{needs}
-use Rattle.wire_contacts.proofs.contact_answers.put_clip.Statement.{statement}
-use Rattle.wire_contacts.proofs.contact_answers.put_clip.Tie as tie
+use Rattle.wire_answers.proofs.contact_answers.put_clip.Statement.{statement}
+use Rattle.wire_answers.proofs.contact_answers.put_clip.Tie as tie
 
 element-copy-out-first : tie.Need-element-copy-out-first
 element-copy-out-first c = search needs

@@ -29,7 +29,8 @@ id-word id = id .cf .«index_a» * 2 ^ 24 + id .cf .«index_b» * 2 ^ 16 + id .c
 -- ---- manifolds
 unfoldable pub manifold-point-words : B2manifoldPoint → List ℕ
 manifold-point-words p =
-    vector-words (p .«local_point») ++ (bits (p .«normal_impulse») ∷ bits (p .«tangent_impulse») ∷ id-word (p .id) ∷ [])
+    vector-words (p .«local_point») ++
+    (bits (p .«normal_impulse») ∷ bits (p .«tangent_impulse») ∷ id-word (p .id) ∷ [])
 
 unfoldable pub manifold-words : B2manifold → List ℕ
 manifold-words m =
