@@ -5,6 +5,7 @@ use floats::b2_math::B2vec2;
 use floats::bits;
 use libc::STDOUT_FILENO;
 use shape_definitions::b2_polygon_shape::B2polygonShape;
+use shape_definitions::refusal;
 use shapes::b2_polygon_shape;
 
 mod outlines;
@@ -92,7 +93,7 @@ fn print_case(k: usize, count: usize)
     let answer = b2_polygon_shape::b2_polygon_shape_set_core(empty_outline(), points(k), count);
     let refusal = answer.refusal;
     io::print_hex(STDOUT_FILENO, refusal as u64, 2);
-    if refusal == 0 {
+    if refusal == refusal::ACCEPTED {
         print_outline(answer.shape);
     }
     io::write_all(STDOUT_FILENO, b"\n");

@@ -12,7 +12,7 @@ use native.Mathlib.Omega.{arith}
 use Rattle.algebra.specs.Integer.{whole, signed, _≐_}
 use Rattle.algebra.specs.Plane.{Point}
 use Rattle.hull.specs.Hull.{AllReduced, IsHull, OnLine, fan-area}
-use Rattle.hull.specs.Outline.{Accepted, TurnedDown, outline, refusal, corners}
+use Rattle.hull.specs.Outline.{Accepted, TurnedDown, outline, too-few, not-closed, refusal, corners}
 use Rattle.hull.specs.Places.{wrap-places}
 use Rattle.hull.proofs.Points.{reduced-nil, reduced-cons}
 use Rattle.hull.proofs.Theorem.{outcome, built-hull}
@@ -51,7 +51,7 @@ square-places = refl
 abbrev row-of-three : List Point
 row-of-three = at 0 0 ∷ at 256 0 ∷ at 512 0 ∷ []
 
-row-refused : outline row-of-three ≡ refusal 4
+row-refused : outline row-of-three ≡ refusal not-closed
 row-refused = refl
 
 row-on-line : OnLine row-of-three
@@ -59,10 +59,10 @@ row-on-line = go (outcome row-of-three (cons-at 0 0 (at 256 0 ∷ at 512 0 ∷ [
   where
     go : (OnLine row-of-three × TurnedDown row-of-three) ⊎ ((¬ OnLine row-of-three) × Accepted row-of-three) → OnLine row-of-three
     go (inl h) = h .0
-    go (inr h) = let is : refusal 4 ≡ corners (h .1 .first ∷ h .1 .rest) = h .1 .is in let z : _≡_ {A = ℕ} 0 1 = cc in absurd (omega arith)
+    go (inr h) = let is : refusal not-closed ≡ corners (h .1 .first ∷ h .1 .rest) = h .1 .is in let z : _≡_ {A = ℕ} 0 1 = cc in absurd (omega arith)
 
 -- ---- three points, two of them equal
-two-different : outline (at 0 0 ∷ at 256 0 ∷ at 0 0 ∷ []) ≡ refusal 3
+two-different : outline (at 0 0 ∷ at 256 0 ∷ at 0 0 ∷ []) ≡ refusal too-few
 two-different = refl
 
 -- ---- a triangle left of the origin, given clockwise

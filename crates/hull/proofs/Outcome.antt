@@ -16,7 +16,7 @@ use Rattle.algebra.proofs.Plane.{orient-first-twice, orient-begin, orient-end}
 use Rattle.algebra.proofs.Lists.{pigeonhole}
 use Rattle.hull.specs.Hull.{ReducedPoint, AllReduced, Edge, Linked, IsHull, OnLine, ThreeDifferent}
 use Rattle.algebra.specs.Loops.{weld}
-use Rattle.hull.specs.Outline.{same-point, corners, refusal, closed, wrapped, outline-within, AcceptedWithin}
+use Rattle.hull.specs.Outline.{same-point, Reason, too-few, not-closed, corners, refusal, closed, wrapped, outline-within, AcceptedWithin}
 use Rattle.hull.specs.Outline.{TurnedDownWithin}
 use Rattle.hull.proofs.Points.{same-point-eq, same-point-own, point-discrete}
 use Rattle.algebra.proofs.Weld.{weld-length, weld-within, weld-once, weld-all}
@@ -123,13 +123,13 @@ closed-long p (q ∷ r ∷ rest) three = refl
 module _ (fuel : ℕ) (l : List Point) (reduced : AllReduced l) (enough : length l ≤ fuel) where
   abbrev Outcome : List Point → Type 0
   Outcome kept =
-      (OnLine l × (((¬ ThreeDifferent l) × (wrapped fuel kept ≡ refusal 3)) ⊎
-      (ThreeDifferent l × (wrapped fuel kept ≡ refusal 4))))
+      (OnLine l × (((¬ ThreeDifferent l) × (wrapped fuel kept ≡ refusal too-few)) ⊎
+      (ThreeDifferent l × (wrapped fuel kept ≡ refusal not-closed))))
       ⊎ ((¬ OnLine l) × ((p : Point) × (rest : List Point) ×
       (wrapped fuel kept ≡ corners (p ∷ rest)) × IsHull l p rest))
 
   few : (kept : List Point) → ((r : Point) → List·Memᴰ r l → List·Memᴰ r kept) → length kept < 3
-      → wrapped fuel kept ≡ refusal 3 → Outcome kept
+      → wrapped fuel kept ≡ refusal too-few → Outcome kept
   few kept to short is =
       let none : ¬ ThreeDifferent l = λ h. not-three kept short (three-of-fewer l kept to h) in
       inl (line-of-not-three l none, inl (none, is))
@@ -201,13 +201,13 @@ module _ (fuel : ℕ) (l : List Point) (reduced : AllReduced l) (enough : length
 -- ---- the answer alone tells
 pub no-row-turned-down : (fuel : ℕ) (l row : List Point) → TurnedDownWithin fuel l
     → outline-within fuel l ≡ corners row → ⊥
-no-row-turned-down fuel l row (inl h) is = clash 3 (h .1)
+no-row-turned-down fuel l row (inl h) is = clash too-few (h .1)
   where
-    clash : (n : ℕ) → outline-within fuel l ≡ refusal n → ⊥
+    clash : (n : Reason) → outline-within fuel l ≡ refusal n → ⊥
     clash n refused = let z : _≡_ {A = ℕ} 0 1 = cc in omega arith
-no-row-turned-down fuel l row (inr h) is = clash 4 (h .1)
+no-row-turned-down fuel l row (inr h) is = clash not-closed (h .1)
   where
-    clash : (n : ℕ) → outline-within fuel l ≡ refusal n → ⊥
+    clash : (n : Reason) → outline-within fuel l ≡ refusal n → ⊥
     clash n refused = let z : _≡_ {A = ℕ} 0 1 = cc in omega arith
 
 pub row-is-hull : (fuel : ℕ) (l : List Point) (p : Point) (rest : List Point) → AcceptedWithin fuel l

@@ -1,5 +1,6 @@
 -- The outline builder on points with whole coordinates, step by step as document 01, "Outlines", has it: weld, start at the largest x,
--- smallest y among equals, walk; refusals 3 and 4 in that order. On grid numbers the f32 builder takes the same steps. Definitions only.
+-- smallest y among equals, walk; turned down for too few points, and then for the walk. On grid numbers the f32 builder takes the same
+-- steps. Definitions only.
 use mathlib.Core.Path.{_≡_}
 use mathlib.Core.List.{List, [], _∷_}
 use mathlib.Core.Logic.{_⊎_}
@@ -41,23 +42,26 @@ abbrev pub wrap : ℕ → Point → List Point → Option (List Point)
 wrap fuel e js = walk same-point (next-corner e js) (start e js) fuel (start e js)
 
 -- ---- the answer
+-- why a list is turned down: fewer than three points after welding; the walk not back, or back with fewer than three corners
+pub data Reason : Type 0 where
+  too-few : Reason
+  not-closed : Reason
+
 pub data Answer : Type 0 where
-  refusal : ℕ → Answer
+  refusal : Reason → Answer
   corners : List Point → Answer
 
--- 4: not back, or back with fewer than three corners
 abbrev pub closed : Option (List Point) → Answer
-closed none = refusal 4
-closed (some []) = refusal 4
-closed (some (a ∷ [])) = refusal 4
-closed (some (a ∷ b ∷ [])) = refusal 4
+closed none = refusal not-closed
+closed (some []) = refusal not-closed
+closed (some (a ∷ [])) = refusal not-closed
+closed (some (a ∷ b ∷ [])) = refusal not-closed
 closed (some (a ∷ b ∷ c ∷ row)) = corners (a ∷ b ∷ c ∷ row)
 
--- 3: fewer than three points after welding
 abbrev pub wrapped : ℕ → List Point → Answer
-wrapped fuel [] = refusal 3
-wrapped fuel (a ∷ []) = refusal 3
-wrapped fuel (a ∷ b ∷ []) = refusal 3
+wrapped fuel [] = refusal too-few
+wrapped fuel (a ∷ []) = refusal too-few
+wrapped fuel (a ∷ b ∷ []) = refusal too-few
 wrapped fuel (a ∷ b ∷ c ∷ kept) = closed (wrap fuel a (b ∷ c ∷ kept))
 
 -- with at most `fuel` corners
@@ -82,9 +86,9 @@ pub record AcceptedWithin (fuel : ℕ) (l : List Point) : Type 0 where
 abbrev pub Accepted : List Point → Type 0
 Accepted l = AcceptedWithin most-corners l
 
--- the list is turned down: with 3 where it has no three different points, with 4 where it has
+-- the list is turned down: for too few points where it has no three different ones, for the walk where it has
 abbrev pub TurnedDownWithin : ℕ → List Point → Type 0
-TurnedDownWithin fuel l = ((¬ ThreeDifferent l) × (outline-within fuel l ≡ refusal 3)) ⊎ (ThreeDifferent l × (outline-within fuel l ≡ refusal 4))
+TurnedDownWithin fuel l = ((¬ ThreeDifferent l) × (outline-within fuel l ≡ refusal too-few)) ⊎ (ThreeDifferent l × (outline-within fuel l ≡ refusal not-closed))
 
 abbrev pub TurnedDown : List Point → Type 0
 TurnedDown l = TurnedDownWithin most-corners l

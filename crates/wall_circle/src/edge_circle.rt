@@ -16,6 +16,7 @@ use contact_definitions::b2_collision::ManifoldAnswer;
 use floats::b2_math;
 use floats::b2_math::B2vec2;
 use shape_definitions::b2_edge_shape::B2edgeShape;
+use shape_definitions::refusal;
 
 // How a circle meets a wall: not, at the end of an index with its place, along the face with its normal, or over the
 // middle of a wall whose squared length is not above 0 (refusal 8).
@@ -154,7 +155,7 @@ pub fn edge_circle_answer(
     match t {
         Touch::Nothing => ManifoldAnswer {
             manifold: manifolds::no_points(m),
-            refusal: 0,
+            refusal: refusal::ACCEPTED,
         },
         Touch::End(i, x, y) => {
             let none = B2vec2 { x: 0.0, y: 0.0 };
@@ -169,7 +170,7 @@ pub fn edge_circle_answer(
                     i,
                     0,
                 ),
-                refusal: 0,
+                refusal: refusal::ACCEPTED,
             }
         }
         Touch::Face(x, y) => {
@@ -188,12 +189,12 @@ pub fn edge_circle_answer(
                     0,
                     1,
                 ),
-                refusal: 0,
+                refusal: refusal::ACCEPTED,
             }
         }
         Touch::Flat => ManifoldAnswer {
             manifold: m,
-            refusal: 8,
+            refusal: refusal::WALL_TOO_SHORT,
         },
     }
 }
