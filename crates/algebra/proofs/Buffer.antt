@@ -1,6 +1,6 @@
--- The one law of all field writers: a part written into `&mut buffer[at..]`, after the at elements that were written before, leaves the
--- buffer with both at its front (`over-next`); so does one element stored at the first place that is not yet written (`over-store`), and
--- a run of stores from place 0 on (`over-stores`). Assumes nothing.
+-- The one law of all field writers: a part written into `&mut buffer[at..]`, after the at elements that were written
+-- before, leaves the buffer with both at its front (`over-next`); so does one element stored at the first place that is
+-- not yet written (`over-store`), and a run of stores from place 0 on (`over-stores`). Assumes nothing.
 use Prim.Native.Nat.{ℕ, suc, _+_, _-_, _≤_, _<_}
 use mathlib.Core.Path.{_≡_, sym, _∙_, ap}
 use mathlib.Core.List.{List, [], _∷_, _++_, append-assoc, append-nil}

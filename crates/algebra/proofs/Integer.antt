@@ -1,10 +1,12 @@
--- Equality and order of signed whole numbers: `≐` is an equivalence that every operation respects but the product (Products has
--- that one), `≼` and `≺` are orders that respect it, and natural multiples keep them and can be cancelled. Assumes nothing.
+-- Equality and order of signed whole numbers: `≐` is an equivalence that every operation respects but the product
+-- (Products has that one), `≼` and `≺` are orders that respect it, and natural multiples keep them and can be
+-- cancelled. Assumes nothing.
 use mathlib.Core.Path.{_≡_, refl, ap, subst}
 use mathlib.Core.Logic.{_⊎_, inl, inr}
 use mathlib.Core.Bool.{Bool, true, false}
 use Prim.Native.Nat.{ℕ, _+_, _*_, _≤_, _<_}
-use native.Mathlib.Nat.{mul-le-mul-left, le-of-mul-le-mul-right, mul-lt-mul-of-pos-left, lt-of-mul-lt-mul-left, eq-of-mul-eq-mul-left}
+use native.Mathlib.Nat.{mul-le-mul-left, le-of-mul-le-mul-right, mul-lt-mul-of-pos-left, lt-of-mul-lt-mul-left}
+use native.Mathlib.Nat.{eq-of-mul-eq-mul-left}
 use native.Mathlib.Decide.{decLt}
 use native.Mathlib.Omega.{arith}
 use lib.Dec.{T, eqb, eqb→eq, eqb-refl, ltb→lt, lt→ltb}

@@ -1,5 +1,5 @@
--- Sizes, |a| ≤ n: the triangle inequality by an identity, products, perturbed products, scaling and cancelling a natural factor;
--- and the sign and the size of any number. Assumes nothing.
+-- Sizes, |a| ≤ n: the triangle inequality by an identity, products, perturbed products, scaling and cancelling a
+-- natural factor; and the sign and the size of any number. Assumes nothing.
 use mathlib.Core.Path.{_≡_, ap}
 use mathlib.Core.Bool.{Bool, true, false}
 use Prim.Native.Nat.{ℕ, _+_, _-_, _*_, _≤_, _<_}

@@ -1,5 +1,5 @@
--- Signs of products: a product of numbers above 0 is above 0, a factor above 0 can be cancelled, squares are not negative, a square
--- bounds its root's size, and products respect `≐`. Assumes nothing.
+-- Signs of products: a product of numbers above 0 is above 0, a factor above 0 can be cancelled, squares are not
+-- negative, a square bounds its root's size, and products respect `≐`. Assumes nothing.
 use mathlib.Core.Path.{_≡_, refl, ap}
 use Prim.Native.Nat.{ℕ, suc, _+_, _-_, _*_, _≤_, _<_}
 use native.Mathlib.Nat.{le-of-lt, lt-of-le-of-lt, not-le-of-lt, mul-le-mul-left, mul-lt-mul-of-pos-right}

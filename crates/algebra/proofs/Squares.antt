@@ -1,5 +1,5 @@
--- Comparing with a square root: z |z| rises with z and scales by k k, so d / √t ≤ a / b may be weakened to a greater quotient, and
--- depends on the numbers only, not on their pairs. Assumes nothing.
+-- Comparing with a square root: z |z| rises with z and scales by k k, so d / √t ≤ a / b may be weakened to a greater
+-- quotient, and depends on the numbers only, not on their pairs. Assumes nothing.
 use mathlib.Core.Path.{_≡_, sym, ap, _∙_, subst}
 use Prim.Native.Nat.{ℕ, _-_, _*_, _≤_, _<_}
 use native.Mathlib.Nat.{add-le-add, mul-le-mul, mul-pos, mul-sub, mul-mul-mul-comm}

@@ -1,6 +1,6 @@
--- The one type of signed whole numbers of this project: `Z`, a pair of naturals that stands for its difference, z .0 - z .1.
--- Every operation and relation is an abbreviation, so that `omega arith` sees linear arithmetic over the naturals.
--- One number has many pairs: `≐` says that two pairs stand for the same number. Definitions only.
+-- The one type of signed whole numbers of this project: `Z`, a pair of naturals that stands for its difference, z .0 -
+-- z .1. Every operation and relation is an abbreviation, so that `omega arith` sees linear arithmetic over the
+-- naturals. One number has many pairs: `≐` says that two pairs stand for the same number. Definitions only.
 use mathlib.Core.Path.{_≡_}
 use mathlib.Core.Logic.{_⊎_}
 use mathlib.Core.Bool.{Bool, true, false}

@@ -1,6 +1,6 @@
--- The three loops of the outline builder, over any kind of point: drop what is near an earlier kept point, keep the candidate that no
--- later one replaces, and walk from corner to corner until the start is met. The tests are arguments, so that the builder over floats,
--- over places of an array, and over whole numbers are one text. Definitions only.
+-- The three loops of the outline builder, over any kind of point: drop what is near an earlier kept point, keep the
+-- candidate that no later one replaces, and walk from corner to corner until the start is met. The tests are arguments,
+-- so that the builder over floats, over places of an array, and over whole numbers are one text. Definitions only.
 use mathlib.Core.List.{List, [], _∷_, _++_}
 use mathlib.Core.Bool.{Bool, true, false, cond, _||_}
 use mathlib.Core.Option.{Option, none, some, Option·map}

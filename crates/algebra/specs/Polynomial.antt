@@ -1,6 +1,7 @@
--- Polynomial expressions over signed whole numbers, their value in an environment, and a normal form: a sum of terms, each a coefficient
--- and a sorted list of variables. `SamePolynomial x y` is the computed test that the normal form of x - y has only zero coefficients;
--- proofs/Ring shows that x and y then have the same value in every environment. Definitions only.
+-- Polynomial expressions over signed whole numbers, their value in an environment, and a normal form: a sum of terms,
+-- each a coefficient and a sorted list of variables. `SamePolynomial x y` is the computed test that the normal form of
+-- x - y has only zero coefficients; proofs/Ring shows that x and y then have the same value in every environment.
+-- Definitions only.
 use mathlib.Core.List.{List, [], _∷_}
 use mathlib.Core.Bool.{Bool, true, _&&_}
 use Prim.Native.Nat.{ℕ, compare, Ordering, Ordering·lt, Ordering·eq, Ordering·gt}

@@ -18,8 +18,8 @@ pub extern "C" fn direct_root(x: f32) -> f32
     b2_math::b2_sqrt(x)
 }
 
-// Makes the vector at the front of v unit and returns the length that it had; a slice of fewer than two floats is left as
-// it is, with 0.
+// Makes the vector at the front of v unit and returns the length that it had; a slice of fewer than two floats is left
+// as it is, with 0.
 #[no_mangle]
 pub extern "C" fn direct_normalize(v: &mut [f32]) -> f32 {
     if v.len() < 2 {

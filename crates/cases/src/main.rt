@@ -1,5 +1,5 @@
-// Builds the outline of each list and prints a line for it, as bits: the count and the points, the refusal, and for an accepted outline its
-// corners' count, the corners and the centroid.
+// Builds the outline of each list and prints a line for it, as bits: the count and the points, the refusal, and for an
+// accepted outline its corners' count, the corners and the centroid.
 ghost use Prim.Native.Nat.{_<_, _≤_};
 use floats::b2_math::B2vec2;
 use floats::bits;

@@ -1,4 +1,5 @@
-// Point lists from document 01's edges to try, and others that its numbers call for: nine points a list, x then y, as bits.
+// Point lists from document 01's edges to try, and others that its numbers call for: nine points a list, x then y, as
+// bits.
 pub const CASES: usize = 12;
 
 // How many points each list has.

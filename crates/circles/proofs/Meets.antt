@@ -1,4 +1,5 @@
--- Where a circle meets a corner, a face and an outline: each way out of the code is what the definition says. Assumes nothing.
+-- Where a circle meets a corner, a face and an outline: each way out of the code is what the definition says. Assumes
+-- nothing.
 use mathlib.Core.Path.{_≡_, refl, sym, _∙_, ap, ap₂}
 use mathlib.Core.Bool.{Bool, true, false, cond, _||_}
 use mathlib.Core.List.{List}

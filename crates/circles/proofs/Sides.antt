@@ -1,5 +1,5 @@
--- The search for the face that a circle's centre is farthest out of, a face at a time: what is known after the places below i, and how it
--- begins, goes on and ends. Assumes nothing.
+-- The search for the face that a circle's centre is farthest out of, a face at a time: what is known after the places
+-- below i, and how it begins, goes on and ends. Assumes nothing.
 use mathlib.Core.Path.{_≡_, refl, sym, _∙_, ap, ap₂}
 use mathlib.Core.Bool.{Bool, true, false, cond}
 use mathlib.Core.List.{List, map}

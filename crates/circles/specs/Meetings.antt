@@ -1,5 +1,5 @@
--- What the parts of outline against circle hand to each other: the face that the circle's centre is farthest out of, and where the circle
--- meets the outline. Definitions only.
+-- What the parts of outline against circle hand to each other: the face that the circle's centre is farthest out of,
+-- and where the circle meets the outline. Definitions only.
 use mathlib.Core.Path.{_≡_}
 use mathlib.Core.Bool.{Bool, false, cond}
 use mathlib.Core.List.{List}

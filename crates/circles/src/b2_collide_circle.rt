@@ -1,5 +1,5 @@
-// Circle against circle, and outline against circle (Box2D's b2_collide_circle.cpp). Where a shape meets a circle is found first, and the
-// manifold is made of that at one place.
+// Circle against circle, and outline against circle (Box2D's b2_collide_circle.cpp). Where a shape meets a circle is
+// found first, and the manifold is made of that at one place.
 ghost use mathlib.Core.Path.{_≡_};
 ghost use mathlib.Core.Bool.{cond};
 ghost use Prim.Native.Nat.{_≤_, _<_};
@@ -18,8 +18,8 @@ pub enum Meeting {
     Point(f32, f32, f32, f32),
 }
 
-// The face that a circle's centre is farthest out of: its ends, its normal, and by how much; outside where the centre is out of some face
-// by more than the radius, and then the rest is free.
+// The face that a circle's centre is farthest out of: its ends, its normal, and by how much; outside where the centre
+// is out of some face by more than the radius, and then the rest is free.
 pub struct Side {
     pub outside: bool,
     pub separation: f32,

@@ -60,7 +60,8 @@ pub struct PointStates {
     pub new1: B2pointState,
 }
 
-// The ids of the points that a manifold counts, where the points themselves are not kept; those past the count are none.
+// The ids of the points that a manifold counts, where the points themselves are not kept; those past the count are
+// none.
 pub struct CountedIds {
     pub count: usize,
     pub first: B2contactId,

@@ -1,5 +1,5 @@
--- The contact calls by their ranges: accepted where shapes and placements are in range, else 2 where a shape is not, and else 6. And what a
--- manifold without points keeps. Assumes nothing.
+-- The contact calls by their ranges: accepted where shapes and placements are in range, else 2 where a shape is not,
+-- and else 6. And what a manifold without points keeps. Assumes nothing.
 use mathlib.Core.Path.{_≡_, refl, sym, _∙_, ap, ap₂}
 use mathlib.Core.Bool.{Bool, true, false, not, cond, _&&_, _||_}
 use Prim.Native.Nat.{ℕ, _≤_, _<_}

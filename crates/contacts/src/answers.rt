@@ -1,5 +1,5 @@
-// Answers of the contact calls: refused, with the manifold that was given, or accepted. A refused call says 2 where a shape's numbers are
-// out of range, and else 6.
+// Answers of the contact calls: refused, with the manifold that was given, or accepted. A refused call says 2 where a
+// shape's numbers are out of range, and else 6.
 ghost use mathlib.Core.Path.{_≡_};
 ghost use mathlib.Core.Bool.{_&&_, cond, not};
 ghost use Rattle.floats.specs.Ranges.{transform-in-range};

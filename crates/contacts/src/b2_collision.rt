@@ -1,4 +1,5 @@
-// Clipping a segment to a line, as a call (b2_clip_segment_to_line of Box2D's b2_collision.cpp): refusal 9 for a number out of range.
+// Clipping a segment to a line, as a call (b2_clip_segment_to_line of Box2D's b2_collision.cpp): refusal 9 for a number
+// out of range.
 ghost use mathlib.Core.Path.{_≡_};
 ghost use Rattle.contact_definitions.specs.Clip.{clip-in-range, b2-clip-segment-to-line};
 use clipping::clip;

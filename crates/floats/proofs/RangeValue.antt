@@ -1,5 +1,6 @@
--- What the range tests of document 01 give: a number within a finite limit is finite, of the format where its parameter is, and at most
--- the limit in size; a NaN and the infinities are within none. And back. The limits are 2, 8, 2^20 and 2^30 m. Assumes nothing.
+-- What the range tests of document 01 give: a number within a finite limit is finite, of the format where its parameter
+-- is, and at most the limit in size; a NaN and the infinities are within none. And back. The limits are 2, 8, 2^20 and
+-- 2^30 m. Assumes nothing.
 use mathlib.Core.Path.{_≡_, sym, ap, _∙_}
 use Prim.Native.Nat.{ℕ, _*_, _^_}
 use native.Mathlib.Omega.{arith}

@@ -1,6 +1,6 @@
 -- Closed cases, computed by antt, that hold vectors, rotations and transforms to values from outside, as bit patterns:
--- what rustc's code for x86-64 answers, and for every definition of B2Math an answer that Box2D 2.4.1 and the Rust agree
--- on. Assumes nothing.
+-- what rustc's code for x86-64 answers, and for every definition of B2Math an answer that Box2D 2.4.1 and the Rust
+-- agree on. Assumes nothing.
 use mathlib.Core.Path.{_≡_, refl}
 use Prim.Native.Nat.{ℕ}
 use lib.Dec.{T}
@@ -60,9 +60,9 @@ unfolding b2-normalize b2-length b2-length-squared b2-sqrt sqrt rounded-root who
     add mul div lt ofBits toBits
 epsilon-is-normalized = refl
 
--- ---- (-2.03, -0.88) and (-3.66, -2.4), the rotations of sine 0.9 and cosine -0.3 and of sine 0.4 and cosine -0.77, and
--- the placements of these at (3.01, -1.79) and (-3.26, -0.99). The dot and the cross product have other bits where either
--- product is fused with the sum.
+-- ---- (-2.03, -0.88) and (-3.66, -2.4), the rotations of sine 0.9 and cosine -0.3 and of sine 0.4 and cosine -0.77,
+-- and the placements of these at (3.01, -1.79) and (-3.26, -0.99). The dot and the cross product have other bits where
+-- either product is fused with the sum.
 abbrev a : B2vec2
 a = vector 0xc001_eb85 0xbf61_47ae
 

@@ -1,5 +1,5 @@
--- Vectors, rotations and transforms of f32, one definition for each function of b2_math and under its name. Each operation rounds
--- once, to nearest, ties to even, in the order of Box2D 2.4.1; nothing is fused. Definitions only.
+-- Vectors, rotations and transforms of f32, one definition for each function of b2_math and under its name. Each
+-- operation rounds once, to nearest, ties to even, in the order of Box2D 2.4.1; nothing is fused. Definitions only.
 use mathlib.Core.Bool.{cond}
 use lib.Ieee.{Float, binary32, add, sub, mul, div, neg, lt}
 use Rattle.floats.specs.declared.b2_math.B2vec2.{B2vec2}
@@ -55,7 +55,8 @@ b2-length a = b2-sqrt (b2-length-squared a)
 unfoldable pub b2-distance-vec2-squared : B2vec2 → B2vec2 → Float
 b2-distance-vec2-squared a b = b2-dot (b2-sub a b) (b2-sub a b)
 
--- Document 01, Outlines: a length below 2^-23 changes nothing, and is given as 0; else each coordinate is multiplied by the rounded reciprocal.
+-- Document 01, Outlines: a length below 2^-23 changes nothing, and is given as 0; else each coordinate is multiplied by
+-- the rounded reciprocal.
 abbrev pub times-reciprocal : B2vec2 → Float → B2vec2
 times-reciprocal a length = vec2 (mul binary32 (a .x) (div binary32 one32 length)) (mul binary32 (a .y) (div binary32 one32 length))
 

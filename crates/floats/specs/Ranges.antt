@@ -1,4 +1,5 @@
--- Document 01, "Ranges": which numbers a call takes. A NaN is in no range, and every limit is inside its own. Definitions only.
+-- Document 01, "Ranges": which numbers a call takes. A NaN is in no range, and every limit is inside its own.
+-- Definitions only.
 use mathlib.Core.Bool.{Bool, _&&_}
 use lib.Ieee.{Float, binary32, neg, le, ofBits}
 use Rattle.floats.specs.declared.b2_math.B2vec2.{B2vec2}

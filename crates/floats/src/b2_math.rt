@@ -1,8 +1,9 @@
-// Vectors, rotations and transforms (Box2D's b2_math.h), as structs of f32 passed by value. Operators and methods of the Rust are
-// plain functions here; each operation rounds once, in the Rust's order.
+// Vectors, rotations and transforms (Box2D's b2_math.h), as structs of f32 passed by value. Operators and methods of
+// the Rust are plain functions here; each operation rounds once, in the Rust's order.
 ghost use mathlib.Core.Path.{_≡_};
 ghost use Rattle.floats.specs.B2Math.{b2-sqrt, b2-min};
-ghost use Rattle.floats.specs.B2Math.{b2-add, b2-sub, b2-neg, b2-scale, b2-dot, b2-cross, b2-distance-vec2-squared};
+ghost use Rattle.floats.specs.B2Math.{b2-add, b2-sub, b2-neg, b2-scale, b2-dot, b2-cross};
+ghost use Rattle.floats.specs.B2Math.{b2-distance-vec2-squared};
 ghost use Rattle.floats.specs.B2Math.{b2-cross-vec-by-scalar, b2-cross-scalar-by-vec};
 ghost use Rattle.floats.specs.B2Math.{b2-length-squared, b2-length, b2-normalize};
 ghost use Rattle.floats.specs.B2Math.{b2-mul-rot, b2-mul-t-rot, b2-mul-rot-by-vec2, b2-mul-t-rot-by-vec2};

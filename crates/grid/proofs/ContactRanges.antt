@@ -1,4 +1,5 @@
--- No contact call refuses a built grid outline, placed in range: its count is 3 to 8 and its numbers are in range. Assumes nothing.
+-- No contact call refuses a built grid outline, placed in range: its count is 3 to 8 and its numbers are in range.
+-- Assumes nothing.
 use mathlib.Core.Path.{_≡_}
 use mathlib.Core.Bool.{true, false}
 use lib.Dec.{T}

@@ -1,5 +1,5 @@
--- Every triangle from the first corner of a hull to two neighbours is turned counter-clockwise, so the doubled area is above 0.
--- Assumes nothing.
+-- Every triangle from the first corner of a hull to two neighbours is turned counter-clockwise, so the doubled area is
+-- above 0. Assumes nothing.
 use mathlib.Core.Path.{_≡_, refl, sym}
 use mathlib.Core.List.{List, [], _∷_, List·Memᴰ}
 use mathlib.Core.List as L

@@ -1,6 +1,6 @@
--- Closed cases: document 01's marked lists in 256ths of a metre, and witnesses that the theorems' hypotheses can be met: a square with a
--- repeat and a point on an edge has a hull, a list on one line is turned down with 4, one with two different points with 3.
--- Assumes nothing.
+-- Closed cases: document 01's marked lists in 256ths of a metre, and witnesses that the theorems' hypotheses can be
+-- met: a square with a repeat and a point on an edge has a hull, a list on one line is turned down with 4, one with two
+-- different points with 3. Assumes nothing.
 use mathlib.Core.Path.{_≡_, refl}
 use mathlib.Core.List.{List, [], _∷_}
 use mathlib.Core.Logic.{_⊎_, inl, inr}

@@ -1,5 +1,5 @@
--- Corners and sides of a list of points. A corner sees all other points in an open half plane; the first point is one; a side's end is
--- one; and at a corner one side ends and one begins. Assumes nothing.
+-- Corners and sides of a list of points. A corner sees all other points in an open half plane; the first point is one;
+-- a side's end is one; and at a corner one side ends and one begins. Assumes nothing.
 use mathlib.Core.Path.{_≡_, sym, subst}
 use mathlib.Core.List.{List, [], _∷_, List·Memᴰ, List·Memᴰ·cases-cons, List·Memᴰ·not-nil}
 use mathlib.Core.Logic.{_⊎_, inl, inr}

@@ -16,7 +16,8 @@ use Rattle.algebra.proofs.Plane.{orient-first-twice, orient-begin, orient-end}
 use Rattle.algebra.proofs.Lists.{pigeonhole}
 use Rattle.hull.specs.Hull.{ReducedPoint, AllReduced, Edge, Linked, IsHull, OnLine, ThreeDifferent}
 use Rattle.algebra.specs.Loops.{weld}
-use Rattle.hull.specs.Outline.{same-point, Reason, too-few, not-closed, corners, refusal, closed, wrapped, outline-within, AcceptedWithin}
+use Rattle.hull.specs.Outline.{same-point, Reason, too-few, not-closed, corners, refusal, closed, wrapped}
+use Rattle.hull.specs.Outline.{outline-within, AcceptedWithin}
 use Rattle.hull.specs.Outline.{TurnedDownWithin}
 use Rattle.hull.proofs.Points.{same-point-eq, same-point-own, point-discrete}
 use Rattle.algebra.proofs.Weld.{weld-length, weld-within, weld-once, weld-all}

@@ -1,5 +1,5 @@
--- Points whose coordinates are reduced are equal exactly when the builder's test by value says so; equality of points is decided.
--- Assumes nothing.
+-- Points whose coordinates are reduced are equal exactly when the builder's test by value says so; equality of points
+-- is decided. Assumes nothing.
 use mathlib.Core.Path.{_≡_, refl, sym, ap, subst}
 use mathlib.Core.List.{List, [], _∷_, List·Memᴰ, List·Memᴰ·cases-cons, List·Memᴰ·not-nil}
 use mathlib.Core.Logic.{_⊎_, inl, inr}

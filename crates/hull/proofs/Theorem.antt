@@ -1,6 +1,6 @@
--- The hull's theorems: the first sentence of demand 3, on whole numbers. A list of at most eight points with reduced coordinates, repeats
--- counted, is accepted exactly when it does not lie on one line; the built corners are then its exact hull, of which there is one,
--- with an area above 0. Assumes nothing.
+-- The hull's theorems: the first sentence of demand 3, on whole numbers. A list of at most eight points with reduced
+-- coordinates, repeats counted, is accepted exactly when it does not lie on one line; the built corners are then its
+-- exact hull, of which there is one, with an area above 0. Assumes nothing.
 use mathlib.Core.Path.{_≡_}
 use mathlib.Core.List.{List, _∷_}
 use mathlib.Core.Logic.{_⊎_, inl, inr}

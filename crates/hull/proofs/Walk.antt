@@ -1,5 +1,5 @@
--- The walk comes back: a step that keeps to corners, and takes no two corners to one, leads back to its start before any corner is met
--- twice, within as many steps as there are points. Assumes nothing.
+-- The walk comes back: a step that keeps to corners, and takes no two corners to one, leads back to its start before
+-- any corner is met twice, within as many steps as there are points. Assumes nothing.
 use mathlib.Core.Path.{_≡_, refl, sym, _∙_, subst}
 use mathlib.Core.List.{List, [], _∷_, List·Memᴰ, List·Memᴰ·cases-cons, List·Memᴰ·not-nil, Memᴰ·cast}
 use mathlib.Core.List as L
@@ -16,7 +16,8 @@ use Rattle.hull.specs.Hull.{Linked}
 use Rattle.algebra.specs.Loops.{walk}
 
 module _ {A : Type 0} (same : A → A → Bool) (next : A → A) (start : A) where
-  -- the walk from p after the corners `passed` gives a row p ∷ rest, linked and back at the start, none twice, none passed before
+  -- the walk from p after the corners `passed` gives a row p ∷ rest, linked and back at the start, none twice, none
+  -- passed before
   pub record Walked (Corner : A → Type 0) (Side : A → A → Type 0) (fuel : ℕ) (p : A) (passed : List A) : Type 0 where
     pub rest : List A
     pub is : walk same next start fuel p ≡ some (p ∷ rest)

@@ -1,5 +1,5 @@
--- The walk around a list of two or more points, none twice: it comes back with two corners where the list lies on one line, and
--- otherwise with the exact hull. Assumes nothing.
+-- The walk around a list of two or more points, none twice: it comes back with two corners where the list lies on one
+-- line, and otherwise with the exact hull. Assumes nothing.
 use mathlib.Core.Path.{_≡_, refl, sym, _∙_, subst}
 use mathlib.Core.List.{List, [], _∷_, List·Memᴰ}
 use mathlib.Core.List as L

@@ -1,7 +1,7 @@
--- The exact hull of a list of points, repeats counted, in the words of document 01, "Words of demand 3".
--- Points are compared by `≡`. The theorems ask that each coordinate is `Reduced`, one part of its pair 0, as the values of floats are:
--- then `≡` is equality by value, and "a point of the list", "none twice" and "equal to neither" are the plain notions of lists.
--- Definitions only.
+-- The exact hull of a list of points, repeats counted, in the words of document 01, "Words of demand 3". Points are
+-- compared by `≡`. The theorems ask that each coordinate is `Reduced`, one part of its pair 0, as the values of floats
+-- are: then `≡` is equality by value, and "a point of the list", "none twice" and "equal to neither" are the plain
+-- notions of lists. Definitions only.
 use mathlib.Core.Path.{_≡_}
 use mathlib.Core.List.{List, [], _∷_, List·Memᴰ}
 use mathlib.Core.Logic.{_⊎_}

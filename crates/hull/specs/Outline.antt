@@ -1,6 +1,6 @@
--- The outline builder on points with whole coordinates, step by step as document 01, "Outlines", has it: weld, start at the largest x,
--- smallest y among equals, walk; turned down for too few points, and then for the walk. On grid numbers the f32 builder takes the same
--- steps. Definitions only.
+-- The outline builder on points with whole coordinates, step by step as document 01, "Outlines", has it: weld, start at
+-- the largest x, smallest y among equals, walk; turned down for too few points, and then for the walk. On grid numbers
+-- the f32 builder takes the same steps. Definitions only.
 use mathlib.Core.Path.{_≡_}
 use mathlib.Core.List.{List, [], _∷_}
 use mathlib.Core.Logic.{_⊎_}
@@ -41,8 +41,8 @@ start e js = scan starts-before e js
 abbrev pub wrap : ℕ → Point → List Point → Option (List Point)
 wrap fuel e js = walk same-point (next-corner e js) (start e js) fuel (start e js)
 
--- ---- the answer
--- why a list is turned down: fewer than three points after welding; the walk not back, or back with fewer than three corners
+-- ---- the answer why a list is turned down: fewer than three points after welding; the walk not back, or back with
+-- fewer than three corners
 pub data Reason : Type 0 where
   too-few : Reason
   not-closed : Reason

@@ -1,5 +1,5 @@
--- The walk by places in the array of welded points e ∷ js, as the code has it: a candidate is a place, and "the corner itself" is the
--- same place. proofs/Places shows that it gives the points of `wrap`. Definitions only.
+-- The walk by places in the array of welded points e ∷ js, as the code has it: a candidate is a place, and "the corner
+-- itself" is the same place. proofs/Places shows that it gives the points of `wrap`. Definitions only.
 use mathlib.Core.List.{List, _∷_}
 use mathlib.Core.Bool.{Bool, _||_}
 use mathlib.Core.Option.{Option}

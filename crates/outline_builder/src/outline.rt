@@ -1,5 +1,6 @@
-// The parts of the outline builder: welding, the start, the walk, normals, and area with moment. Points stand in the first places of a row
-// of sixteen coordinates, which is lent from part to part; the definitions are over the list of points.
+// The parts of the outline builder: welding, the start, the walk, normals, and area with moment. Points stand in the
+// first places of a row of sixteen coordinates, which is lent from part to part; the definitions are over the list of
+// points.
 ghost use mathlib.Core.Path.{_≡_};
 ghost use mathlib.Core.Bool.{true, _||_};
 ghost use Prim.Native.Nat.{_<_, _≤_};
@@ -51,7 +52,8 @@ fn near_any(ps: &[f32; 16], n: usize, v: B2vec2) -> bool
     false
 }
 
-// The first count points without those too near to an earlier one that is kept, in the first places of ps, and their number.
+// The first count points without those too near to an earlier one that is kept, in the first places of ps, and their
+// number.
 pub fn weld(points: &[f32; 16], count: usize, ps: &mut [f32; 16]) -> usize
     requires { ⌜ (count ≤ 8) × EightPoints (now points) × EightPoints (now ps) ⌝ }
     ensures { λ r. ⌜ (r ≤ count) × EightPoints (now (ps .exit))
@@ -110,7 +112,8 @@ fn turns_closer(r: B2vec2, v: B2vec2) -> bool
     c == 0.0 && b2_math::b2_length_squared(r) < b2_math::b2_length_squared(v)
 }
 
-// Whether the candidate at ie is replaced, seen from the corner at ih: r leads to the candidate and v to the other point.
+// Whether the candidate at ie is replaced, seen from the corner at ih: r leads to the candidate and v to the other
+// point.
 fn replaced(ih: usize, ie: usize, r: B2vec2, v: B2vec2) -> bool
     ensures { λ z. ⌜ z ≡ (eqb ie ih || turns-closer r v) ⌝ }
 {
@@ -140,7 +143,8 @@ pub fn next(ps: &[f32; 16], n: usize, ih: usize) -> usize
     ie
 }
 
-// The corners from the one at i0 on, over the points of corners, and their number; 0 where the walk is not back after eight.
+// The corners from the one at i0 on, over the points of corners, and their number; 0 where the walk is not back after
+// eight.
 pub fn walk(ps: &[f32; 16], n: usize, i0: usize, corners: &mut [f32; 16]) -> usize
     requires { ⌜ (n ≤ 8) × (i0 < n) × (i0 ≡ start (take n (points-in (now ps)))) × EightPoints (now ps) × EightPoints (now corners) ⌝ }
     ensures { λ r. ⌜ (r ≤ 8) × EightPoints (now (corners .exit))
@@ -182,7 +186,8 @@ fn normal_of_edge(edge: B2vec2, squared: f32) -> B2vec2
     }
 }
 
-// The normals of m corners, over those of ns, and whether every edge is long enough; where one is not, ns is left anyhow.
+// The normals of m corners, over those of ns, and whether every edge is long enough; where one is not, ns is left
+// anyhow.
 pub fn normals(vs: &[f32; 16], m: usize, ns: &mut [f32; 16]) -> bool
     requires { ⌜ (m ≤ 8) × EightPoints (now vs) × EightPoints (now ns) ⌝ }
     ensures { λ r. ⌜ EightPoints (now (ns .exit))

@@ -1,5 +1,6 @@
--- F3 against a number r of the format: an exact result of at most r rounds to at most r, one of at least r to at least r, and one
--- between two such numbers to a finite result. One law for every rounding, then the four operations. Assumes nothing.
+-- F3 against a number r of the format: an exact result of at most r rounds to at most r, one of at least r to at least
+-- r, and one between two such numbers to a finite result. One law for every rounding, then the four operations. Assumes
+-- nothing.
 use mathlib.Core.Path.{_≡_, refl, sym, ap, _∙_, subst}
 use Prim.Native.Nat.{ℕ, _+_, _*_, _^_, _≤_}
 use native.Mathlib.Nat.{lt-of-le-of-lt}

@@ -1,5 +1,5 @@
--- DOT: where both products of a dot product are at most h m², h ≤ 2^k, it is off by at most 4 2^k ticks and at most 2 h m in size:
--- two products by F2(k), capped at h m by F3, and their sum by F2(k + 1). Assumes nothing.
+-- DOT: where both products of a dot product are at most h m², h ≤ 2^k, it is off by at most 4 2^k ticks and at most 2 h
+-- m in size: two products by F2(k), capped at h m by F3, and their sum by F2(k + 1). Assumes nothing.
 use mathlib.Core.Path.{_≡_, sym, ap, _∙_, subst}
 use Prim.Native.Nat.{ℕ, _+_, _*_, _^_, _≤_}
 use native.Mathlib.Nat.{le-refl, mul-assoc, mul-le-mul-right, mul-le-mul-left}

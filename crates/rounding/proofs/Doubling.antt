@@ -1,5 +1,5 @@
--- F4: a finite result is at most twice the exact one in size: below half a unit it is 0, and from there on rounding up at most
--- doubles. One law for every rounding, then the four operations. Assumes nothing.
+-- F4: a finite result is at most twice the exact one in size: below half a unit it is 0, and from there on rounding up
+-- at most doubles. One law for every rounding, then the four operations. Assumes nothing.
 use mathlib.Core.Path.{sym, subst}
 use Prim.Native.Nat.{ℕ, _*_, _≤_, _<_}
 use native.Mathlib.Nat.{le-trans, mul-le-mul-left, le-of-mul-le-mul-right}

@@ -1,5 +1,6 @@
--- The error of `rounded num den`, in units times den, by the size of the fraction of a metre num / den. At most 2^k m: at most 2^k ticks.
--- At least 2^-126 m, the normal range: at most 2^-24 of the fraction; and in any case at most that and half a unit. Assumes nothing.
+-- The error of `rounded num den`, in units times den, by the size of the fraction of a metre num / den. At most 2^k m:
+-- at most 2^k ticks. At least 2^-126 m, the normal range: at most 2^-24 of the fraction; and in any case at most that
+-- and half a unit. Assumes nothing.
 use mathlib.Core.Path.{_≡_, refl, sym, ap, _∙_, subst}
 use mathlib.Core.Logic.{inl, inr}
 use Prim.Native.Nat.{ℕ, _+_, _*_, _^_, _≤_, _<_}
@@ -12,7 +13,8 @@ use lib.Ieee.{binary32}
 use lib.Ieee.Scale.{overflow}
 use Rattle.rounding.specs.Value.{metre, tick}
 use Rattle.rounding.proofs.Value.{metre-is, metre-power}
-use Rattle.rounding.proofs.Rounding.{dropped, rounded, rounded-near, rounded-exact, rounded-high, drop-le, digit-small}
+use Rattle.rounding.proofs.Rounding.{dropped, rounded, rounded-near, rounded-exact, rounded-high, drop-le}
+use Rattle.rounding.proofs.Rounding.{digit-small}
 
 -- |a - b| ≤ e
 abbrev pub Apart : ℕ → ℕ → ℕ → Type 0

@@ -1,5 +1,5 @@
--- F1: a result whose exact value is that of some number of the format has that value, and is one itself: sum, difference, product
--- and quotient. Assumes nothing.
+-- F1: a result whose exact value is that of some number of the format has that value, and is one itself: sum,
+-- difference, product and quotient. Assumes nothing.
 use mathlib.Core.Path.{subst}
 use Prim.Native.Nat.{ℕ, _<_}
 use native.Mathlib.Omega.{arith}

@@ -1,5 +1,5 @@
--- F3: rounding keeps the order of exact results. One law for every rounding, then two sums, differences, products and quotients.
--- Assumes nothing.
+-- F3: rounding keeps the order of exact results. One law for every rounding, then two sums, differences, products and
+-- quotients. Assumes nothing.
 use mathlib.Core.Path.{_≡_, refl, sym, ap, _∙_, subst}
 use Prim.Native.Nat.{ℕ, _*_, _^_, _≤_, _<_}
 use native.Mathlib.Nat.{lt-of-not-le, not-le-of-lt, zero-mul, eq-of-mul-eq-mul-right}

@@ -1,5 +1,5 @@
--- The values of bit patterns: of positive numbers, normal and subnormal, and of r digits at the scale k. Two values that fit the
--- format, of the same size and not negative, are one. Assumes nothing.
+-- The values of bit patterns: of positive numbers, normal and subnormal, and of r digits at the scale k. Two values
+-- that fit the format, of the same size and not negative, are one. Assumes nothing.
 use mathlib.Core.Path.{_≡_, refl, sym, ap, _∙_, subst}
 use mathlib.Core.Logic.{inl, inr}
 use mathlib.Core.Bool.{Bool, true, false, cond, true≢false}

@@ -1,5 +1,6 @@
--- The relative laws: an error of at most 2^-24 of the exact result. Sums and differences have it always, a subnormal one being exact;
--- products and quotients in the normal range, from 2^-126 m on, and else with half a unit, 2^-150 m, more. Assumes nothing.
+-- The relative laws: an error of at most 2^-24 of the exact result. Sums and differences have it always, a subnormal
+-- one being exact; products and quotients in the normal range, from 2^-126 m on, and else with half a unit, 2^-150 m,
+-- more. Assumes nothing.
 use mathlib.Core.Path.{_≡_, sym, ap, _∙_}
 use Prim.Native.Nat.{ℕ, _+_, _*_, _^_, _≤_, _<_}
 use native.Mathlib.Nat.{le-trans, le-of-eq, lt-trans, lt-of-not-le, mul-one, mul-assoc, mul-le-mul-right, mul-pos}
@@ -14,7 +15,8 @@ use Rattle.rounding.proofs.Value.{metre-is, metre-pos}
 use Rattle.rounding.proofs.Rounding.{rounded, rounded-exact}
 use Rattle.rounding.proofs.Error.{Apart, rounded-mixed, rounded-relative}
 use Rattle.rounding.proofs.Operations.{Rounds, add-rounds, sub-rounds, mul-rounds, div-rounds}
-use Rattle.rounding.proofs.Rounds.{rounds-error, size-le, mul-size, div-size, sum-error, product-error, quotient-error}
+use Rattle.rounding.proofs.Rounds.{rounds-error, size-le, mul-size, div-size, sum-error, product-error}
+use Rattle.rounding.proofs.Rounds.{quotient-error}
 
 -- ---- sums
 -- a sum below 2^23 units is exact

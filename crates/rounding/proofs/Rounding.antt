@@ -1,6 +1,6 @@
--- How `round` of lib.Ieee rounds, in whole numbers. A fraction num / den of a metre is num * 2^149 / den units; `rounded num den` is
--- what `round` makes of it, in units. It is off by at most half of its last digit, 2^drop units, and at most twice the fraction.
--- The sign plays no part in it. Assumes nothing.
+-- How `round` of lib.Ieee rounds, in whole numbers. A fraction num / den of a metre is num * 2^149 / den units;
+-- `rounded num den` is what `round` makes of it, in units. It is off by at most half of its last digit, 2^drop units,
+-- and at most twice the fraction. The sign plays no part in it. Assumes nothing.
 use mathlib.Core.Path.{_≡_, sym, ap, _∙_, subst}
 use mathlib.Core.Logic.{_⊎_, inl, inr}
 use Prim.Native.Nat.{ℕ, zero, suc, _+_, _-_, _*_, _/_, _%_, _^_, _≤_, _<_, compare, Ordering, Ordering·lt, Ordering·eq}

@@ -1,6 +1,6 @@
--- A finite binary32 number as a whole number of the smallest one, 2^-149 m: `val`.
--- `metre` is 1 m and `tick` 2^-25 m, the largest rounding error of a result of at most 1 m, both in those units. They stay shut:
--- to `omega` each is one unknown (it takes no numeral of more than 38 digits). Definitions only.
+-- A finite binary32 number as a whole number of the smallest one, 2^-149 m: `val`. `metre` is 1 m and `tick` 2^-25 m,
+-- the largest rounding error of a result of at most 1 m, both in those units. They stay shut: to `omega` each is one
+-- unknown (it takes no numeral of more than 38 digits). Definitions only.
 use mathlib.Core.Bool.{Bool, false}
 use Prim.Native.Nat.{ℕ, _*_, _/_, _^_}
 use lib.Dec.{T}

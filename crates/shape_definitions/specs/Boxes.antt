@@ -1,5 +1,5 @@
--- Boxes, b2_polygon_shape_set_as_box and b2_polygon_shape_set_as_box_angle; the second takes sine and cosine. Half-widths may be negative.
--- Refusals: 2 for a half-width or the centre, then 6 for sine or cosine. Definitions only.
+-- Boxes, b2_polygon_shape_set_as_box and b2_polygon_shape_set_as_box_angle; the second takes sine and cosine.
+-- Half-widths may be negative. Refusals: 2 for a half-width or the centre, then 6 for sine or cosine. Definitions only.
 use mathlib.Core.Bool.{not, cond, _&&_}
 use mathlib.Core.List.{List, [], _∷_, map}
 use lib.Ieee.{Float, neg}

@@ -1,5 +1,5 @@
--- Document 01, "Outlines": welding, the start, the walk, normals, area and centroid, on lists of points and in the code's order of
--- operations. Places count from 0. Definitions only.
+-- Document 01, "Outlines": welding, the start, the walk, normals, area and centroid, on lists of points and in the
+-- code's order of operations. Places count from 0. Definitions only.
 use mathlib.Core.Bool.{Bool, true, cond, _&&_, _||_}
 use mathlib.Core.List.{List, [], _∷_}
 use mathlib.Core.Option.{Option}
@@ -26,7 +26,8 @@ point-at ps i = getD ps i origin
 abbrev pub later-places : List B2vec2 → List ℕ
 later-places ps = places 1 (length ps - 1)
 
--- ---- welding: a point is dropped when its squared distance to an earlier kept one is strictly below (0.5 * 0.005) * (0.5 * 0.005)
+-- ---- welding: a point is dropped when its squared distance to an earlier kept one is strictly below (0.5 * 0.005) *
+-- (0.5 * 0.005)
 abbrev pub weld-limit : Float
 weld-limit = ofBits binary32 0x36d1_b717
 
@@ -46,8 +47,8 @@ earlier ps best j = comes-before (point-at ps best) (point-at ps j)
 unfoldable pub start : List B2vec2 → ℕ
 start ps = scan (earlier ps) 0 (later-places ps)
 
--- ---- the next corner: the candidate begins at place 0 and is replaced by j when the cross product is below 0, or equals 0 and j is
--- farther; a candidate that is the corner itself is always replaced
+-- ---- the next corner: the candidate begins at place 0 and is replaced by j when the cross product is below 0, or
+-- equals 0 and j is farther; a candidate that is the corner itself is always replaced
 abbrev pub turns-closer : B2vec2 → B2vec2 → Bool
 turns-closer r v = lt (b2-cross r v) zero32 || eq (b2-cross r v) zero32 && lt (b2-length-squared r) (b2-length-squared v)
 
@@ -60,7 +61,8 @@ replaces ps corner candidate j = eqb candidate corner || closer (point-at ps cor
 unfoldable pub next : List B2vec2 → ℕ → ℕ
 next ps corner = scan (replaces ps corner) 0 (later-places ps)
 
--- ---- the walk from the start until it comes again: the places of its corners, or none where it is not back after eight
+-- ---- the walk from the start until it comes again: the places of its corners, or none where it is not back after
+-- eight
 unfoldable pub row : List B2vec2 → Option (List ℕ)
 row ps = walk eqb (next ps) (start ps) 8 (start ps)
 
@@ -84,8 +86,8 @@ long-enough (e ∷ es) = lt epsilon-squared (b2-length-squared e) && long-enough
 abbrev pub normal-of-edge : B2vec2 → B2vec2
 normal-of-edge e = b2-normalize (b2-cross-vec-by-scalar e one32) .v
 
--- ---- area and centroid: triangles from the first corner, summed in corner order; a sum has the area and the moment so far
--- 1/3, rounded: 11184811/2^25
+-- ---- area and centroid: triangles from the first corner, summed in corner order; a sum has the area and the moment so
+-- far 1/3, rounded: 11184811/2^25
 abbrev pub third : Float
 third = ofBits binary32 0x3eaa_aaab
 

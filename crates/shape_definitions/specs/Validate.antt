@@ -1,5 +1,6 @@
--- The convexity test, b2_polygon_shape_validate: no corner lies right of a face, by the rounded cross product. Counts 0 to 8; an outline
--- of no or one corner passes. Refusals: 7 for the count, then 2 for any number of the outline that the count takes in. Definitions only.
+-- The convexity test, b2_polygon_shape_validate: no corner lies right of a face, by the rounded cross product. Counts 0
+-- to 8; an outline of no or one corner passes. Refusals: 7 for the count, then 2 for any number of the outline that the
+-- count takes in. Definitions only.
 use mathlib.Core.Bool.{Bool, true, false, not, cond, _&&_, _||_}
 use Prim.Native.Nat.{ℕ, zero, suc}
 use lib.Dec.{ltb, eqb}

@@ -1,4 +1,5 @@
-// Walls (Box2D's b2_edge_shape.h): the segment from vertex 1 to vertex 2. A one-sided wall has ghost points before and after it.
+// Walls (Box2D's b2_edge_shape.h): the segment from vertex 1 to vertex 2. A one-sided wall has ghost points before and
+// after it.
 use floats::b2_math::B2vec2;
 
 pub struct B2edgeShape {

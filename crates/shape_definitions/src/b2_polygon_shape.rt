@@ -17,7 +17,8 @@ pub struct PolygonAnswer {
     pub shape: B2polygonShape,
 }
 
-// What the convexity test answers: the refusal, 0 for none, and whether the outline is convex (no, where it is refused).
+// What the convexity test answers: the refusal, 0 for none, and whether the outline is convex (no, where it is
+// refused).
 pub struct ValidateAnswer {
     pub refusal: u8,
     pub valid: bool,

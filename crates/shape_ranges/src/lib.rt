@@ -1,5 +1,5 @@
-// Whether the numbers of a given shape are in their ranges (document 01, "Ranges"): what every call that is given a shape
-// asks first.
+// Whether the numbers of a given shape are in their ranges (document 01, "Ranges"): what every call that is given a
+// shape asks first.
 pub mod circle_range;
 pub mod edge_range;
 pub mod polygon_range;

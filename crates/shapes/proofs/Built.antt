@@ -1,4 +1,5 @@
--- The outline builder, refusal by refusal: what each way out of the code answers is what the definition says. Assumes nothing.
+-- The outline builder, refusal by refusal: what each way out of the code answers is what the definition says. Assumes
+-- nothing.
 use mathlib.Core.Path.{_≡_, refl, sym, _∙_, ap, subst}
 use mathlib.Core.Bool.{Bool, true, false, not, cond, _&&_}
 use mathlib.Core.List.{List, map}

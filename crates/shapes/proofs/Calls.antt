@@ -1,5 +1,5 @@
--- What the walk of b2_polygon_shape_set asks of the two functions that it calls, point_or and set_of_eight, and what they say of their
--- results. Assumes nothing.
+-- What the walk of b2_polygon_shape_set asks of the two functions that it calls, point_or and set_of_eight, and what
+-- they say of their results. Assumes nothing.
 use mathlib.Core.Path.{_≡_, refl}
 use mathlib.Core.List.{List, [], _∷_}
 use Prim.Native.Nat.{ℕ, _<_, _^_}
@@ -15,7 +15,8 @@ use prog.Wp.{Heap, Env, Calls, Loops}
 use ghost.Atoms.{Atoms, sem}
 use contract.Monad.{Fun, fact}
 use sound.WpLaws.{FmC}
-use types.Kit.{Given, Item, Goal, Seq, Soaks, ‵, raw, _⊛_, ⋆, some, later, _$_, _∵_, !, qed, move, use1, use2, split, join, fjoin, pick}
+use types.Kit.{Given, Item, Goal, Seq, Soaks, ‵, raw, _⊛_, ⋆, some, later, _$_, _∵_, !, qed, move, use1, use2, split}
+use types.Kit.{join, fjoin, pick}
 use types.Kit.{Post, runs, lands, await, frame, done}
 use types.Run.{Opds}
 use denote.RattleType.{owns}

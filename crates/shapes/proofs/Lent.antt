@@ -1,5 +1,5 @@
--- A lent slice of any length, read at eight places: the builder over those places and the slice's length is the builder over the slice.
--- Assumes nothing.
+-- A lent slice of any length, read at eight places: the builder over those places and the slice's length is the builder
+-- over the slice. Assumes nothing.
 use mathlib.Core.Path.{_≡_, refl, _∙_}
 use mathlib.Core.List.{List, [], _∷_}
 use Prim.Native.Nat.{_≤_}

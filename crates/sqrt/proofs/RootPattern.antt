@@ -1,10 +1,11 @@
--- The bit pattern of a root: for the r nearest to √n, n of 47 or 48 digits, k * 2^23 + r is the pattern of √(n * 4^k), in smallest
--- units; and so of the root of f * 2^(g - 277), which halves g and leaves its parity in n. Assumes nothing.
+-- The bit pattern of a root: for the r nearest to √n, n of 47 or 48 digits, k * 2^23 + r is the pattern of √(n * 4^k),
+-- in smallest units; and so of the root of f * 2^(g - 277), which halves g and leaves its parity in n. Assumes nothing.
 use mathlib.Core.Path.{_≡_, refl, sym, ap, _∙_, subst}
 use mathlib.Core.Bool.{Bool, true, false, not}
 use Prim.Native.Nat.{ℕ, zero, suc, _+_, _-_, _*_, _/_, _%_, _^_, _≤_, _<_}
 use native.Mathlib.Nat.{le-trans, le-of-eq, le-antisymm, le-dest, lt-of-lt-of-le, lt-of-not-le, not-le-of-lt}
-use native.Mathlib.Nat.{mul-le-mul-right, mul-lt-mul-of-pos-right, le-of-mul-le-mul-right, mul-assoc, one-mul, pow-succ'}
+use native.Mathlib.Nat.{mul-le-mul-right, mul-lt-mul-of-pos-right, le-of-mul-le-mul-right, mul-assoc, one-mul}
+use native.Mathlib.Nat.{pow-succ'}
 use native.Mathlib.Omega.{arith}
 use lib.Dec.{T, leb, leb→le, nleb→lt}
 use lib.Pow.{pow-add, pow-mono, pow-pos}

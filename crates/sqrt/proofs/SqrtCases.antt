@@ -1,5 +1,5 @@
--- `sqrt binary32` by the kind of its operand: above zero it is the rounded root of the operand's units; a negative number and a NaN
--- have the root NaN, and zeros and infinity are their own. Assumes nothing.
+-- `sqrt binary32` by the kind of its operand: above zero it is the rounded root of the operand's units; a negative
+-- number and a NaN have the root NaN, and zeros and infinity are their own. Assumes nothing.
 use mathlib.Core.Path.{_≡_, refl, sym, ap, _∙_, subst}
 use mathlib.Core.Logic.{inl, inr}
 use mathlib.Core.Bool.{Bool, true, false, not, cond, true≢false}

@@ -1,9 +1,10 @@
--- F3 for the root: it rises with its operand, and keeps to the side of every number of the format on which √x lies; so a bound of
--- 2^2i m on the operand is one of 2^i m on the root, and below likewise. Assumes nothing.
+-- F3 for the root: it rises with its operand, and keeps to the side of every number of the format on which √x lies; so
+-- a bound of 2^2i m on the operand is one of 2^i m on the root, and below likewise. Assumes nothing.
 use mathlib.Core.Path.{_≡_, sym, ap, _∙_, subst}
 use mathlib.Core.Logic.{inl, inr}
 use Prim.Native.Nat.{ℕ, suc, _+_, _-_, _*_, _/_, _^_, _≤_, _<_, zero-le}
-use native.Mathlib.Nat.{le-trans, le-of-eq, le-of-lt, le-dest, lt-of-le-of-lt, lt-of-lt-of-le, lt-of-not-le, not-le-of-lt}
+use native.Mathlib.Nat.{le-trans, le-of-eq, le-of-lt, le-dest, lt-of-le-of-lt, lt-of-lt-of-le, lt-of-not-le}
+use native.Mathlib.Nat.{not-le-of-lt}
 use native.Mathlib.Nat.{eq-or-lt-of-le}
 use native.Mathlib.Nat.{mul-assoc, one-mul, mul-lt-mul-of-pos-left, mul-lt-mul-of-pos-right, mul-mul-mul-comm}
 use native.Mathlib.Nat.{mul-le-mul-left, mul-le-mul-right, le-of-mul-le-mul-right}

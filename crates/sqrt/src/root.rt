@@ -1,5 +1,5 @@
-// The square root of f32 numbers, by whole numbers. Of normal numbers a cubic gives a candidate, of which nothing is promised:
-// a test decides, and where that fails, and for subnormal numbers, an interval is halved.
+// The square root of f32 numbers, by whole numbers. Of normal numbers a cubic gives a candidate, of which nothing is
+// promised: a test decides, and where that fails, and for subnormal numbers, an interval is halved.
 ghost use mathlib.Core.Path.{_≡_};
 ghost use Prim.Native.Nat.{_+_, _*_, _^_, _<_, _≤_};
 ghost use lib.Ieee.{binary32, ofBits};
@@ -47,8 +47,9 @@ fn nearest_root(n: u64, r: u64) -> u64
     bisected_root(n)
 }
 
-// About the root of the number of pattern b, as a whole number of 24 digits, by a cubic: the last digit of the exponent and the first
-// four of the significand choose it, and t is the distance from the end of its segment. Nothing but r < 2^25 is promised.
+// About the root of the number of pattern b, as a whole number of 24 digits, by a cubic: the last digit of the exponent
+// and the first four of the significand choose it, and t is the distance from the end of its segment. Nothing but r <
+// 2^25 is promised.
 fn candidate(b: u64) -> u64
     ensures { λ r. ⌜ r < 2 ^ 25 ⌝ }
 {
@@ -60,7 +61,8 @@ fn candidate(b: u64) -> u64
     (4294967360 + k.a as u64 - x1) >> 9
 }
 
-// √(f * 2^(g - 277)), for an f of 24 digits, by halving alone. The parity of g goes to f, and half of g to the exponent.
+// √(f * 2^(g - 277)), for an f of 24 digits, by halving alone. The parity of g goes to f, and half of g to the
+// exponent.
 fn scaled_root(f: u64, g: u64) -> f32
     requires { ⌜ (2 ^ 23 ≤ f) × (f < 2 ^ 24) × (4 ≤ g) × (g < 382) ⌝ }
     ensures { λ r. ⌜ r ≡ rounded-root binary32 (f * 2 ^ (g + 21)) ⌝ }
@@ -70,8 +72,8 @@ fn scaled_root(f: u64, g: u64) -> f32
     f32::from_bits(((g / 2 - 1) * LEADING + r) as u32)
 }
 
-// The root of the normal number whose pattern is b, as in scaled_root: f is its significand, and g its exponent and 127. 2^24 is
-// halved where g is even, and b plus 125 * 2^23 holds g - 2 above its digits.
+// The root of the normal number whose pattern is b, as in scaled_root: f is its significand, and g its exponent and
+// 127. 2^24 is halved where g is even, and b plus 125 * 2^23 holds g - 2 above its digits.
 fn normal_root(b: u64) -> f32
     requires { ⌜ (2 ^ 23 ≤ b) × (b < 255 * 2 ^ 23) ⌝ }
     ensures { λ r. ⌜ r ≡ sqrt binary32 (ofBits binary32 b) ⌝ }

@@ -1,4 +1,5 @@
--- The words of entries 5 and 6, from what their calls promise: a length, then the wall's flag, else nothing. Assumes nothing.
+-- The words of entries 5 and 6, from what their calls promise: a length, then the wall's flag, else nothing. Assumes
+-- nothing.
 use Prim.Native.Nat.{ℕ, _≤_, _<_}
 use mathlib.Core.Path.{_≡_}
 use mathlib.Core.List.{List, []}

@@ -1,5 +1,6 @@
--- What `calls` answers: the entry's number is the first word of a request, floats are their bits, and the answer is the refusal (0 for
--- accepted) and then the complete record after the call. The answer to a malformed request is no word at all. Definitions only.
+-- What `calls` answers: the entry's number is the first word of a request, floats are their bits, and the answer is the
+-- refusal (0 for accepted) and then the complete record after the call. The answer to a malformed request is no word at
+-- all. Definitions only.
 use Prim.Native.Nat.{ℕ, _+_, _*_}
 use mathlib.Core.Bool.{cond, _&&_}
 use mathlib.Core.List.{List, [], _∷_}

@@ -39,7 +39,8 @@ fn normalize(input: &[u8], out: &mut [u8]) -> u32
     words::put_words(out, &answer)
 }
 
-// The number of words written: 0, and the output as it was, for a malformed request or an output too short for the answer.
+// The number of words written: 0, and the output as it was, for a malformed request or an output too short for the
+// answer.
 #[no_mangle]
 pub extern "C" fn calls(input: &[u8], out: &mut [u8]) -> u32
     ensures { λ r. ⌜ Written (answer (now (input .entry))) (now (out .entry)) r (now (out .exit)) ⌝ }

@@ -1,5 +1,6 @@
--- The records of requests and answers as words: floats are their bits, a point is x then y. POLY is radius, centroid, count, eight vertices
--- and eight normals (36 words); EDGE is radius, flag and four vertices (10 words). Decoded at place i, and encoded. Definitions only.
+-- The records of requests and answers as words: floats are their bits, a point is x then y. POLY is radius, centroid,
+-- count, eight vertices and eight normals (36 words); EDGE is radius, flag and four vertices (10 words). Decoded at
+-- place i, and encoded. Definitions only.
 use Prim.Native.Nat.{ℕ, _+_, _*_, _%_}
 use mathlib.Core.Bool.{Bool, cond}
 use mathlib.Core.List.{List, [], _∷_, _++_}

@@ -1,5 +1,5 @@
--- `b2_normalize` computes its definition: the vector as it was where its length is below 2^-23, else times the reciprocal.
--- Assumes nothing.
+-- `b2_normalize` computes its definition: the vector as it was where its length is below 2^-23, else times the
+-- reciprocal. Assumes nothing.
 use mathlib.Core.Path.{sym}
 use borrow.Author.Needs.{needs}
 use Rattle.floats.specs.B2Math.{b2-normalize}

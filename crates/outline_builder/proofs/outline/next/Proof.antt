@@ -1,4 +1,5 @@
--- What the scan keeps from here, seen from the corner, is what it keeps of all places; r leads to the candidate. Assumes nothing.
+-- What the scan keeps from here, seen from the corner, is what it keeps of all places; r leads to the candidate.
+-- Assumes nothing.
 use mathlib.Core.Path.{_≡_, _∙_, ap}
 use mathlib.Core.Logic.{⊎-elim}
 use Prim.Native.Nat.{_≤_, _<_, _-_}

@@ -1,5 +1,5 @@
--- A walk of the code by hand, since the slice holds structs: the slice is passed to point_or for each of eight places, and what comes is
--- passed to set_of_eight. Assumes nothing.
+-- A walk of the code by hand, since the slice holds structs: the slice is passed to point_or for each of eight places,
+-- and what comes is passed to set_of_eight. Assumes nothing.
 use mathlib.Core.Path.{_≡_, refl}
 use mathlib.Core.List.{List, [], _∷_}
 use lib.Dec.{lit<}
@@ -34,7 +34,8 @@ use denote.Triple.Entry.{onEntry}
 use denote.Steps.{nothing, owned, peeks, heard}
 use denote.Triple.Spec.{Meets, tripleOf}
 use denote.Triple.Table.{entered, cited}
-use denote.Triple.Walked.{says, Stays, stay-none-slice, stay-none, walkOf, Walks, ends-at, walked, goes-none-slice, goes-none, walk-meets}
+use denote.Triple.Walked.{says, Stays, stay-none-slice, stay-none, walkOf, Walks, ends-at, walked, goes-none-slice}
+use denote.Triple.Walked.{goes-none, walk-meets}
 use Rattle.floats.specs.declared.b2_math.B2vec2.{B2vec2}
 use Rattle.floats.proofs.b2_math.B2vec2 as vec
 use Rattle.floats.proofs.b2_math.B2vec2.Laws as vec-laws
@@ -81,8 +82,8 @@ module _ {M : Type 1} (𝓤 : URA M) (H : Heap 𝓤) (A : Atoms 𝓤) (W : Given
 
     module _ (C : Calls 𝓤 H) (Λ : Loops 𝓤 H) (fm : FmC 𝓤 H (W .laws) C) (known : Triple 𝓤 (C point-or) (asks.Point 𝓤 H A mem run))
         (known-eight : Triple 𝓤 (C set-of-eight) (asks.EightPoints 𝓤 H A mem run)) where
-      -- twelve locals, and in front of them what the slice owns and the token; the point at place i goes to local 3 + i, and what it owns
-      -- is made again for the builder
+      -- twelve locals, and in front of them what the slice owns and the token; the point at place i goes to local 3 +
+      -- i, and what it owns is made again for the builder
       walk : Room vec.the-row (length (now x))
           → ent 𝓤 (onEntry 𝓤 H A f.signature (κ, tt) (q, tt) (old, (x, tt)) (value old ∷ [], (slice x ∷ [], tt)))
           (WpFn 𝓤 H C Λ code.function (value old ∷ slice x ∷ []) Post)

@@ -15,7 +15,8 @@ use Rattle.outline_builder.specs.Coordinates.{points-in}
 use Rattle.outline_builder.specs.Parts.{WalkResult, NormalsResult}
 use Rattle.outline_builder.proofs.Tests.{at-first-place}
 use Rattle.shapes.proofs.Built.{too-few-points, too-many-points, out-of-range, too-few-kept, walk-not-back}
-use Rattle.shapes.proofs.Built.{AfterWeld, AfterWalk, after-weld, after-walk, edge-too-short, long-edges, area-too-small, outline-built}
+use Rattle.shapes.proofs.Built.{AfterWeld, AfterWalk, after-weld, after-walk, edge-too-short, long-edges}
+use Rattle.shapes.proofs.Built.{area-too-small, outline-built}
 use borrow.Author.Needs.{needs}
 use Rattle.shapes.proofs.b2_polygon_shape.b2_polygon_shape_set_core.Statement.{statement}
 use Rattle.shapes.proofs.b2_polygon_shape.b2_polygon_shape_set_core.Tie as tie

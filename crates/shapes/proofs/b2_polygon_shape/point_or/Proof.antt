@@ -1,5 +1,5 @@
--- A walk of the code by hand, since the slice holds structs. Within the slice its element is taken out, read and put back; past its end
--- the answer is the origin. Assumes nothing.
+-- A walk of the code by hand, since the slice holds structs. Within the slice its element is taken out, read and put
+-- back; past its end the answer is the origin. Assumes nothing.
 use mathlib.Core.Path.{_≡_, refl, sym}
 use mathlib.Core.Bool.{true}
 use mathlib.Core.List.{List, [], _∷_}
@@ -20,7 +20,8 @@ use ghost.Atoms.{Atoms}
 use contract.Monad.{Fun}
 use contract.Running.{givenOf, tables, tablesOf}
 use sound.WpLaws.{WpFn-mono}
-use types.Kit.{Given, ‵, _⊛_, ⋆, _$_, _∵_, !, qed, by, move, keep, split, join, rewrite, fsplit, fjoin, suffices, frame, done}
+use types.Kit.{Given, ‵, _⊛_, ⋆, _$_, _∵_, !, qed, by, move, keep, split, join, rewrite, fsplit, fjoin, suffices}
+use types.Kit.{frame, done}
 use types.Part.{whole, sub, look-in, agg}
 use types.Run.{look, look-raw, init, and-then, no-more, first, branches, returns-within, forget, stop, hop}
 use types.Run.{fld, from, load, lit, float-lit, of-opd}
@@ -39,7 +40,8 @@ use denote.Triple.Entry.{Vals, onEntry}
 use denote.Steps.{nothing, owned}
 use denote.Triple.Spec.{Meets, tripleOf}
 use denote.Triple.Table.{entered}
-use denote.Triple.Walked.{says, Stays, stay-none-slice, stay-none, walkOf, Walks, ends-at, walked, goes-none-slice, goes-none, walk-meets}
+use denote.Triple.Walked.{says, Stays, stay-none-slice, stay-none, walkOf, Walks, ends-at, walked, goes-none-slice}
+use denote.Triple.Walked.{goes-none, walk-meets}
 use borrow.Author.Needs.{scaled-fits}
 use Rattle.floats.specs.declared.b2_math.B2vec2.{B2vec2}
 use Rattle.floats.proofs.b2_math.B2vec2 as vec

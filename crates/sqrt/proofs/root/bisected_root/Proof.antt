@@ -1,5 +1,5 @@
--- `bisected_root` meets its contract. The loop's invariant: low² ≤ n < high², with high at most 2^24. Its measure is the interval.
--- Assumes nothing.
+-- `bisected_root` meets its contract. The loop's invariant: low² ≤ n < high², with high at most 2^24. Its measure is
+-- the interval. Assumes nothing.
 use mathlib.Core.Path.{_≡_, ap}
 use Prim.Native.Nat.{ℕ, zero, suc, _+_, _-_, _*_, _/_, _^_, _≤_, _<_}
 use native.Mathlib.Nat.{mul-le-mul}

@@ -1,5 +1,5 @@
--- `candidate` meets its contract: whatever the cubic, its coefficients have 32 digits and t has 19, so that no product passes 2^53.
--- Of the root it says nothing. Assumes nothing.
+-- `candidate` meets its contract: whatever the cubic, its coefficients have 32 digits and t has 19, so that no product
+-- passes 2^53. Of the root it says nothing. Assumes nothing.
 use Prim.Native.Nat.{ℕ, _+_, _-_, _*_, _/_, _%_, _^_, _≤_, _<_}
 use native.Mathlib.Nat.{mul-le-mul, le-of-lt}
 use native.Mathlib.Omega.{arith}

@@ -1,5 +1,6 @@
--- `normal_root` meets its contract: b is its exponent times 2^23, and its digits. What the code takes the root of, and the exponent of
--- its result, are those of f * 2^(g - 277), f being the significand and g the exponent and 127. Assumes nothing.
+-- `normal_root` meets its contract: b is its exponent times 2^23, and its digits. What the code takes the root of, and
+-- the exponent of its result, are those of f * 2^(g - 277), f being the significand and g the exponent and 127. Assumes
+-- nothing.
 use mathlib.Core.Path.{_≡_, sym, ap, _∙_, subst}
 use Prim.Native.Nat.{ℕ, _+_, _-_, _*_, _/_, _%_, _^_, _≤_, _<_}
 use native.Mathlib.Nat.{mul-assoc, div-add-mod'}

@@ -1,5 +1,5 @@
--- `scaled_root` meets its contract: n has 47 or 48 digits, and the pattern made of half of g and the nearest root of n is that of
--- the rounded root. Assumes nothing.
+-- `scaled_root` meets its contract: n has 47 or 48 digits, and the pattern made of half of g and the nearest root of n
+-- is that of the rounded root. Assumes nothing.
 use Prim.Native.Nat.{_^_, _≤_, _<_}
 use native.Mathlib.Omega.{arith}
 use borrow.Author.Needs.{needs}

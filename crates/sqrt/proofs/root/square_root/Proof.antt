@@ -8,7 +8,8 @@ use lib.Ieee.{nan, binary32, fits, isNan, toBits}
 use lib.Ieee.Bits.{toBits-lt}
 use borrow.Author.Needs.{needs}
 use Rattle.rounding.proofs.Nan.{nan-of-differs, not-nan-of-same, zero-over-zero}
-use Rattle.sqrt.proofs.SqrtCases.{sqrt-of-negative, nan-own-root, zero-own-root, own-root-by-pattern, root-by-pattern}
+use Rattle.sqrt.proofs.SqrtCases.{sqrt-of-negative, nan-own-root, zero-own-root, own-root-by-pattern}
+use Rattle.sqrt.proofs.SqrtCases.{root-by-pattern}
 use Rattle.sqrt.proofs.SqrtCases.{infinity-to-minus-zero-own-root}
 use Rattle.sqrt.proofs.root.square_root.Statement.{statement}
 use Rattle.sqrt.proofs.root.square_root.Tie as tie

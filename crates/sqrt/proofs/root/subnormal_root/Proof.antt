@@ -1,5 +1,5 @@
--- `subnormal_root` meets its contract. The loop's invariant: f * 2^g stays b * 2^128, and g is from 105 to 128. Its measure is
--- what f lacks. Assumes nothing.
+-- `subnormal_root` meets its contract. The loop's invariant: f * 2^g stays b * 2^128, and g is from 105 to 128. Its
+-- measure is what f lacks. Assumes nothing.
 use mathlib.Core.Path.{_≡_, refl, sym, ap, _∙_}
 use Prim.Native.Nat.{_+_, _-_, _*_, _^_, _≤_, _<_}
 use native.Mathlib.Omega.{arith}

@@ -1,4 +1,5 @@
--- Entry 1 answers the outline of the request's points, or nothing where their number is not the request's length. Assumes nothing.
+-- Entry 1 answers the outline of the request's points, or nothing where their number is not the request's length.
+-- Assumes nothing.
 use Rattle.wire_records.proofs.Bytes.{nothing-written, written-as}
 use Rattle.test_calls.proofs.Outlines.{set-short, set-malformed, set-words}
 use borrow.Author.Needs.{needs}

@@ -1,4 +1,5 @@
--- `put_words` writes all its words or none. The loop's invariant: the first i words stand at the front. Assumes nothing.
+-- `put_words` writes all its words or none. The loop's invariant: the first i words stand at the front. Assumes
+-- nothing.
 use mathlib.Core.Path.{_≡_, sym, _∙_, ap, refl}
 use Prim.Native.Nat.{_+_, _*_, _-_, _≤_, _<_}
 use native.Mathlib.Omega.{arith}
