@@ -34,7 +34,8 @@ module _ {A : Type 0} where
   pub all-mem : (test : A → Bool) (l : List A) → ((a : A) → List·Memᴰ a l → T (test a)) → T (all-of test l)
   all-mem test [] of = tt
   all-mem test (a ∷ l) of =
-      yes-and (test a) (all-of test l) (of a (L.List·Memᴰ·head refl)) (all-mem test l (λ b m. of b (L.List·Memᴰ·tail m)))
+      yes-and (test a) (all-of test l) (of a (L.List·Memᴰ·head refl))
+      (all-mem test l (λ b m. of b (L.List·Memᴰ·tail m)))
 
   pub all-at : (test : A → Bool) (l : List A) (d : A) → ((i : ℕ) → i < length l → T (test (getD l i d)))
       → T (all-of test l)

@@ -28,9 +28,11 @@ module _ {A : Type 0} where
       → putMid at (length buffer - at) buffer part ≡ over (first ++ next) old
   over-next first next old buffer part at first-length written next-written =
       let rest : drop at buffer ≡ drop at old =
-      ap (drop at) written ∙ drop-at first (drop (length first) old) at first-length ∙ ap (λ (k : ℕ). drop k old) first-length in
+      ap (drop at) written ∙ drop-at first (drop (length first) old) at first-length
+      ∙ ap (λ (k : ℕ). drop k old) first-length in
       let new-part : part ≡ next ++ drop (at + length next) old =
-      next-written ∙ ap (over next) (tail-lent at buffer ∙ rest) ∙ ap (λ (l : List A). next ++ l) (drop-drop (length next) at old) in
+      next-written ∙ ap (over next) (tail-lent at buffer ∙ rest)
+      ∙ ap (λ (l : List A). next ++ l) (drop-drop (length next) at old) in
       let total : at + length next ≡ length (first ++ next) = omega (arith, length-append first next, first-length) in
       tail-back at buffer part
       ∙ ap (λ (l : List A). l ++ part) (ap (take at) written ∙ take-at first (drop (length first) old) at first-length)

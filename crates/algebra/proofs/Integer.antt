@@ -58,7 +58,10 @@ lt-resp a a' b b' h k l = omega arith
 pub sign-cases : (a : Z) → (whole 0 ≺ a) ⊎ ((a ≐ whole 0) ⊎ (a ≺ whole 0))
 sign-cases a = elim (decLt (a .1) (a .0)) [
   | yes above ↦ inl (omega arith)
-  | no not-above ↦ elim (decLt (a .0) (a .1)) [ yes below ↦ inr (inr (omega arith)) | no not-below ↦ inr (inl (omega arith)) ]
+  | no not-above ↦ elim (decLt (a .0) (a .1)) [
+    | yes below ↦ inr (inr (omega arith))
+    | no not-below ↦ inr (inl (omega arith))
+  ]
 ]
 
 pub lt-trans : (a b c : Z) → a ≺ b → b ≺ c → a ≺ c
@@ -68,7 +71,10 @@ lt-trans a b c h k = omega arith
 pub compare-cases : (a b : Z) → (a ≺ b) ⊎ ((a ≐ b) ⊎ (b ≺ a))
 compare-cases a b = elim (decLt (a .0 + b .1) (b .0 + a .1)) [
   | yes below ↦ inl below
-  | no not-below ↦ elim (decLt (b .0 + a .1) (a .0 + b .1)) [ yes above ↦ inr (inr above) | no not-above ↦ inr (inl (omega arith)) ]
+  | no not-below ↦ elim (decLt (b .0 + a .1) (a .0 + b .1)) [
+    | yes above ↦ inr (inr above)
+    | no not-above ↦ inr (inl (omega arith))
+  ]
 ]
 
 -- two numbers: the one is at most the other, or above it
@@ -80,7 +86,8 @@ pub multiple-mono : (k : ℕ) (a b : Z) → a ≼ b → k ⊛ a ≼ k ⊛ b
 multiple-mono k a b h = let m : k * (a .0 + b .1) ≤ k * (b .0 + a .1) = mul-le-mul-left k h in omega arith
 
 pub multiple-mono-lt : (k : ℕ) (a b : Z) → 0 < k → a ≺ b → k ⊛ a ≺ k ⊛ b
-multiple-mono-lt k a b k-pos h = let m : k * (a .0 + b .1) < k * (b .0 + a .1) = mul-lt-mul-of-pos-left h k-pos in omega arith
+multiple-mono-lt k a b k-pos h = let m : k * (a .0 + b .1) < k * (b .0 + a .1) = mul-lt-mul-of-pos-left h k-pos in
+    omega arith
 
 pub multiple-cancel : (k : ℕ) (a b : Z) → 0 < k → k ⊛ a ≼ k ⊛ b → a ≼ b
 multiple-cancel k a b k-pos h = le-of-mul-le-mul-right (omega arith) k-pos

@@ -31,7 +31,8 @@ abs-difference a b m n h k = omega arith
 pub abs-sum-is : (c a b : Z) (m n bound : ℕ) → c ≐ a ⊞ b → Abs a m → Abs b n → m + n ≤ bound → Abs c bound
 abs-sum-is c a b m n bound e ha hb fits = omega arith
 
-pub abs-sum3-is : (d a b c : Z) (l m n bound : ℕ) → d ≐ a ⊞ b ⊞ c → Abs a l → Abs b m → Abs c n → l + m + n ≤ bound → Abs d bound
+pub abs-sum3-is : (d a b c : Z) (l m n bound : ℕ) → d ≐ a ⊞ b ⊞ c → Abs a l → Abs b m → Abs c n → l + m + n ≤ bound
+    → Abs d bound
 abs-sum3-is d a b c l m n bound e ha hb hc fits = omega arith
 
 -- ---- a natural factor
@@ -72,9 +73,11 @@ product-difference a b c d = omega arith
 pub abs-product-near : (a b c d : Z) (m n k l : ℕ) → Abs (a ⊟ c) m → Abs (b ⊟ d) n → Abs c k → Abs d l
     → Abs (a ⊠ b ⊟ c ⊠ d) (m * n + k * n + m * l)
 abs-product-near a b c d m n k l a-near b-near hc hd =
-    abs-sum3-is (a ⊠ b ⊟ c ⊠ d) ((a ⊟ c) ⊠ (b ⊟ d)) (c ⊠ (b ⊟ d)) ((a ⊟ c) ⊠ d) (m * n) (k * n) (m * l) (m * n + k * n + m * l)
+    abs-sum3-is (a ⊠ b ⊟ c ⊠ d) ((a ⊟ c) ⊠ (b ⊟ d)) (c ⊠ (b ⊟ d)) ((a ⊟ c) ⊠ d) (m * n) (k * n) (m * l)
+    (m * n + k * n + m * l)
     (product-difference a b c d)
-    (abs-product (a ⊟ c) (b ⊟ d) m n a-near b-near) (abs-product c (b ⊟ d) k n hc b-near) (abs-product (a ⊟ c) d m l a-near hd)
+    (abs-product (a ⊟ c) (b ⊟ d) m n a-near b-near) (abs-product c (b ⊟ d) k n hc b-near)
+    (abs-product (a ⊟ c) d m l a-near hd)
     (le-refl (m * n + k * n + m * l))
 
 -- ---- signed numbers

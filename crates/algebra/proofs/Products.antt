@@ -22,7 +22,8 @@ product-not-negative a b ha hb =
 
 pub product-positive : (a b : Z) → whole 0 ≺ a → whole 0 ≺ b → whole 0 ≺ a ⊠ b
 product-positive a b ha hb =
-    let m = parts-positive (a .1) (a .0) (b .1) (b .0) (a .0 - suc (a .1)) (b .0 - suc (b .1)) (omega arith) (omega arith) in
+    let m = parts-positive (a .1) (a .0) (b .1) (b .0) (a .0 - suc (a .1)) (b .0 - suc (b .1)) (omega arith)
+    (omega arith) in
     omega arith
 
 zero-part : (a b c d : ℕ) → a ≡ b → a * c + b * d ≡ a * d + b * c
@@ -40,11 +41,17 @@ product-same a b c d h k =
 -- ---- back to a factor
 pub factor-positive : (a b : Z) → whole 0 ≼ a → whole 0 ≺ a ⊠ b → whole 0 ≺ b
 factor-positive a b ha h =
-    elim (decLt (b .1) (b .0)) [ yes above ↦ omega arith | no below ↦ omega (arith, product-not-negative a (opp b) ha (omega arith)) ]
+    elim (decLt (b .1) (b .0)) [
+      | yes above ↦ omega arith
+      | no below ↦ omega (arith, product-not-negative a (opp b) ha (omega arith))
+    ]
 
 pub factor-not-negative : (a b : Z) → whole 0 ≺ a → whole 0 ≼ a ⊠ b → whole 0 ≼ b
 factor-not-negative a b ha h =
-    elim (decLe (b .1) (b .0)) [ yes above ↦ omega arith | no below ↦ omega (arith, product-positive a (opp b) ha (omega arith)) ]
+    elim (decLe (b .1) (b .0)) [
+      | yes above ↦ omega arith
+      | no below ↦ omega (arith, product-positive a (opp b) ha (omega arith))
+    ]
 
 pub factor-zero : (a b : Z) → whole 0 ≺ a → a ⊠ b ≐ whole 0 → b ≐ whole 0
 factor-zero a b ha h =
@@ -72,7 +79,8 @@ pub root-le : (m n : ℕ) → m * m ≤ n * n → m ≤ n
 root-le m n h = elim (decLe m n) [
   | yes le ↦ le
   | no gt ↦ let n<m : n < m = omega arith in
-      absurd (not-le-of-lt (lt-of-le-of-lt (mul-le-mul-left n (le-of-lt n<m)) (mul-lt-mul-of-pos-right n<m (omega arith))) h)
+      absurd (not-le-of-lt (lt-of-le-of-lt (mul-le-mul-left n (le-of-lt n<m))
+      (mul-lt-mul-of-pos-right n<m (omega arith))) h)
 ]
 
 root-parts : (a b n u : ℕ) → a ≡ b + u → a * a + b * b ≤ n * n + (a * b + b * a) → u * u ≤ n * n
@@ -84,8 +92,10 @@ root-parts a b n u e h =
 -- a a ≤ n n: |a| ≤ n
 pub abs-of-square : (a : Z) (n : ℕ) → a ⊠ a ≼ whole (n * n) → Abs a n
 abs-of-square a n h = elim (decLe (a .1) (a .0)) [
-  | yes above ↦ let u≤n = root-le (a .0 - a .1) n (root-parts (a .0) (a .1) n (a .0 - a .1) (omega arith) (omega arith)) in omega arith
-  | no below ↦ let u≤n = root-le (a .1 - a .0) n (root-parts (a .1) (a .0) n (a .1 - a .0) (omega arith) (omega arith)) in omega arith
+  | yes above ↦ let u≤n = root-le (a .0 - a .1) n (root-parts (a .0) (a .1) n (a .0 - a .1) (omega arith)
+      (omega arith)) in omega arith
+  | no below ↦ let u≤n = root-le (a .1 - a .0) n (root-parts (a .1) (a .0) n (a .1 - a .0) (omega arith)
+      (omega arith)) in omega arith
 ]
 
 -- ---- the geometric mean: s s = a b, with s above 0 and b not below 0, lies between a and b

@@ -16,7 +16,8 @@ signed-square-mono a b h =
 
 pub signed-square-same : (a b : Z) → a ≐ b → signed-square a ≐ signed-square b
 signed-square-same a b h =
-    le-antisym (signed-square a) (signed-square b) (signed-square-mono a b (omega arith)) (signed-square-mono b a (omega arith))
+    le-antisym (signed-square a) (signed-square b) (signed-square-mono a b (omega arith))
+    (signed-square-mono b a (omega arith))
 
 pub signed-square-scale : (k : ℕ) (a : Z) → signed-square (k ⊛ a) ≡ (k * k) ⊛ signed-square a
 signed-square-scale k a = λ i. (part (a .0) (a .1) i, part (a .1) (a .0) i)
@@ -39,7 +40,8 @@ over-root-weaken d a a' t b b' b-pos quotients h =
     squares : (b' * b') ⊛ signed-square a ≼ (b * b) ⊛ signed-square a'
     squares =
         subst (λ (x : Z). x ≼ (b * b) ⊛ signed-square a') (signed-square-scale b' a)
-        (subst (λ (x : Z). signed-square (b' ⊛ a) ≼ x) (signed-square-scale b a') (signed-square-mono (b' ⊛ a) (b ⊛ a') quotients))
+        (subst (λ (x : Z). signed-square (b' ⊛ a) ≼ x) (signed-square-scale b a')
+        (signed-square-mono (b' ⊛ a) (b ⊛ a') quotients))
 
 -- the numbers count, not their pairs
 pub over-root-same : (d d' a a' : Z) (t b : ℕ) → d ≐ d' → a ≐ a' → OverRootLe d t a b → OverRootLe d' t a' b

@@ -38,4 +38,5 @@ module _ {A : Type 0} where
 
   abbrev pub walk : (A → A → Bool) → (A → A) → A → ℕ → A → Option (List A)
   walk same next start zero p = none
-  walk same next start (suc fuel) p = let rest = walk same next start fuel (next p) in stop-or (same (next p) start) p rest
+  walk same next start (suc fuel) p = let rest = walk same next start fuel (next p) in
+      stop-or (same (next p) start) p rest

@@ -36,7 +36,8 @@ module _ (v1 v2 normal c : B2vec2) (separation radius : Float) (sum middle : B2v
   unfolding circle-at-face
   face-inside inside old centre = simp (inside, middle-is, sum-is)
 
-  module _ (d1 e1 d2 e2 : B2vec2) (u1 u2 : Float) (outside : lt separation b2-epsilon ≡ false) (d1-is : d1 ≡ b2-sub c v1)
+  module _ (d1 e1 d2 e2 : B2vec2) (u1 u2 : Float) (outside : lt separation b2-epsilon ≡ false)
+      (d1-is : d1 ≡ b2-sub c v1)
       (e1-is : e1 ≡ b2-sub v2 v1) (u1-is : u1 ≡ b2-dot d1 e1) (d2-is : d2 ≡ b2-sub c v2) (e2-is : e2 ≡ b2-sub v1 v2)
       (u2-is : u2 ≡ b2-dot d2 e2) where
     first-test : (t : Bool) → le u1 zero32 ≡ t → le (b2-dot (b2-sub c v1) (b2-sub v2 v1)) zero32 ≡ t
@@ -46,11 +47,13 @@ module _ (v1 v2 normal c : B2vec2) (separation radius : Float) (sum middle : B2v
     second-test t h = ap (λ (u : Float). le u zero32) (sym (u2-is ∙ ap₂ b2-dot d2-is e2-is)) ∙ h
 
     -- v is the end that the tests t1 and t2 choose
-    at-end : (t1 t2 : Bool) (v : B2vec2) (r : Meeting) → le u1 zero32 ≡ t1 → le u2 zero32 ≡ t2 → (t1 || t2) ≡ true → v ≡ cond t1 v1 v2
+    at-end : (t1 t2 : Bool) (v : B2vec2) (r : Meeting) → le u1 zero32 ≡ t1 → le u2 zero32 ≡ t2 → (t1 || t2) ≡ true → v
+        ≡ cond t1 v1 v2
         → AtCorner v c radius r → AtFace v1 v2 normal separation c radius r
     unfolding circle-at-face
     at-end true t2 v r h1 h2 some v-is meets old centre =
-        simp (outside, first-test true h1) (meets old centre ∙ ap (λ (w : B2vec2). circle-at-corner old w c radius centre) v-is)
+        simp (outside, first-test true h1) (meets old centre
+        ∙ ap (λ (w : B2vec2). circle-at-corner old w c radius centre) v-is)
     at-end false true v r h1 h2 some v-is meets old centre =
         simp (outside, first-test false h1, second-test true h2)
         (meets old centre ∙ ap (λ (w : B2vec2). circle-at-corner old w c radius centre) v-is)
@@ -72,7 +75,8 @@ module _ (v1 v2 normal c : B2vec2) (separation radius : Float) (sum middle : B2v
 
     module _ (d3 : B2vec2) (s : Float) (none : (le u1 zero32 || le u2 zero32) ≡ false) (d3-is : d3 ≡ b2-sub c middle)
         (s-is : s ≡ b2-dot d3 normal) where
-      third-test : (t : Bool) → lt radius s ≡ t → lt radius (b2-dot (b2-sub c (b2-scale half32 (b2-add v1 v2))) normal) ≡ t
+      third-test : (t : Bool) → lt radius s ≡ t
+          → lt radius (b2-dot (b2-sub c (b2-scale half32 (b2-add v1 v2))) normal) ≡ t
       third-test t h =
           ap (lt radius) (sym (s-is ∙ ap (λ (d : B2vec2). b2-dot d normal)
           (d3-is ∙ ap (b2-sub c) (middle-is ∙ ap (b2-scale half32) sum-is)))) ∙ h
@@ -91,11 +95,13 @@ module _ (v1 v2 normal c : B2vec2) (separation radius : Float) (sum middle : B2v
           simp (outside, first-test false (not .0), second-test false (not .1), third-test false h, middle-is, sum-is)
 
 -- ---- an outline
-module _ (vs ns : List B2vec2) (count : ℕ) (c : B2vec2) (radius : Float) (side : Side) (side-is : SideOf vs ns count c radius side) where
+module _ (vs ns : List B2vec2) (count : ℕ) (c : B2vec2) (radius : Float) (side : Side)
+    (side-is : SideOf vs ns count c radius side) where
   pub outline-far : side .outside ≡ true → AtOutline vs ns count c radius Nothing
   outline-far h old centre = simp (sym (side-is .outside-is) ∙ h)
 
-  pub outline-near : (r : Meeting) → side .outside ≡ false → AtFace (side .v1) (side .v2) (side .normal) (side .separation) c radius r
+  pub outline-near : (r : Meeting) → side .outside ≡ false → AtFace (side .v1) (side .v2) (side .normal)
+      (side .separation) c radius r
       → AtOutline vs ns count c radius r
   outline-near r h meets old centre =
       let face = side-is .face h in

@@ -37,7 +37,8 @@ module _ (vs ns : List B2vec2) (count : ℕ) (c : B2vec2) (radius : Float) where
     pub best-is : scan is-greater (best-at index separation) (map (valued (out-of-face vs ns c)) (places i (count - i)))
         ≡ first-greatest (out-of-face vs ns c) count
 
-  pub sides-begin : (v n d : B2vec2) → length vs ≡ 8 → length ns ≡ 8 → 0 < count → count ≤ 8 → v ≡ getD vs 0 d → n ≡ getD ns 0 d
+  pub sides-begin : (v n d : B2vec2) → length vs ≡ 8 → length ns ≡ 8 → 0 < count → count ≤ 8 → v ≡ getD vs 0 d → n
+      ≡ getD ns 0 d
       → SoFar 0 (neg b2-max-float) v n 0
   unfolding some-below first-greatest
   sides-begin v n d vs-eight ns-eight some few v-is n-is = record {
@@ -49,13 +50,16 @@ module _ (vs ns : List B2vec2) (count : ℕ) (c : B2vec2) (radius : Float) where
     v1-is = v-is ∙ getD-within vs 0 d _ (omega arith);
     normal-is = n-is ∙ getD-within ns 0 d _ (omega arith);
     none-out = refl;
-    best-is = ap (λ (k : ℕ). scan is-greater (best-at 0 (neg b2-max-float)) (map (valued (out-of-face vs ns c)) (places 0 k)))
+    best-is = ap (λ (k : ℕ). scan is-greater (best-at 0 (neg b2-max-float))
+        (map (valued (out-of-face vs ns c)) (places 0 k)))
         (sub-zero count);
   }
 
   -- v and n are read at place i, and s is how far c is out of that face
-  module _ (index : ℕ) (separation : Float) (v1 normal : B2vec2) (i : ℕ) (so-far : SoFar index separation v1 normal i) (within : i < count)
-      (v n d e : B2vec2) (s : Float) (v-is : v ≡ getD vs i d) (n-is : n ≡ getD ns i d) (e-is : e ≡ b2-sub c v) (s-is : s ≡ b2-dot n e) where
+  module _ (index : ℕ) (separation : Float) (v1 normal : B2vec2) (i : ℕ) (so-far : SoFar index separation v1 normal i)
+      (within : i < count)
+      (v n d e : B2vec2) (s : Float) (v-is : v ≡ getD vs i d) (n-is : n ≡ getD ns i d) (e-is : e ≡ b2-sub c v)
+      (s-is : s ≡ b2-dot n e) where
     v-here : v ≡ point-at vs i
     v-here = let eight = so-far .vs-eight in let few = so-far .few in v-is ∙ getD-within vs i d _ (omega arith)
 
@@ -65,9 +69,11 @@ module _ (vs ns : List B2vec2) (count : ℕ) (c : B2vec2) (radius : Float) where
     s-here : s ≡ out-of-face vs ns c i
     s-here = s-is ∙ ap₂ b2-dot n-here (e-is ∙ ap (b2-sub c) v-here)
 
-    pub side-outside : lt radius s ≡ true → SideOf vs ns count c radius (record { outside = true; separation = s; v1 = v; v2 = v; normal = n })
+    pub side-outside : lt radius s ≡ true
+        → SideOf vs ns count c radius (record { outside = true; separation = s; v1 = v; v2 = v; normal = n })
     side-outside far = record {
-      outside-is = sym (some-here (λ k. lt radius (out-of-face vs ns c k)) i count within (ap (lt radius) (sym s-here) ∙ far));
+      outside-is = sym (some-here (λ k. lt radius (out-of-face vs ns c k)) i count within (ap (lt radius) (sym s-here)
+          ∙ far));
       face = λ never. absurd (true-is-not-false never);
     }
       where
@@ -76,12 +82,16 @@ module _ (vs ns : List B2vec2) (count : ℕ) (c : B2vec2) (radius : Float) where
 
     module _ (near : lt radius s ≡ false) where
       none : some-below (λ k. lt radius (out-of-face vs ns c k)) (i + 1) ≡ false
-      none = none-next (λ k. lt radius (out-of-face vs ns c k)) i (so-far .none-out) (ap (lt radius) (sym s-here) ∙ near)
+      none = none-next (λ k. lt radius (out-of-face vs ns c k)) i (so-far .none-out) (ap (lt radius) (sym s-here)
+          ∙ near)
 
-      stepped : scan is-greater (cond (lt separation (out-of-face vs ns c i)) (valued (out-of-face vs ns c) i) (best-at index separation))
-          (map (valued (out-of-face vs ns c)) (places (i + 1) (count - (i + 1)))) ≡ first-greatest (out-of-face vs ns c) count
+      stepped : scan is-greater (cond (lt separation (out-of-face vs ns c i)) (valued (out-of-face vs ns c) i)
+          (best-at index separation))
+          (map (valued (out-of-face vs ns c)) (places (i + 1) (count - (i + 1))))
+          ≡ first-greatest (out-of-face vs ns c) count
       stepped =
-          scanned is-greater (valued (out-of-face vs ns c)) (best-at index separation) (first-greatest (out-of-face vs ns c) count) i count
+          scanned is-greater (valued (out-of-face vs ns c)) (best-at index separation)
+          (first-greatest (out-of-face vs ns c) count) i count
           (so-far .best-is) _ within refl
 
       pub side-taken : lt separation s ≡ true → SoFar i s v n (i + 1)
@@ -94,7 +104,8 @@ module _ (vs ns : List B2vec2) (count : ℕ) (c : B2vec2) (radius : Float) where
         v1-is = v-here;
         normal-is = n-here;
         none-out = none;
-        best-is = ap (λ (x : Float). scan is-greater (best-at i x) (map (valued (out-of-face vs ns c)) (places (i + 1) (count - (i + 1)))))
+        best-is = ap (λ (x : Float). scan is-greater (best-at i x)
+            (map (valued (out-of-face vs ns c)) (places (i + 1) (count - (i + 1)))))
             s-here
             ∙ ap (λ (t : Bool). scan is-greater (cond t (valued (out-of-face vs ns c) i) (best-at index separation))
             (map (valued (out-of-face vs ns c)) (places (i + 1) (count - (i + 1)))))
@@ -120,8 +131,16 @@ module _ (vs ns : List B2vec2) (count : ℕ) (c : B2vec2) (radius : Float) where
 
   -- all places are done: v2 is the corner after the best face's first
   pub side-found : (index : ℕ) (separation : Float) (v1 normal : B2vec2) (i next : ℕ) (v2 d : B2vec2)
-      → SoFar index separation v1 normal i → count ≤ i → next < count → next ≡ place-after count index → v2 ≡ getD vs next d
-      → SideOf vs ns count c radius (record { outside = false; separation = separation; v1 = v1; v2 = v2; normal = normal })
+      → SoFar index separation v1 normal i → count ≤ i → next < count → next ≡ place-after count index → v2
+      ≡ getD vs next d
+      → SideOf vs ns count c radius (record {
+        outside = false;
+        separation = separation;
+        v1 = v1;
+        v2 = v2;
+        normal =
+            normal;
+      })
   side-found index separation v1 normal i next v2 d so-far past next-in next-is v2-is =
       let eight = so-far .vs-eight in
       let few = so-far .few in

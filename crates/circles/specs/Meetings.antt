@@ -55,5 +55,6 @@ AtOutline vs ns count c radius r =
     → met r old centre
     ≡ cond (some-below (λ i. lt radius (out-of-face vs ns c i)) count) old
     (let best = first-greatest (out-of-face vs ns c) count in
-    circle-at-face old (point-at vs (best .place)) (point-at vs (place-after count (best .place))) (point-at ns (best .place))
+    circle-at-face old (point-at vs (best .place)) (point-at vs (place-after count (best .place)))
+    (point-at ns (best .place))
     (best .value) c radius centre)

@@ -60,5 +60,6 @@ states-of-ids old new = record {
 
 unfoldable pub b2-get-point-states : PointStates → B2manifold → B2manifold → PointStatesAnswer
 b2-get-point-states given m1 m2 =
-    cond (ltb 2 (m1 .«point_count») || ltb 2 (m2 .«point_count»)) (record { states = given; refusal = count-out-of-range })
+    cond (ltb 2 (m1 .«point_count») || ltb 2 (m2 .«point_count»))
+    (record { states = given; refusal = count-out-of-range })
     (record { states = states-of-ids (counted-ids m1) (counted-ids m2); refusal = accepted })

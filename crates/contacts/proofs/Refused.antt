@@ -36,7 +36,8 @@ never h = let z : _≡_ {A = ℕ} 0 1 = cc in absurd (omega arith)
 module _ (old : B2manifold) (shapes : Bool) (xfA xfB : B2Transform) (answer : ManifoldAnswer) where
   abbrev by : Bool → Bool → ManifoldAnswer
   by s p =
-      cond (not s) (manifold-refused shape-out-of-range old) (cond (not p) (manifold-refused placement-out-of-range old) answer)
+      cond (not s) (manifold-refused shape-out-of-range old)
+      (cond (not p) (manifold-refused placement-out-of-range old) answer)
 
   in-range : (s p : Bool) → (s && p) ≡ true → answer ≡ by s p
   in-range true true both = refl
@@ -68,8 +69,10 @@ unfolding with-one-point with-count
 one-point-anew m kind normal point centre id = refl
 
 -- ---- two circles: far is whether they are farther apart than both radii
-module _ (m : B2manifold) (a : B2circleShape) (xfA : B2Transform) (b : B2circleShape) (xfB : B2Transform) (at-a at-b : B2vec2) (far : Bool)
-    (at-a-is : at-a ≡ b2-mul-transform-by-vec2 xfA (a .«m_p»)) (at-b-is : at-b ≡ b2-mul-transform-by-vec2 xfB (b .«m_p»))
+module _ (m : B2manifold) (a : B2circleShape) (xfA : B2Transform) (b : B2circleShape) (xfB : B2Transform)
+    (at-a at-b : B2vec2) (far : Bool)
+    (at-a-is : at-a ≡ b2-mul-transform-by-vec2 xfA (a .«m_p»)) (at-b-is : at-b
+    ≡ b2-mul-transform-by-vec2 xfB (b .«m_p»))
     (far-is : far ≡ farther (add binary32 (a .«m_radius») (b .«m_radius»)) at-b at-a) where
   tested : (t : Bool) → far ≡ t
       → farther (add binary32 (a .«m_radius») (b .«m_radius»)) (b2-mul-transform-by-vec2 xfB (b .«m_p»))
@@ -77,25 +80,30 @@ module _ (m : B2manifold) (a : B2circleShape) (xfA : B2Transform) (b : B2circleS
   tested t h =
       sym (ap₂ (farther (add binary32 (a .«m_radius») (b .«m_radius»))) at-b-is at-a-is) ∙ sym far-is ∙ h
 
-  pub circles-far : (r : B2manifold) → far ≡ true → r ≡ with-count m 0 → r ≡ circles-manifold (with-count m 0) a xfA b xfB
+  pub circles-far : (r : B2manifold) → far ≡ true → r ≡ with-count m 0 → r
+      ≡ circles-manifold (with-count m 0) a xfA b xfB
   unfolding circles-manifold
   circles-far r h r-is = simp (tested true h) r-is
 
-  pub circles-near : (r : B2manifold) → far ≡ false → r ≡ with-one-point m ECircles origin (a .«m_p») (b .«m_p») default-id
+  pub circles-near : (r : B2manifold) → far ≡ false → r ≡ with-one-point m ECircles origin (a .«m_p»)
+      (b .«m_p») default-id
       → r ≡ circles-manifold (with-count m 0) a xfA b xfB
   unfolding circles-manifold
   circles-near r h r-is =
       simp (tested false h) (r-is ∙ one-point-anew m ECircles origin (a .«m_p») (b .«m_p») default-id)
 
 -- ---- an outline and a circle: r is where they meet, the circle's centre carried by both placements to c
-module _ (m : B2manifold) (a : B2polygonShape) (xfA : B2Transform) (b : B2circleShape) (xfB : B2Transform) (placed c : B2vec2) (r : Meeting)
+module _ (m : B2manifold) (a : B2polygonShape) (xfA : B2Transform) (b : B2circleShape) (xfB : B2Transform)
+    (placed c : B2vec2) (r : Meeting)
     (placed-is : placed ≡ b2-mul-transform-by-vec2 xfB (b .«m_p»)) (c-is : c ≡ b2-mul-t-transform-by-vec2 xfA placed)
-    (meets : AtOutline (a .«m_vertices») (a .«m_normals») (a .«m_count») c (add binary32 (a .«m_radius») (b .«m_radius»)) r) where
+    (meets : AtOutline (a .«m_vertices») (a .«m_normals») (a .«m_count») c
+    (add binary32 (a .«m_radius») (b .«m_radius»)) r) where
   met-is : met r (with-count m 0) (b .«m_p») ≡ outline-circle m a xfA b xfB
   unfolding polygon-circle-manifold circle-at-best circle-separation
   met-is =
       meets (with-count m 0) (b .«m_p»)
-      ∙ ap (λ (q : B2vec2). polygon-circle-manifold (with-count m 0) a q (add binary32 (a .«m_radius») (b .«m_radius»)) (b .«m_p»))
+      ∙ ap (λ (q : B2vec2). polygon-circle-manifold (with-count m 0) a q
+      (add binary32 (a .«m_radius») (b .«m_radius»)) (b .«m_p»))
       (c-is ∙ ap (b2-mul-t-transform-by-vec2 xfA) placed-is)
 
   pub meets-not : (made : B2manifold) → r ≡ Nothing → made ≡ with-count m 0 → made ≡ outline-circle m a xfA b xfB
@@ -103,14 +111,16 @@ module _ (m : B2manifold) (a : B2polygonShape) (xfA : B2Transform) (b : B2circle
       made-is ∙ ap (λ (t : Meeting). met t (with-count m 0) (b .«m_p»)) (sym nothing) ∙ met-is
 
   pub meets-at : (made : B2manifold) (nx ny x y : Float) → r ≡ Point nx ny x y
-      → made ≡ with-one-point m EFaceA (vec2 nx ny) (vec2 x y) (b .«m_p») default-id → made ≡ outline-circle m a xfA b xfB
+      → made ≡ with-one-point m EFaceA (vec2 nx ny) (vec2 x y) (b .«m_p») default-id → made
+      ≡ outline-circle m a xfA b xfB
   meets-at made nx ny x y at made-is =
       made-is ∙ one-point-anew m EFaceA (vec2 nx ny) (vec2 x y) (b .«m_p») default-id
       ∙ ap (λ (t : Meeting). met t (with-count m 0) (b .«m_p»)) (sym at) ∙ met-is
 
 -- ---- 7 before the ranges
 module _ (old : B2manifold) (wrong : Bool) (answer r : ManifoldAnswer) where
-  pub count-refused : wrong ≡ true → r ≡ manifold-refused count-out-of-range old → r ≡ unless-miscounted wrong old answer
+  pub count-refused : wrong ≡ true → r ≡ manifold-refused count-out-of-range old → r
+      ≡ unless-miscounted wrong old answer
   count-refused h r-is = simp h r-is
 
   pub count-taken : wrong ≡ false → r ≡ answer → r ≡ unless-miscounted wrong old answer
@@ -130,4 +140,5 @@ both-counted-well a b h = go (miscounted a) refl h
     go : (t : Bool) → miscounted a ≡ t → (t || miscounted b) ≡ false → (0 < a) × (a ≤ 8) × (0 < b) × (b ≤ 8)
     go true a-is both = never both
     go false a-is both =
-        let a-well = counted-well a a-is in let b-well = counted-well b both in (a-well .0, a-well .1, b-well .0, b-well .1)
+        let a-well = counted-well a a-is in let b-well = counted-well b both in
+        (a-well .0, a-well .1, b-well .0, b-well .1)

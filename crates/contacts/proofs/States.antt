@@ -41,13 +41,16 @@ module _ (id : B2contactId) (others : CountedIds) where
   pub among-one : (r : Bool) → r ≡ same-id (others .first) id → (others .count ≡ 0 → ⊥) → others .count ≡ 1
       → r ≡ id-among id (ids-in others)
   unfolding id-among
-  among-one r r-is some one = r-is ∙ sym (or-false (same-id (others .first) id)) ∙ sym (ap (id-among id) (one-id others some one))
+  among-one r r-is some one = r-is ∙ sym (or-false (same-id (others .first) id))
+      ∙ sym (ap (id-among id) (one-id others some one))
 
-  pub among-two : (r s : Bool) → r ≡ same-id (others .first) id → s ≡ same-id (others .second) id → (others .count ≡ 0 → ⊥)
+  pub among-two : (r s : Bool) → r ≡ same-id (others .first) id → s ≡ same-id (others .second) id
+      → (others .count ≡ 0 → ⊥)
       → (others .count ≡ 1 → ⊥) → (r || s) ≡ id-among id (ids-in others)
   unfolding id-among
   among-two r s r-is s-is some more =
-      ap₂ _||_ r-is (s-is ∙ sym (or-false (same-id (others .second) id))) ∙ sym (ap (id-among id) (two-ids others some more))
+      ap₂ _||_ r-is (s-is ∙ sym (or-false (same-id (others .second) id)))
+      ∙ sym (ap (id-among id) (two-ids others some more))
 
 -- ---- the state of a point
 module _ (alone : B2pointState) (mine others : CountedIds) where
@@ -63,7 +66,8 @@ module _ (alone : B2pointState) (mine others : CountedIds) where
   unfolding point-state
   no-second-state none = state-as [] 1 (no-ids mine none)
 
-  pub second-of-one : (mine .count ≡ 0 → ⊥) → mine .count ≡ 1 → B2NullState ≡ point-state alone (ids-in mine) (ids-in others) 1
+  pub second-of-one : (mine .count ≡ 0 → ⊥) → mine .count ≡ 1 → B2NullState
+      ≡ point-state alone (ids-in mine) (ids-in others) 1
   unfolding point-state
   second-of-one some one = state-as (mine .first ∷ []) 1 (one-id mine some one)
 
@@ -75,7 +79,8 @@ module _ (alone : B2pointState) (mine others : CountedIds) where
       → chosen-state (id-among (mine .first) (ids-in others)) ≡ point-state alone (ids-in mine) (ids-in others) 0
   unfolding point-state
   first-by true one some = state-as (mine .first ∷ []) 0 (one-id mine some (eqb-true (mine .count) 1 one))
-  first-by false more some = state-as (mine .first ∷ mine .second ∷ []) 0 (two-ids mine some (eqb-false (mine .count) 1 more))
+  first-by false more some = state-as (mine .first ∷ mine .second ∷ []) 0
+      (two-ids mine some (eqb-false (mine .count) 1 more))
 
   module _ (r : Bool) where
     pub first-state-is : (t : Bool) → r ≡ id-among (mine .first) (ids-in others) → r ≡ t → (mine .count ≡ 0 → ⊥)
@@ -101,9 +106,11 @@ by-count (suc (suc n)) p0 p1 =
     two-ids (record { count = suc (suc n); first = p0 .id; second = p1 .id }) (λ none. omega arith) (λ one. omega arith)
     ∙ ap (λ (l : List B2manifoldPoint). p0 .id ∷ p1 .id ∷ map id-of l) (sym (take-nil n))
 
-pub ids-counted : (m : B2manifold) (p0 p1 d : B2manifoldPoint) → length (m .points) ≡ 2 → p0 ≡ getD (m .points) 0 d → p1 ≡ getD (m .points) 1 d
+pub ids-counted : (m : B2manifold) (p0 p1 d : B2manifoldPoint) → length (m .points) ≡ 2 → p0 ≡ getD (m .points) 0 d
+    → p1 ≡ getD (m .points) 1 d
     → ids-in (record { count = m .«point_count»; first = p0 .id; second = p1 .id }) ≡ counted-ids m
 unfolding counted-ids counted-points
 ids-counted m p0 p1 d size p0-is p1-is =
     by-count (m .«point_count») p0 p1
-    ∙ ap (λ (l : List B2manifoldPoint). map id-of (take (m .«point_count») l)) (sym (pair-of (m .points) p0 p1 d size p0-is p1-is))
+    ∙ ap (λ (l : List B2manifoldPoint). map id-of (take (m .«point_count») l))
+    (sym (pair-of (m .points) p0 p1 d size p0-is p1-is))

@@ -14,7 +14,8 @@ use Rattle.contact_definitions.specs.B2CollideEdge.{edge-circle-answer}
 -- an outline and a circle
 abbrev pub outline-circle : B2manifold → B2polygonShape → B2Transform → B2circleShape → B2Transform → B2manifold
 outline-circle m a xfA b xfB =
-    polygon-circle-manifold (with-count m 0) a (b2-mul-t-transform-by-vec2 xfA (b2-mul-transform-by-vec2 xfB (b .«m_p»)))
+    polygon-circle-manifold (with-count m 0) a
+    (b2-mul-t-transform-by-vec2 xfA (b2-mul-transform-by-vec2 xfB (b .«m_p»)))
     (add binary32 (a .«m_radius») (b .«m_radius»)) (b .«m_p»)
 
 -- a wall and a circle

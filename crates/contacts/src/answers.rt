@@ -23,7 +23,8 @@ pub fn refused(m: B2manifold, number: u8) -> ManifoldAnswer
 
 // Where something is out of range: the shapes' numbers, or else the placements.
 pub fn out_of_range(m: B2manifold, shapes: bool) -> ManifoldAnswer
-    ensures { λ r. ⌜ r ≡ cond shapes (manifold-refused placement-out-of-range m) (manifold-refused shape-out-of-range m) ⌝ }
+    ensures { λ r. ⌜ r ≡ cond shapes (manifold-refused placement-out-of-range m)
+        (manifold-refused shape-out-of-range m) ⌝ }
 {
     if shapes {
         return refused(m, refusal::PLACEMENT_OUT_OF_RANGE);

@@ -99,13 +99,15 @@ contact-limit-is = limit-of-bits 0x4e80_0000 (2 ^ 30) tt tt tt
 -- within h metres, and back
 pub limit-value : {limit x : Float} {h : ℕ} → Limit limit h → T (fits binary32 x) → T (within limit x)
     → Bounded x (h * metre)
-limit-value l x-fits h = let v = within-value (l .own) x-fits h in record { own = v .own; abs = rw (← l .size) (v .abs) }
+limit-value l x-fits h = let v = within-value (l .own) x-fits h in
+    record { own = v .own; abs = rw (← l .size) (v .abs) }
 
 pub value-limit : {limit x : Float} {h : ℕ} → Limit limit h → F32 x → Abs (val x) (h * metre) → T (within limit x)
 value-limit l x-f32 x-abs = value-within (l .own) (l .is) x-f32 (rw (l .size) x-abs)
 
 -- both coordinates of a vector
-pub limit-vec2 : {limit : Float} {v : B2vec2} {h : ℕ} → Limit limit h → T (fits binary32 (v .x)) → T (fits binary32 (v .y))
+pub limit-vec2 : {limit : Float} {v : B2vec2} {h : ℕ} → Limit limit h → T (fits binary32 (v .x))
+    → T (fits binary32 (v .y))
     → T (vec2-within limit v) → Bounded (v .x) (h * metre) × Bounded (v .y) (h * metre)
 limit-vec2 {limit} {v} l x-fits y-fits h = (
   limit-value l x-fits (and-l (within limit (v .x)) (within limit (v .y)) h),
@@ -136,7 +138,11 @@ radius-value {r} r-fits h =
     let l = shape-limit-is in
     let at-least = and-l (le zero32 r) (le r shape-limit) h in
     let at-most = and-r (le zero32 r) (le r shape-limit) h in
-    let own : F32 r = record { in-format = r-fits; is-finite = radius-finite r (f32-as-fin (l .own)) at-least at-most } in
+    let own : F32 r = record {
+      in-format = r-fits;
+      is-finite = radius-finite r (f32-as-fin (l .own)) at-least
+          at-most;
+    } in
     record {
       own = own;
       low = rw zero-val at (le-val zero-f32 own at-least);

@@ -58,7 +58,8 @@ b2-distance-vec2-squared a b = b2-dot (b2-sub a b) (b2-sub a b)
 -- Document 01, Outlines: a length below 2^-23 changes nothing, and is given as 0; else each coordinate is multiplied by
 -- the rounded reciprocal.
 abbrev pub times-reciprocal : B2vec2 → Float → B2vec2
-times-reciprocal a length = vec2 (mul binary32 (a .x) (div binary32 one32 length)) (mul binary32 (a .y) (div binary32 one32 length))
+times-reciprocal a length = vec2 (mul binary32 (a .x) (div binary32 one32 length))
+    (mul binary32 (a .y) (div binary32 one32 length))
 
 unfoldable pub b2-normalize : B2vec2 → Normalized
 b2-normalize a =
@@ -102,4 +103,8 @@ unfoldable pub b2-mul-transform : B2Transform → B2Transform → B2Transform
 b2-mul-transform a b = record { p = b2-add (b2-mul-rot-by-vec2 (a .q) (b .p)) (a .p); q = b2-mul-rot (a .q) (b .q) }
 
 unfoldable pub b2-mul-t-transform : B2Transform → B2Transform → B2Transform
-b2-mul-t-transform a b = record { p = b2-mul-t-rot-by-vec2 (a .q) (b2-sub (b .p) (a .p)); q = b2-mul-t-rot (a .q) (b .q) }
+b2-mul-t-transform a b = record {
+  p = b2-mul-t-rot-by-vec2 (a .q) (b2-sub (b .p) (a .p));
+  q =
+      b2-mul-t-rot (a .q) (b .q);
+}

@@ -30,10 +30,12 @@ grid-taken shape grid inside = record {
   numbers = is-true (polygon-in-range shape) inside;
 }
 
-module _ (m : B2manifold) (xfA xfB : B2Transform) (a-placed : T (transform-in-range xfA)) (b-placed : T (transform-in-range xfB)) where
+module _ (m : B2manifold) (xfA xfB : B2Transform) (a-placed : T (transform-in-range xfA))
+    (b-placed : T (transform-in-range xfB)) where
   pub polygons-accepted : (a b : B2polygonShape) → Taken a → Taken b
       → b2-collide-polygons m a xfA b xfB
-      ≡ manifold-accepted (polygons-manifold (with-count m 0) (add binary32 (a .«m_radius») (b .«m_radius»)) a xfA b xfB)
+      ≡ manifold-accepted (polygons-manifold (with-count m 0) (add binary32 (a .«m_radius») (b .«m_radius»)) a xfA b
+      xfB)
   unfolding b2-collide-polygons
   polygons-accepted a b a-taken b-taken =
       simp (

@@ -95,7 +95,8 @@ pub record Computed (old : B2polygonShape) : Type 0 where
 
 pub computed : (old : B2polygonShape) → Computed old
 unfolding b2-polygon-shape-set outline-of-welded outline-of-corners welded start next row edges long-enough fan
-    too-near comes-before closer point-in-range b2-sub b2-dot b2-cross b2-length-squared b2-distance-vec2-squared le neg add sub mul ofBits
+    too-near comes-before closer point-in-range b2-sub b2-dot b2-cross b2-length-squared b2-distance-vec2-squared le
+    neg add sub mul ofBits
 computed old = record {
   square-accepted = refl;
   square-corners = refl;

@@ -51,7 +51,8 @@ module _ (cs : List B2vec2) (grid : GridList cs) (once : Once (values cs)) (two 
       (sym (getD-within (map normal-of-edge (edges cs)) i origin (normal-of-edge origin)
       (rw (length-map (edges cs) normal-of-edge, edges-length cs) i-in)
       ∙ List·getD-map normal-of-edge (edges cs) i origin ∙ ap normal-of-edge (edge-at cs i i-in)))
-      (edge-normal (grid-at cs grid i i-in) (grid-at cs grid (place-after (length cs) i) (after-in (length cs) i i-in)) corners-differ)
+      (edge-normal (grid-at cs grid i i-in)
+      (grid-at cs grid (place-after (length cs) i) (after-in (length cs) i i-in)) corners-differ)
 
 -- ---- the outline made of such corners
 module _ (old : B2polygonShape) (s : List Point) (cs : List B2vec2) (c : Corners s cs) where

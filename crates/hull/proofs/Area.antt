@@ -18,8 +18,10 @@ use Rattle.hull.proofs.Corners.{Corner, Side, corner-of-first}
 use Rattle.hull.proofs.Unique.{hull-sides}
 
 -- a side q r that does not touch the corner p
-triangle-positive : (s : List Point) (p q r : Point) → Corner s p → List·Memᴰ q s → Side s q r → ¬ (q ≡ p) → ¬ (r ≡ p) → whole 0 ≺ orient p q r
-triangle-positive s p q r c q-in side q-not-p r-not-p = go (side .edge p (c .mem)) (c .ahead q q-in) (c .ahead r (side .mem))
+triangle-positive : (s : List Point) (p q r : Point) → Corner s p → List·Memᴰ q s → Side s q r → ¬ (q ≡ p) → ¬ (r ≡ p)
+    → whole 0 ≺ orient p q r
+triangle-positive s p q r c q-in side q-not-p r-not-p = go (side .edge p (c .mem)) (c .ahead q q-in)
+    (c .ahead r (side .mem))
   where
     cyclic : orient q r p ≐ orient p q r
     cyclic = same-sym (orient p q r) (orient q r p) (orientation-cyclic p q r)
@@ -33,15 +35,18 @@ triangle-positive s p q r c q-in side q-not-p r-not-p = go (side .edge p (c .mem
     go (inr (inr (inr h))) (inr k) (inl l) = absurd (r-not-p l)
     go (inr (inr (inr h))) (inr k) (inr l) =
         absurd (not-negative-positive (dot (from-to p q) (from-to p r)) (h .1)
-        (same-way (c .direction) (from-to p q) (from-to p r) k l (zero-same (orient q r p) (orient p q r) cyclic (h .0))))
+        (same-way (c .direction) (from-to p q) (from-to p r) k l
+        (zero-same (orient q r p) (orient p q r) cyclic (h .0))))
 
 pub hull-fan-positive : (s : List Point) (p : Point) (rest : List Point) → IsHull s p rest → FanPositive p rest
-hull-fan-positive s p rest hull = go rest (λ q m. hull .within q (L.List·Memᴰ·tail m)) (hull .once .0) (hull-sides s p rest hull)
+hull-fan-positive s p rest hull = go rest (λ q m. hull .within q (L.List·Memᴰ·tail m)) (hull .once .0)
+    (hull-sides s p rest hull)
   where
     c : Corner s p
     c = corner-of-first s p (hull .within p (L.List·Memᴰ·head refl)) (hull .first)
 
-    on : (row : List Point) (q : Point) → ((a : Point) → List·Memᴰ a (q ∷ row) → List·Memᴰ a s) → ¬ List·Memᴰ p (q ∷ row) → Linked (Side s) p q row
+    on : (row : List Point) (q : Point) → ((a : Point) → List·Memᴰ a (q ∷ row) → List·Memᴰ a s)
+        → ¬ List·Memᴰ p (q ∷ row) → Linked (Side s) p q row
         → FanPositive p (q ∷ row)
     on [] q within new side = tt
     on (r ∷ row) q within new sides = (
@@ -50,7 +55,8 @@ hull-fan-positive s p rest hull = go rest (λ q m. hull .within q (L.List·Mem�
       on row r (λ a m. within a (L.List·Memᴰ·tail m)) (λ m. new (L.List·Memᴰ·tail m)) (sides .1),
     )
 
-    go : (rest : List Point) → ((a : Point) → List·Memᴰ a rest → List·Memᴰ a s) → ¬ List·Memᴰ p rest → Linked (Side s) p p rest → FanPositive p rest
+    go : (rest : List Point) → ((a : Point) → List·Memᴰ a rest → List·Memᴰ a s) → ¬ List·Memᴰ p rest
+        → Linked (Side s) p p rest → FanPositive p rest
     go [] within new sides = tt
     go (q ∷ row) within new sides = on row q within new (sides .1)
 
@@ -59,7 +65,8 @@ fan-not-negative : (p : Point) (row : List Point) → FanPositive p row → whol
 fan-not-negative p [] fan = omega arith
 fan-not-negative p (q ∷ []) fan = omega arith
 fan-not-negative p (q ∷ r ∷ row) fan =
-    positive-weaken (fan-area p (q ∷ r ∷ row)) (sum-positive (orient p q r) (fan-area p (r ∷ row)) (fan .0) (fan-not-negative p (r ∷ row) (fan .1)))
+    positive-weaken (fan-area p (q ∷ r ∷ row)) (sum-positive (orient p q r) (fan-area p (r ∷ row)) (fan .0)
+    (fan-not-negative p (r ∷ row) (fan .1)))
 
 pub hull-area-positive : (s : List Point) (p : Point) (rest : List Point) → IsHull s p rest → whole 0 ≺ fan-area p rest
 hull-area-positive s p rest hull = go rest (hull .three) (hull-fan-positive s p rest hull)
@@ -67,4 +74,5 @@ hull-area-positive s p rest hull = go rest (hull .three) (hull-fan-positive s p 
     go : (rest : List Point) → 3 ≤ length (p ∷ rest) → FanPositive p rest → whole 0 ≺ fan-area p rest
     go [] three fan = absurd (omega arith)
     go (q ∷ []) three fan = absurd (omega arith)
-    go (q ∷ r ∷ row) three fan = sum-positive (orient p q r) (fan-area p (r ∷ row)) (fan .0) (fan-not-negative p (r ∷ row) (fan .1))
+    go (q ∷ r ∷ row) three fan = sum-positive (orient p q r) (fan-area p (r ∷ row)) (fan .0)
+        (fan-not-negative p (r ∷ row) (fan .1))

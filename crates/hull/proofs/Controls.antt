@@ -55,11 +55,14 @@ row-refused : outline row-of-three ≡ refusal not-closed
 row-refused = refl
 
 row-on-line : OnLine row-of-three
-row-on-line = go (outcome row-of-three (cons-at 0 0 (at 256 0 ∷ at 512 0 ∷ []) (cons-at 256 0 (at 512 0 ∷ []) (cons-at 512 0 [] reduced-nil))) (lit≤ tt))
+row-on-line = go (outcome row-of-three
+    (cons-at 0 0 (at 256 0 ∷ at 512 0 ∷ []) (cons-at 256 0 (at 512 0 ∷ []) (cons-at 512 0 [] reduced-nil))) (lit≤ tt))
   where
-    go : (OnLine row-of-three × TurnedDown row-of-three) ⊎ ((¬ OnLine row-of-three) × Accepted row-of-three) → OnLine row-of-three
+    go : (OnLine row-of-three × TurnedDown row-of-three) ⊎ ((¬ OnLine row-of-three) × Accepted row-of-three)
+        → OnLine row-of-three
     go (inl h) = h .0
-    go (inr h) = let is : refusal not-closed ≡ corners (h .1 .first ∷ h .1 .rest) = h .1 .is in let z : _≡_ {A = ℕ} 0 1 = cc in absurd (omega arith)
+    go (inr h) = let is : refusal not-closed ≡ corners (h .1 .first ∷ h .1 .rest) = h .1 .is in
+        let z : _≡_ {A = ℕ} 0 1 = cc in absurd (omega arith)
 
 -- ---- three points, two of them equal
 two-different : outline (at 0 0 ∷ at 256 0 ∷ at 0 0 ∷ []) ≡ refusal too-few

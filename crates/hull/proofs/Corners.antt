@@ -51,8 +51,14 @@ at-most-sum f (a ∷ s) p m = go (at-most-sum f s p) (List·Memᴰ·cases-cons m
     go ih (inr k) = omega (arith, ih k)
 
 -- ---- all others ahead of the normal m, or against u on its line: a corner
-pub corner-of-ahead : (s : List Point) (p m u : Point) → List·Memᴰ p s → ((r : Point) → List·Memᴰ r s → (r ≡ p) ⊎ Ahead m u (from-to p r)) → Corner s p
-corner-of-ahead s p m u p-in all = record { mem = p-in; direction = tilted large m u; ahead = λ r r-in. go r r-in (all r r-in) }
+pub corner-of-ahead : (s : List Point) (p m u : Point) → List·Memᴰ p s
+    → ((r : Point) → List·Memᴰ r s → (r ≡ p) ⊎ Ahead m u (from-to p r)) → Corner s p
+corner-of-ahead s p m u p-in all = record {
+  mem = p-in;
+  direction = tilted large m u;
+  ahead =
+      λ r r-in. go r r-in (all r r-in);
+}
   where
     along : Point → ℕ
     along r = dot u (from-to p r) .0
@@ -63,7 +69,8 @@ corner-of-ahead s p m u p-in all = record { mem = p-in; direction = tilted large
     is-large : (r : Point) → List·Memᴰ r s → dot u (from-to p r) .0 < large
     is-large r r-in = omega (arith, at-most-sum along s r r-in)
 
-    go : (r : Point) → List·Memᴰ r s → (r ≡ p) ⊎ Ahead m u (from-to p r) → (r ≡ p) ⊎ (whole 0 ≺ dot (tilted large m u) (from-to p r))
+    go : (r : Point) → List·Memᴰ r s → (r ≡ p) ⊎ Ahead m u (from-to p r) → (r ≡ p)
+        ⊎ (whole 0 ≺ dot (tilted large m u) (from-to p r))
     go r r-in (inl e) = inl e
     go r r-in (inr h) = inr (ahead-positive large m u (from-to p r) (is-large r r-in) h)
 
@@ -81,7 +88,8 @@ first-ahead p r (inr h) = inr (omega arith, omega arith)
 pub corner-of-first : (s : List Point) (p : Point) → List·Memᴰ p s → First s p → Corner s p
 corner-of-first s p p-in first = corner-of-ahead s p west south p-in (λ r r-in. go r (first r r-in))
   where
-    go : (r : Point) → (r ≡ p) ⊎ ((r .x ≺ p .x) ⊎ ((r .x ≐ p .x) × (p .y ≺ r .y))) → (r ≡ p) ⊎ Ahead west south (from-to p r)
+    go : (r : Point) → (r ≡ p) ⊎ ((r .x ≺ p .x) ⊎ ((r .x ≐ p .x) × (p .y ≺ r .y))) → (r ≡ p)
+        ⊎ Ahead west south (from-to p r)
     go r (inl e) = inl e
     go r (inr h) = inr (first-ahead p r h)
 
@@ -98,7 +106,8 @@ back-across p q = omega arith
 
 back-along : (p q : Point) → dot (from-to p q) (from-to q p) ⊞ dot (from-to p q) (from-to p q) ≐ whole 0
 back-along p q =
-    ring (dot-expr (from-to-expr point₀ point₁) (from-to-expr point₁ point₀) :+ dot-expr (from-to-expr point₀ point₁) (from-to-expr point₀ point₁))
+    ring (dot-expr (from-to-expr point₀ point₁) (from-to-expr point₁ point₀) :+ dot-expr (from-to-expr point₀ point₁)
+    (from-to-expr point₀ point₁))
     (num 0) (coordinates (p ∷ q ∷ [])) tt
 
 pub corner-of-side : (s : List Point) (p q : Point) → Corner s p → Side s p q → Corner s q
@@ -108,9 +117,14 @@ corner-of-side s p q c side = corner-of-ahead s q (quarter-left u) u (side .mem)
     u = from-to p q
 
     at-p : Ahead (quarter-left u) u (from-to q p)
-    at-p = inr (back-across p q, negative-of-sum (dot u (from-to q p)) (dot u u) (back-along p q) (side-long s p q c side))
+    at-p = inr (
+      back-across p q,
+      negative-of-sum (dot u (from-to q p)) (dot u u) (back-along p q)
+          (side-long s p q c side),
+    )
 
-    go : (r : Point) → (r ≡ p) ⊎ ((r ≡ q) ⊎ (Left p q r ⊎ Between p q r)) → (r ≡ q) ⊎ Ahead (quarter-left u) u (from-to q r)
+    go : (r : Point) → (r ≡ p) ⊎ ((r ≡ q) ⊎ (Left p q r ⊎ Between p q r)) → (r ≡ q)
+        ⊎ Ahead (quarter-left u) u (from-to q r)
     go r (inl e) = inr (subst (λ (a : Point). Ahead (quarter-left u) u (from-to q a)) (sym e) at-p)
     go r (inr (inl e)) = inl e
     go r (inr (inr h)) = inr (side-end-ahead p q r (beside-of-words p q r h))
@@ -119,7 +133,8 @@ corner-of-side s p q c side = corner-of-ahead s q (quarter-left u) u (side .mem)
 pub side-in : (s : List Point) (p r q : Point) → List·Memᴰ p s → List·Memᴰ r s → Side s p q → Side s r q → p ≡ r
 side-in s p r q p-in r-in from-p from-r = go (point-discrete p r)
   where
-    clash : ¬ (p ≡ r) → (r ≡ p) ⊎ ((r ≡ q) ⊎ (Left p q r ⊎ Between p q r)) → (p ≡ r) ⊎ ((p ≡ q) ⊎ (Left r q p ⊎ Between r q p)) → ⊥
+    clash : ¬ (p ≡ r) → (r ≡ p) ⊎ ((r ≡ q) ⊎ (Left p q r ⊎ Between p q r)) → (p ≡ r)
+        ⊎ ((p ≡ q) ⊎ (Left r q p ⊎ Between r q p)) → ⊥
     clash n (inl h) k = n (sym h)
     clash n (inr (inl h)) k = from-r .apart (sym h)
     clash n (inr (inr h)) (inl k) = n k
@@ -134,7 +149,8 @@ side-in s p r q p-in r-in from-p from-r = go (point-discrete p r)
 pub side-out : (s : List Point) (p q r : Point) → Side s p q → Side s p r → q ≡ r
 side-out s p q r to-q to-r = go (point-discrete q r)
   where
-    clash : ¬ (q ≡ r) → (r ≡ p) ⊎ ((r ≡ q) ⊎ (Left p q r ⊎ Between p q r)) → (q ≡ p) ⊎ ((q ≡ r) ⊎ (Left p r q ⊎ Between p r q)) → ⊥
+    clash : ¬ (q ≡ r) → (r ≡ p) ⊎ ((r ≡ q) ⊎ (Left p q r ⊎ Between p q r)) → (q ≡ p)
+        ⊎ ((q ≡ r) ⊎ (Left p r q ⊎ Between p r q)) → ⊥
     clash n (inl h) k = to-r .apart h
     clash n (inr (inl h)) k = n (sym h)
     clash n (inr (inr h)) (inl k) = to-q .apart k

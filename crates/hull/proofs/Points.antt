@@ -19,7 +19,8 @@ point-eq ex ey = λ i. record { x = ex i; y = ey i }
 
 -- ---- by value
 pub value-eq : (p q : Point) → ReducedPoint p → ReducedPoint q → p .x ≐ q .x → p .y ≐ q .y → p ≡ q
-value-eq p q hp hq ex ey = point-eq (reduced-eq (p .x) (q .x) (hp .0) (hq .0) ex) (reduced-eq (p .y) (q .y) (hp .1) (hq .1) ey)
+value-eq p q hp hq ex ey = point-eq (reduced-eq (p .x) (q .x) (hp .0) (hq .0) ex)
+    (reduced-eq (p .y) (q .y) (hp .1) (hq .1) ey)
 
 pub same-point-eq : (p q : Point) → ReducedPoint p → ReducedPoint q → T (same-point p q) → p ≡ q
 same-point-eq p q hp hq t =
@@ -27,7 +28,8 @@ same-point-eq p q hp hq t =
     value-eq p q hp hq (same-of-test (p .x) (q .x) (parts .0)) (same-of-test (p .y) (q .y) (parts .1))
 
 pub same-point-own : (p : Point) → T (same-point p p)
-same-point-own p = yes-and (p .x ≐? p .x) (p .y ≐? p .y) (test-of-same (p .x) (p .x) refl) (test-of-same (p .y) (p .y) refl)
+same-point-own p = yes-and (p .x ≐? p .x) (p .y ≐? p .y) (test-of-same (p .x) (p .x) refl)
+    (test-of-same (p .y) (p .y) refl)
 
 pub not-same-point : (p q : Point) → T (not (same-point p q)) → ¬ (p ≡ q)
 not-same-point p q t e = T-not (same-point p q) t (subst (λ (r : Point). T (same-point p r)) e (same-point-own p))

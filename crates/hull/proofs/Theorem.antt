@@ -45,7 +45,8 @@ module _ (l : List Point) (reduced : AllReduced l) (few : length l ≤ 8) where
       go (inr h) = (row-is-hull most-corners l p rest (h .1) is, h .0)
 
 -- the exact hull is one row
-pub one-hull : (l : List Point) (p p' : Point) (rest rest' : List Point) → IsHull l p rest → IsHull l p' rest' → p ∷ rest ≡ p' ∷ rest'
+pub one-hull : (l : List Point) (p p' : Point) (rest rest' : List Point) → IsHull l p rest → IsHull l p' rest'
+    → p ∷ rest ≡ p' ∷ rest'
 one-hull = hull-unique
 
 -- it has no more corners than the list has points

@@ -60,14 +60,16 @@ module _ {A : Type 0} (same : A → A → Bool) (next : A → A) (start : A) whe
         go ih (inr k) = longer (ih k)
 
     -- so what follows p is new, unless it is the start
-    next-new : (passed : List A) (p : A) → Trail p passed → Corner p → Once (p ∷ passed) → ¬ (next p ≡ start) → ¬ List·Memᴰ (next p) (p ∷ passed)
+    next-new : (passed : List A) (p : A) → Trail p passed → Corner p → Once (p ∷ passed) → ¬ (next p ≡ start)
+        → ¬ List·Memᴰ (next p) (p ∷ passed)
     next-new passed p h c once not-back m = go (trail-reached passed p (next p) h m)
       where
         go : Reached (next p) passed → ⊥
         go (inl e) = not-back e
         go (inr k) = once .0 (Memᴰ·cast (injective p (k .0) c (k .2) (k .3)) (k .1))
 
-    all-corners : (p : A) (row : List A) → Corner p → ((a : A) → List·Memᴰ a row → Corner a) → (a : A) → List·Memᴰ a (p ∷ row) → Corner a
+    all-corners : (p : A) (row : List A) → Corner p → ((a : A) → List·Memᴰ a row → Corner a) → (a : A)
+        → List·Memᴰ a (p ∷ row) → Corner a
     all-corners p row c rest a m = go (List·Memᴰ·cases-cons m)
       where
         go : (a ≡ p) ⊎ List·Memᴰ a row → Corner a
@@ -75,7 +77,8 @@ module _ {A : Type 0} (same : A → A → Bool) (next : A → A) (start : A) whe
         go (inr k) = rest a k
 
     -- one step: stop at the start, or go on
-    walk-step : (fuel : ℕ) (p : A) (passed : List A) → Corner p → Once (p ∷ passed) → (¬ (next p ≡ start) → Walked Corner Side fuel (next p) (p ∷ passed))
+    walk-step : (fuel : ℕ) (p : A) (passed : List A) → Corner p → Once (p ∷ passed)
+        → (¬ (next p ≡ start) → Walked Corner Side fuel (next p) (p ∷ passed))
         → (back : Bool) → same (next p) start ≡ back → (T back → next p ≡ start) → (T (not back) → ¬ (next p ≡ start))
         → Walked Corner Side (suc fuel) p passed
     walk-step fuel p passed c once on true is yes-back not-back = record {
@@ -101,20 +104,24 @@ module _ {A : Type 0} (same : A → A → Bool) (next : A → A) (start : A) whe
           corners = all-corners p (next p ∷ later .rest) c (later .corners);
         }
       where
-        either-way : (a : A) (later : Walked Corner Side fuel (next p) (p ∷ passed)) → (a ≡ p) ⊎ List·Memᴰ a (next p ∷ later .rest) → ¬ List·Memᴰ a passed
+        either-way : (a : A) (later : Walked Corner Side fuel (next p) (p ∷ passed)) → (a ≡ p)
+            ⊎ List·Memᴰ a (next p ∷ later .rest) → ¬ List·Memᴰ a passed
         either-way a later (inl e) k = once .0 (Memᴰ·cast (sym e) k)
         either-way a later (inr m) k = later .apart a m (L.List·Memᴰ·tail k)
 
-    walked : (fuel : ℕ) (p : A) (passed : List A) → Trail p passed → Corner p → Once (p ∷ passed) → ((a : A) → List·Memᴰ a passed → Corner a)
+    walked : (fuel : ℕ) (p : A) (passed : List A) → Trail p passed → Corner p → Once (p ∷ passed)
+        → ((a : A) → List·Memᴰ a passed → Corner a)
         → length s ≤ fuel + length passed → Walked Corner Side fuel p passed
     walked zero p passed h c once before enough =
         absurd (omega (arith, pigeonhole (p ∷ passed) s once (λ a m. within a (all-corners p passed c before a m))))
     walked (suc fuel) p passed h c once before enough =
         walk-step fuel p passed c once
-        (λ not-back. walked fuel (next p) (p ∷ passed) (refl, c, h) (next-corner p c) (next-new passed p h c once not-back, once)
+        (λ not-back. walked fuel (next p) (p ∷ passed) (refl, c, h) (next-corner p c)
+        (next-new passed p h c once not-back, once)
         (all-corners p passed c before) (omega arith))
         (same (next p) start) refl (same-eq (next p) start (next-corner p c) start-corner) (not-same (next p) start)
 
     pub walk-returns : (fuel : ℕ) → length s ≤ fuel → Walked Corner Side fuel start []
     walk-returns fuel enough =
-        walked fuel start [] refl start-corner (List·Memᴰ·not-nil, tt) (λ a m. absurd (List·Memᴰ·not-nil m)) (omega arith)
+        walked fuel start [] refl start-corner (List·Memᴰ·not-nil, tt) (λ a m. absurd (List·Memᴰ·not-nil m))
+        (omega arith)

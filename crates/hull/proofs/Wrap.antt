@@ -49,7 +49,8 @@ module _ (e₀ e₁ : Point) (js : List Point) (reduced : AllReduced (e₀ ∷ e
   side-from p c = go (point-discrete e₀ p)
     where
       go : Dec (e₀ ≡ p) → Side s p (next-corner e₀ (e₁ ∷ js) p)
-      go (yes h) = next-side e₀ (e₁ ∷ js) reduced p c e₁ (L.List·Memᴰ·tail (L.List·Memᴰ·head refl)) (λ k. once .0 (L.List·Memᴰ·head (h ∙ sym k)))
+      go (yes h) = next-side e₀ (e₁ ∷ js) reduced p c e₁ (L.List·Memᴰ·tail (L.List·Memᴰ·head refl))
+          (λ k. once .0 (L.List·Memᴰ·head (h ∙ sym k)))
       go (no h) = next-side e₀ (e₁ ∷ js) reduced p c e₀ (L.List·Memᴰ·head refl) h
 
   module _ (fuel : ℕ) (enough : length (e₀ ∷ e₁ ∷ js) ≤ fuel) where
@@ -58,15 +59,19 @@ module _ (e₀ e₁ : Point) (js : List Point) (reduced : AllReduced (e₀ ∷ e
         walk-returns same-point (next-corner e₀ (e₁ ∷ js)) p₀ (Corner s) (Side s) s side-from
         (λ p c. corner-of-side s p (next-corner e₀ (e₁ ∷ js) p) c (side-from p c))
         (λ p c. c .mem)
-        (λ p q c d e. side-in s p q (next-corner e₀ (e₁ ∷ js) q) (c .mem) (d .mem) (subst (Side s p) e (side-from p c)) (side-from q d))
+        (λ p q c d e. side-in s p q (next-corner e₀ (e₁ ∷ js) q) (c .mem) (d .mem)
+        (subst (Side s p) e (side-from p c)) (side-from q d))
         (λ p q c d t. same-point-eq p q (reduced p (c .mem)) (reduced q (d .mem)) t)
         not-same-point first-corner fuel enough
 
-    pub wrap-outcome : (OnLine (e₀ ∷ e₁ ∷ js) × Folded fuel e₀ (e₁ ∷ js)) ⊎ ((¬ OnLine (e₀ ∷ e₁ ∷ js)) × Wrapped fuel e₀ (e₁ ∷ js))
+    pub wrap-outcome : (OnLine (e₀ ∷ e₁ ∷ js) × Folded fuel e₀ (e₁ ∷ js))
+        ⊎ ((¬ OnLine (e₀ ∷ e₁ ∷ js)) × Wrapped fuel e₀ (e₁ ∷ js))
     wrap-outcome = go (row .rest) (row .is) (row .linked) (row .once) (λ q m. row .corners q m .mem)
       where
-        go : (rest : List Point) → wrap fuel e₀ (e₁ ∷ js) ≡ some (p₀ ∷ rest) → Linked (Side s) p₀ p₀ rest → Once (p₀ ∷ rest)
-            → ((q : Point) → List·Memᴰ q (p₀ ∷ rest) → List·Memᴰ q s) → (OnLine s × Folded fuel e₀ (e₁ ∷ js)) ⊎ ((¬ OnLine s) × Wrapped fuel e₀ (e₁ ∷ js))
+        go : (rest : List Point) → wrap fuel e₀ (e₁ ∷ js) ≡ some (p₀ ∷ rest) → Linked (Side s) p₀ p₀ rest
+            → Once (p₀ ∷ rest)
+            → ((q : Point) → List·Memᴰ q (p₀ ∷ rest) → List·Memᴰ q s) → (OnLine s × Folded fuel e₀ (e₁ ∷ js))
+            ⊎ ((¬ OnLine s) × Wrapped fuel e₀ (e₁ ∷ js))
         go [] is sides none-twice within = absurd (sides .apart refl)
         go (q ∷ []) is sides none-twice within =
             inl (there-and-back s p₀ q first-corner (sides .0) (sides .1), record { one = p₀; other = q; is = is })

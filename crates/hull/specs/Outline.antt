@@ -88,7 +88,8 @@ Accepted l = AcceptedWithin most-corners l
 
 -- the list is turned down: for too few points where it has no three different ones, for the walk where it has
 abbrev pub TurnedDownWithin : ℕ → List Point → Type 0
-TurnedDownWithin fuel l = ((¬ ThreeDifferent l) × (outline-within fuel l ≡ refusal too-few)) ⊎ (ThreeDifferent l × (outline-within fuel l ≡ refusal not-closed))
+TurnedDownWithin fuel l = ((¬ ThreeDifferent l) × (outline-within fuel l ≡ refusal too-few))
+    ⊎ (ThreeDifferent l × (outline-within fuel l ≡ refusal not-closed))
 
 abbrev pub TurnedDown : List Point → Type 0
 TurnedDown l = TurnedDownWithin most-corners l

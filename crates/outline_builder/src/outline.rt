@@ -146,10 +146,11 @@ pub fn next(ps: &[f32; 16], n: usize, ih: usize) -> usize
 // The corners from the one at i0 on, over the points of corners, and their number; 0 where the walk is not back after
 // eight.
 pub fn walk(ps: &[f32; 16], n: usize, i0: usize, corners: &mut [f32; 16]) -> usize
-    requires { ⌜ (n ≤ 8) × (i0 < n) × (i0 ≡ start (take n (points-in (now ps)))) × EightPoints (now ps) × EightPoints (now corners) ⌝ }
+    requires { ⌜ (n ≤ 8) × (i0 < n) × (i0 ≡ start (take n (points-in (now ps))))
+        × EightPoints (now ps) × EightPoints (now corners) ⌝ }
     ensures { λ r. ⌜ (r ≤ 8) × EightPoints (now (corners .exit))
-        × WalkResult (take n (points-in (now (ps .entry)))) (points-in (now (corners .entry))) (row (take n (points-in (now (ps .entry)))))
-        r (points-in (now (corners .exit))) ⌝ }
+        × WalkResult (take n (points-in (now (ps .entry)))) (points-in (now (corners .entry)))
+        (row (take n (points-in (now (ps .entry))))) r (points-in (now (corners .exit))) ⌝ }
 {
     let mut ih = i0;
     let mut m = 0usize;

@@ -61,18 +61,22 @@ module _ {z r : Float} {num : Z} {den : ℕ} (rounds : Rounds z num den) (r-f32 
 -- a size against a lower bound, for a negative exact result v, and against an upper one
 low-size : (t : Bool) (g d w : ℕ) (v : Z) → signed true w ≐ v → d ⊛ signed t g ≼ metre ⊛ v → w * metre ≤ g * d
 low-size true g d w v e h = let m : metre * (0 + v .1) ≡ metre * (v .0 + w) = ap (λ (n : ℕ). metre * n) e in omega arith
-low-size false g d w v e h = let m : metre * (0 + v .1) ≡ metre * (v .0 + w) = ap (λ (n : ℕ). metre * n) e in omega arith
+low-size false g d w v e h = let m : metre * (0 + v .1) ≡ metre * (v .0 + w) = ap (λ (n : ℕ). metre * n) e in
+    omega arith
 
 high-size : (t : Bool) (g d w : ℕ) (v : Z) → signed false w ≐ v → metre ⊛ v ≼ d ⊛ signed t g → w * metre ≤ g * d
-high-size true g d w v e h = let m : metre * (w + v .1) ≡ metre * (v .0 + 0) = ap (λ (n : ℕ). metre * n) e in omega arith
-high-size false g d w v e h = let m : metre * (w + v .1) ≡ metre * (v .0 + 0) = ap (λ (n : ℕ). metre * n) e in omega arith
+high-size true g d w v e h = let m : metre * (w + v .1) ≡ metre * (v .0 + 0) = ap (λ (n : ℕ). metre * n) e in
+    omega arith
+high-size false g d w v e h = let m : metre * (w + v .1) ≡ metre * (v .0 + 0) = ap (λ (n : ℕ). metre * n) e in
+    omega arith
 
 pub rounds-finite : {z low high : Float} {num : Z} {den : ℕ} → Rounds z num den → F32 low → F32 high
     → den ⊛ val low ≼ metre ⊛ num → metre ⊛ num ≼ den ⊛ val high → F32 z
 rounds-finite {z} {low} {high} {num} {den} rounds low-f32 high-f32 above below =
     by-sign (rounds .negative) (rounds .size) (rounds .exact) (size-finite rounds low-f32) (size-finite rounds high-f32)
   where
-    by-sign : (s : Bool) (w : ℕ) → signed s w ≐ num → (w * metre ≤ mag low * den → F32 z) → (w * metre ≤ mag high * den → F32 z)
+    by-sign : (s : Bool) (w : ℕ) → signed s w ≐ num → (w * metre ≤ mag low * den → F32 z)
+        → (w * metre ≤ mag high * den → F32 z)
         → F32 z
     by-sign true w e of-low of-high = of-low (low-size (sign low) (mag low) den w num e (rw val-signed at above))
     by-sign false w e of-low of-high = of-high (high-size (sign high) (mag high) den w num e (rw val-signed at below))

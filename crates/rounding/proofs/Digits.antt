@@ -22,7 +22,8 @@ pub record Digits (x : Float) : Type 0 where
   pub is : mag x ≡ q * 2 ^ j
 
 -- m 2^e, of at most 24 digits and at least 2^-149 in its last one
-digits-of-fin : (s : Bool) (m : ℕ) (e : ℤ) → F32 (fin s m e) → m < 2 ^ 24 → down e ≤ 2 ^ 149 → m * up e < 2 ^ 128 * down e
+digits-of-fin : (s : Bool) (m : ℕ) (e : ℤ) → F32 (fin s m e) → m < 2 ^ 24 → down e ≤ 2 ^ 149
+    → m * up e < 2 ^ 128 * down e
     → Digits (fin s m e)
 digits-of-fin s m (pos k) own small fine low =
     let below : m * 2 ^ k < 2 ^ 128 = lt-of-lt-of-le low (le-of-eq (mul-one (2 ^ 128))) in
@@ -33,7 +34,8 @@ digits-of-fin s m (pos k) own small fine low =
       j = k + 149;
       small = small;
       high = lt-of-le-of-lt (le-of-eq (sym move)) (mul-lt-mul-of-pos-right below (pow-pos 149));
-      is = sym (mul-one (mag (fin s m (pos k)))) ∙ sym (has-value own .1) ∙ ap (λ (x : ℕ). m * 2 ^ k * x) metre-is ∙ move;
+      is = sym (mul-one (mag (fin s m (pos k)))) ∙ sym (has-value own .1) ∙ ap (λ (x : ℕ). m * 2 ^ k * x) metre-is
+          ∙ move;
     }
 digits-of-fin s m (negsuc k) own small fine low =
     let j = 149 - suc k in

@@ -47,7 +47,8 @@ module _ (k h : ℕ) {ax ay bx by : Float} (k-low : T (leb (1 + k) 127)) (h-low 
       let q-cap = product-cap h h-le24 ay-f32 by-f32 (h * (metre * metre)) y-abs (le-refl (h * (metre * metre))) in
       let px = val (mul binary32 ax bx) in
       let py = val (mul binary32 ay by) in
-      let sum-abs : Abs (px ⊞ py) (h * metre + h * metre) = abs-sum px py (h * metre) (h * metre) (p-cap .cap) (q-cap .cap) in
+      let sum-abs : Abs (px ⊞ py) (h * metre + h * metre) = abs-sum px py (h * metre) (h * metre) (p-cap .cap)
+      (q-cap .cap) in
       let z = add-near (1 + k) (h * metre + h * metre) k-low (p .own) (q .own) sum-abs
       (doubled (2 ^ k) (2 ^ (1 + k)) h-le (pow-add 2 1 k)) in
       let z-cap = add-cap (2 * h) h-few (p .own) (q .own) (h * metre + h * metre) sum-abs (twice h) in
@@ -85,5 +86,7 @@ module _ (k h : ℕ) {ax ay bx by : Float} (k-low : T (leb (1 + k) 127)) (h-low 
       → DotNear (dot ax ay bx by) (val ax ⊠ val bx ⊞ val ay ⊠ val by) k h
   dot-near m n ax-abs ay-abs bx-abs by-abs mn-low =
       products-dot-near
-      (abs-widen (val ax ⊠ val bx) (m * n) (h * (metre * metre)) (abs-product (val ax) (val bx) m n ax-abs bx-abs) mn-low)
-      (abs-widen (val ay ⊠ val by) (m * n) (h * (metre * metre)) (abs-product (val ay) (val by) m n ay-abs by-abs) mn-low)
+      (abs-widen (val ax ⊠ val bx) (m * n) (h * (metre * metre)) (abs-product (val ax) (val bx) m n ax-abs bx-abs)
+      mn-low)
+      (abs-widen (val ay ⊠ val by) (m * n) (h * (metre * metre)) (abs-product (val ay) (val by) m n ay-abs by-abs)
+      mn-low)

@@ -33,7 +33,8 @@ infinity-not-le : {y : Float} → AsFin y → T (le (inf false) y) → ⊥
 unfolding le
 infinity-not-le (as-fin s m e is) h = h
 
-pub rounded-mono : (a b c d : ℕ) → 0 < b → 0 < d → a * d ≤ c * b → rounded c d < overflow binary32 → rounded a b ≤ rounded c d
+pub rounded-mono : (a b c d : ℕ) → 0 < b → 0 < d → a * d ≤ c * b → rounded c d < overflow binary32
+    → rounded a b ≤ rounded c d
 rounded-mono a b c d b-pos d-pos h high =
     let le-rounds = round-mono binary32 a b c d b-pos d-pos h in
     let right = round-f32 false c d high in
@@ -57,7 +58,8 @@ rounded-zero : (den : ℕ) → 0 < den → rounded 0 den ≡ 0
 rounded-zero den den-pos = rounded-exact 0 den 0 0 den-pos (lit< tt) (sym (zero-mul den))
 
 -- ---- one rounding: num / den ≤ num' / den'
-signed-mono : (s t : Bool) (w d w' d' : ℕ) → 0 < d → 0 < d' → rounded w d < overflow binary32 → rounded w' d' < overflow binary32
+signed-mono : (s t : Bool) (w d w' d' : ℕ) → 0 < d → 0 < d' → rounded w d < overflow binary32
+    → rounded w' d' < overflow binary32
     → d' ⊛ signed s w ≼ d ⊛ signed t w' → signed s (rounded w d) ≼ signed t (rounded w' d')
 signed-mono false false w d w' d' d-pos d'-pos low low' h =
     let l = rounded-mono w d w' d' d-pos d'-pos (omega arith) low' in omega arith

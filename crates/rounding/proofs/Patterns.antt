@@ -21,7 +21,8 @@ Units x g = HasValue x false g (2 ^ 149)
 pattern-of-units : ℕ → ℕ
 pattern-of-units g = 0 + (size g - 24) * 2 ^ 23 + g / 2 ^ (size g - 24)
 
-to-bits-of-fin : (m : ℕ) (e : ℤ) (g : ℕ) → m * up e * 2 ^ 149 ≡ g * down e → toBits binary32 (fin false m e) ≡ pattern-of-units g
+to-bits-of-fin : (m : ℕ) (e : ℤ) (g : ℕ) → m * up e * 2 ^ 149 ≡ g * down e → toBits binary32 (fin false m e)
+    ≡ pattern-of-units g
 unfolding toBits pattern-of-units
 to-bits-of-fin m e g h =
     ap (λ (n : ℕ). 0 + (size n - 24) * 2 ^ 23 + n / 2 ^ (size n - 24))
@@ -40,7 +41,8 @@ same-units-equal x y g x-fits y-fits x-units y-units =
     ∙ ofBits-toBits binary32 y y-fits
 
 -- ---- the fields of a pattern without the sign
-pub fields-of-pattern : (b : ℕ) → ofBits binary32 b ≡ ofFields binary32 (leb (2 ^ 31) b) (b % 2 ^ 31 / 2 ^ 23) (b % 2 ^ 23)
+pub fields-of-pattern : (b : ℕ) → ofBits binary32 b ≡ ofFields binary32 (leb (2 ^ 31) b) (b % 2 ^ 31 / 2 ^ 23)
+    (b % 2 ^ 23)
 unfolding ofBits
 fields-of-pattern b = refl
 
@@ -81,7 +83,8 @@ unfolding ofFields
 subnormal-fields t = refl
 
 -- ---- the values
-pub normal-units : (x t : ℕ) → suc x < 255 → t < 2 ^ 23 → Units (ofBits binary32 (suc x * 2 ^ 23 + t)) ((2 ^ 23 + t) * 2 ^ x)
+pub normal-units : (x t : ℕ) → suc x < 255 → t < 2 ^ 23 → Units (ofBits binary32 (suc x * 2 ^ 23 + t))
+    ((2 ^ 23 + t) * 2 ^ x)
 normal-units x t x-small t-small =
     subst (λ (z : Float). Units z ((2 ^ 23 + t) * 2 ^ x))
     (sym (pattern-of-fields (suc x) t x-small t-small ∙ normal-fields x t x-small))

@@ -33,7 +33,8 @@ above-zero p zero h = absurd (let m = metre-pos in omega arith)
 above-zero p (suc l) h = zero-lt-suc l
 
 -- l from 2^-j m to 2^k m
-pub reciprocal : (j k : ℕ) {l : Float} → T (leb j 127) → T (leb k 126) → F32 l → metre ≤ 2 ^ j * mag l → mag l ≤ 2 ^ k * metre
+pub reciprocal : (j k : ℕ) {l : Float} → T (leb j 127) → T (leb k 126) → F32 l → metre ≤ 2 ^ j * mag l
+    → mag l ≤ 2 ^ k * metre
     → Reciprocal (div binary32 one32 l) l
 reciprocal j k {l} j-low k-low l-f32 low high =
     let i = div binary32 one32 l in

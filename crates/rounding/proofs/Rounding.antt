@@ -41,7 +41,8 @@ nearest-near Ordering·gt q r a b e l c = omega arith
 
 closest-near : (a b : ℕ) → 0 < b → Nearest (closest a b) a b
 closest-near a b b-pos =
-    nearest-near (compare (a % b * 2) b) (a / b) (a % b) a b (div-add-mod' a b) (mod-lt a b-pos) (compared (a % b * 2) b)
+    nearest-near (compare (a % b * 2) b) (a / b) (a % b) a b (div-add-mod' a b) (mod-lt a b-pos)
+    (compared (a % b * 2) b)
 
 -- 0 where a / b is below 1/2; else b / 2 is at most a
 closest-double : (a b : ℕ) → 0 < b → closest a b * b ≤ 2 * a
@@ -155,7 +156,8 @@ round-value s num den h =
 
 pub round-f32 : (s : Bool) (num den : ℕ) → rounded num den < overflow binary32 → F32 (round binary32 s num den)
 round-f32 s num den h =
-    f32-of-value (round binary32 s num den) s (rounded num den) (round-fits binary32 s num den) (round-value s num den h)
+    f32-of-value (round binary32 s num den) s (rounded num den) (round-fits binary32 s num den)
+    (round-value s num den h)
 
 units-high : (s : Bool) (q k : ℕ) → T (finite (units binary32 s q k)) → q * 2 ^ k < overflow binary32
 unfolding units
@@ -166,7 +168,8 @@ units-high s q k = by-test (ltb (q * 2 ^ k) (overflow binary32)) (ltb→lt (q * 
     by-test true below t = below tt
     by-test false below t = absurd t
 
-pub finite-rounded : (s : Bool) (num den : ℕ) → T (finite (round binary32 s num den)) → rounded num den < overflow binary32
+pub finite-rounded : (s : Bool) (num den : ℕ) → T (finite (round binary32 s num den))
+    → rounded num den < overflow binary32
 finite-rounded s num den t =
     units-high s (kept-digits num den) (dropped num den)
     (subst (λ (z : Float). T (finite z)) (round-is binary32 s num den) t)

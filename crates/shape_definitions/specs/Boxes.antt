@@ -41,7 +41,8 @@ b2-polygon-shape-set-as-box old hx hy =
 
 unfoldable pub b2-polygon-shape-set-as-box-angle : B2polygonShape → Float → Float → B2vec2 → B2Rot → PolygonAnswer
 b2-polygon-shape-set-as-box-angle old hx hy center q =
-    cond (not (coordinate-in-range hx && coordinate-in-range hy && point-in-range center)) (refused shape-out-of-range old)
+    cond (not (coordinate-in-range hx && coordinate-in-range hy && point-in-range center))
+    (refused shape-out-of-range old)
     (cond (not (rotation-in-range q)) (refused placement-out-of-range old)
     (box-with old center
     (map (b2-mul-transform-by-vec2 (record { p = center; q = q })) (box-corners hx hy))

@@ -21,7 +21,8 @@ use Rattle.shape_definitions.specs.Polygon.{all-points}
 abbrev pub not-right-of : List B2vec2 → ℕ → ℕ → ℕ → Bool
 not-right-of vs count i j =
     eqb j i || eqb j (place-after count i)
-    || not (lt (b2-cross (b2-sub (point-at vs (place-after count i)) (point-at vs i)) (b2-sub (point-at vs j) (point-at vs i))) zero32)
+    || not (lt (b2-cross (b2-sub (point-at vs (place-after count i)) (point-at vs i))
+    (b2-sub (point-at vs j) (point-at vs i))) zero32)
 
 -- all of the corners below j
 unfoldable pub corners-not-right : List B2vec2 → ℕ → ℕ → ℕ → Bool

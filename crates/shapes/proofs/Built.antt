@@ -59,7 +59,8 @@ module _ (old : B2polygonShape) (points : List B2vec2) (count : ℕ) where
         (outline-of-welded old (welded (take count points)))) outside)
 
     -- the points that welding keeps
-    of-welded : (ps : List B2vec2) → all-points point-in-range (take count points) ≡ true → ps ≡ welded (take count points)
+    of-welded : (ps : List B2vec2) → all-points point-in-range (take count points) ≡ true → ps
+        ≡ welded (take count points)
         → outline-of-welded old ps ≡ b2-polygon-shape-set-counted old points count
     of-welded ps inside ps-is =
         ap (outline-of-welded old) ps-is
@@ -70,15 +71,18 @@ module _ (old : B2polygonShape) (points : List B2vec2) (count : ℕ) where
 module _ (ps old : List B2vec2) (m : ℕ) (vs : List B2vec2) where
   corners-are : (places : List ℕ) → WalkResult ps old (some places) m vs → take m vs ≡ map (point-at ps) places
   corners-are places walked =
-      ap (take m) (walked .1) ∙ take-at (map (point-at ps) places) _ m (length-map places (point-at ps) ∙ sym (walked .0))
+      ap (take m) (walked .1) ∙ take-at (map (point-at ps) places) _ m (length-map places (point-at ps)
+      ∙ sym (walked .0))
 
   corners-count : (o : Option (List ℕ)) → WalkResult ps old o m vs → 3 ≤ m → length (take m vs) ≡ m
   corners-count none walked enough = absurd (omega arith)
-  corners-count (some places) walked enough = ap length (corners-are places walked) ∙ length-map places (point-at ps) ∙ sym (walked .0)
+  corners-count (some places) walked enough = ap length (corners-are places walked) ∙ length-map places (point-at ps)
+      ∙ sym (walked .0)
 
   over-vertices : (o : Option (List ℕ)) → WalkResult ps old o m vs → 3 ≤ m → vs ≡ put-first (take m vs) old
   over-vertices none walked enough = absurd (omega arith)
-  over-vertices (some places) walked enough = walked .1 ∙ ap (λ (new : List B2vec2). put-first new old) (sym (corners-are places walked))
+  over-vertices (some places) walked enough = walked .1 ∙ ap (λ (new : List B2vec2). put-first new old)
+      (sym (corners-are places walked))
 
 -- ---- 3: what is left after welding
 module _ (old : B2polygonShape) (ps : List B2vec2) where
@@ -89,15 +93,18 @@ module _ (old : B2polygonShape) (ps : List B2vec2) where
   of-row : 3 ≤ length ps → outline-of-row old ps (row ps) ≡ outline-of-welded old ps
   unfolding outline-of-welded
   of-row enough =
-      ap (λ (t : Bool). cond t (refused too-few-after-welding old) (outline-of-row old ps (row ps))) (sym (le-ltb (length ps) 3 enough))
+      ap (λ (t : Bool). cond t (refused too-few-after-welding old) (outline-of-row old ps (row ps)))
+      (sym (le-ltb (length ps) 3 enough))
 
   -- ---- 4: the walk
   module _ (before : List B2vec2) (m : ℕ) (vs : List B2vec2) where
-    not-closed : (o : Option (List ℕ)) → WalkResult ps before o m vs → m < 3 → refused walk-not-closed old ≡ outline-of-row old ps o
+    not-closed : (o : Option (List ℕ)) → WalkResult ps before o m vs → m < 3 → refused walk-not-closed old
+        ≡ outline-of-row old ps o
     not-closed none walked few = refl
     not-closed (some places) walked few = let same = walked .0 in simp (lt-ltb (length places) 3 (omega arith))
 
-    of-corners : (o : Option (List ℕ)) → WalkResult ps before o m vs → 3 ≤ m → outline-of-corners old (take m vs) ≡ outline-of-row old ps o
+    of-corners : (o : Option (List ℕ)) → WalkResult ps before o m vs → 3 ≤ m → outline-of-corners old (take m vs)
+        ≡ outline-of-row old ps o
     of-corners none walked enough = absurd (omega arith)
     of-corners (some places) walked enough =
         let same = walked .0 in
@@ -150,28 +157,38 @@ long-edges es old new true faced = (refl, faced .1)
 long-edges es old new false faced = absurd (subst T faced tt)
 
 module _ (old : B2polygonShape) (corners : List B2vec2) where
-  pub edge-too-short : (before new : List B2vec2) → NormalsResult (edges corners) before (long-enough (edges corners)) false new
+  pub edge-too-short : (before new : List B2vec2) → NormalsResult (edges corners) before (long-enough (edges corners))
+      false new
       → refused edge-or-area-too-small old ≡ outline-of-corners old corners
   unfolding outline-of-corners
   edge-too-short before new faced = simp (short-edge (edges corners) before new (long-enough (edges corners)) faced)
 
   module _ (sum : FanSum) (all-long : long-enough (edges corners) ≡ true) (sum-is : sum ≡ fan corners) where
-    pub area-too-small : lt b2-epsilon (sum .area) ≡ false → refused edge-or-area-too-small old ≡ outline-of-corners old corners
+    pub area-too-small : lt b2-epsilon (sum .area) ≡ false → refused edge-or-area-too-small old
+        ≡ outline-of-corners old corners
     unfolding outline-of-corners
     area-too-small small = simp (all-long, ap (λ (x : FanSum). lt b2-epsilon (x .area)) (sym sum-is) ∙ small)
 
     pub outline-built : (vs ns : List B2vec2) (m : ℕ) (s scaled centroid : B2vec2) → lt b2-epsilon (sum .area) ≡ true
         → vs ≡ put-first corners (old .«m_vertices»)
         → ns ≡ put-first (map normal-of-edge (edges corners)) (old .«m_normals») → m ≡ length corners
-        → scaled ≡ b2-scale (div binary32 one32 (sum .area)) (sum .moment) → centroid ≡ b2-add scaled s → s ≡ point-at corners 0
+        → scaled ≡ b2-scale (div binary32 one32 (sum .area)) (sum .moment) → centroid ≡ b2-add scaled s → s
+        ≡ point-at corners 0
         → record {
           refusal = accepted;
-          shape = record { «m_radius» = old .«m_radius»; «m_centroid» = centroid; «m_vertices» = vs; «m_normals» = ns; «m_count» = m };
+          shape = record {
+            «m_radius» = old .«m_radius»;
+            «m_centroid» = centroid;
+            «m_vertices» = vs;
+            «m_normals» = ns;
+            «m_count» = m;
+          };
         } ≡ outline-of-corners old corners
     unfolding outline-of-corners
     outline-built vs ns m s scaled centroid large vs-is ns-is m-is scaled-is centroid-is s-is =
         (simp (vs-is, ns-is, m-is, centroid-is, scaled-is, s-is, sum-is))
-        ∙ sym (ap (λ (t : Bool). cond t (finished old corners (fan corners)) (refused edge-or-area-too-small old)) accepts)
+        ∙ sym (ap (λ (t : Bool). cond t (finished old corners (fan corners)) (refused edge-or-area-too-small old))
+        accepts)
       where
         accepts : long-enough (edges corners) && lt b2-epsilon (fan corners .area) ≡ true
         accepts = simp (all-long, ap (λ (x : FanSum). lt b2-epsilon (x .area)) (sym sum-is) ∙ large)

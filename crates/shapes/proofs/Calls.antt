@@ -77,32 +77,40 @@ module _ {M : Type 1} (𝓤 : URA M) (H : Heap 𝓤) (A : Atoms 𝓤) (mem : Mem
     to i = (((κ, tt), (q, tt), tt, (x, (i, tt)), (slice x ∷ [], (vint w64 i ∷ [], tt))), tt)
 
     asked : (i : ℕ)
-        → ent 𝓤 (onEntry 𝓤 H A point.signature (κ, tt) (q, tt) (x, (i, tt)) (slice x ∷ [], (vint w64 i ∷ [], tt))) (Point .pre (to i))
+        → ent 𝓤 (onEntry 𝓤 H A point.signature (κ, tt) (q, tt) (x, (i, tt)) (slice x ∷ [], (vint w64 i ∷ [], tt)))
+        (Point .pre (to i))
     asked i =
-        qed W (Token ∷ ‵ (owns (ShrSlice (named 0) κ vec.the-row ∷ usize ∷ []) (x, (i, tt)) (slice x ∷ [], (vint w64 i ∷ [], tt))) ∷ []) ∵
+        qed W (Token ∷ ‵ (owns (ShrSlice (named 0) κ vec.the-row ∷ usize ∷ []) (x, (i, tt))
+        (slice x ∷ [], (vint w64 i ∷ [], tt))) ∷ []) ∵
         join ! $ frame ! $ done !
 
     -- what the slice owns gives what it asks, and is kept
     apart : (i : ℕ) → i < 2 ^ 64
-        → ent 𝓤 (sep 𝓤 (sem 𝓤 H A (Slice κ x)) (⋆ 𝓤 H A (Token ∷ []))) (sep 𝓤 (Point .pre (to i)) (sem 𝓤 H A (Slice κ x)))
+        → ent 𝓤 (sep 𝓤 (sem 𝓤 H A (Slice κ x)) (⋆ 𝓤 H A (Token ∷ [])))
+        (sep 𝓤 (Point .pre (to i)) (sem 𝓤 H A (Slice κ x)))
     apart i i-fits =
         qed W (‵ (Slice κ x) ∷ Token ∷ []) ∵
-        use1 W (‵ (Slice κ x) ⊛ ‵ (Slice κ x)) (shr-slice-copy 𝓤 H A W (named 0) κ vec.the-row .twice x (slice x ∷ [])) $ split ! $
+        use1 W (‵ (Slice κ x) ⊛ ‵ (Slice κ x)) (shr-slice-copy 𝓤 H A W (named 0) κ vec.the-row .twice x
+        (slice x ∷ [])) $ split ! $
         nothing ! $
         owned ! usize (Is usize) (uint-makes 𝓤 H A W w64) i _ (refl, i-fits) $ fjoin ! $ move ! (1 ∷ 0 ∷ []) $ fjoin ! $
         move ! (2 ∷ 0 ∷ []) $ use2 W (raw (Point .pre (to i))) (asked i) $ frame ! $ done !
 
     abbrev Got : ℕ → Val → B2vec2 → Item 𝓤
     Got i v r =
-        (Token ⊛ ‵ (vec.the-row .own r (v ∷ []))) ⊛ raw (ensured 𝓤 H A point.ended (point.clauses 𝓤 H A mem run) (κ, tt) (x, (i, tt)) tt r)
+        (Token ⊛ ‵ (vec.the-row .own r (v ∷ []))) ⊛ raw (ensured 𝓤 H A point.ended (point.clauses 𝓤 H A mem run)
+        (κ, tt) (x, (i, tt)) tt r)
 
     said : (i : ℕ) (r : B2vec2)
-        → ent 𝓤 (ensured 𝓤 H A point.ended (point.clauses 𝓤 H A mem run) (κ, tt) (x, (i, tt)) tt r) (fact 𝓤 (r ≡ point-at (now x) i))
-    said i r = exE 𝓤 _ (λ ws. snd∗ 𝓤 (sem 𝓤 H A (lasts point.ended (κ, tt) (x, (i, tt)) ws)) (fact 𝓤 (r ≡ point-at (now x) i)))
+        → ent 𝓤 (ensured 𝓤 H A point.ended (point.clauses 𝓤 H A mem run) (κ, tt) (x, (i, tt)) tt r)
+        (fact 𝓤 (r ≡ point-at (now x) i))
+    said i r = exE 𝓤 _ (λ ws. snd∗ 𝓤 (sem 𝓤 H A (lasts point.ended (κ, tt) (x, (i, tt)) ws))
+        (fact 𝓤 (r ≡ point-at (now x) i)))
 
     -- what comes of the call: the point at place i, its value, and the token back
     got : {K : Type 0} {Γ : List (Item 𝓤)} {G : Goal 𝓤 H} → K → Soaks G → (i : ℕ) (v : Val)
-        → ((p : B2vec2) → p ≡ point-at (now x) i → Is vec.the-row p (v ∷ []) → Seq K W (‵ (vec.the-row .own p (v ∷ [])) ∷ Token ∷ Γ) G)
+        → ((p : B2vec2) → p ≡ point-at (now x) i → Is vec.the-row p (v ∷ [])
+        → Seq K W (‵ (vec.the-row .own p (v ∷ [])) ∷ Token ∷ Γ) G)
         → Seq K W (raw (Point .post (to i) v) ∷ Γ) G
     got t soaks i v go-on =
         use1 W (later (some (Got i v))) (id⊢ 𝓤 _) $ await t soaks $ pick t (λ p. split t $ move t (1 ∷ []) $
@@ -111,20 +119,24 @@ module _ {M : Type 1} (𝓤 : URA M) (H : Heap 𝓤) (A : Atoms 𝓤) (mem : Mem
         peeks t vec.the-row (Is vec.the-row) (shows 𝓤 H A vec.the-row) p (v ∷ []) (λ is. go-on p p-is is)))
 
     -- the whole step
-    pub reads : {K : Type 0} {Γ : List (Item 𝓤)} {E : Env 𝓤 H} {C : Calls 𝓤 H} {Λ : Loops 𝓤 H} {f : Name} {xs : List Operand} {d : Place}
+    pub reads : {K : Type 0} {Γ : List (Item 𝓤)} {E : Env 𝓤 H} {C : Calls 𝓤 H} {Λ : Loops 𝓤 H} {f : Name}
+        {xs : List Operand} {d : Place}
         {rest : Body} {post : Post 𝓤 H} → K → FmC 𝓤 H (W .laws) C → Triple 𝓤 (C f) Point → (i : ℕ) → i < 2 ^ 64
         → Opds K W (raw (Point .pre (to i)) ∷ ‵ (Slice κ x) ∷ Γ) E xs (Point .args (to i))
         → ((a : Read) → a .p ≡ point-at (now x) i
-        → Seq K W (‵ (vec.the-row .own (a .p) (a .v ∷ [])) ∷ Token ∷ ‵ (Slice κ x) ∷ Γ) (lands C Λ E d (a .v) rest post))
+        → Seq K W (‵ (vec.the-row .own (a .p) (a .v ∷ [])) ∷ Token ∷ ‵ (Slice κ x) ∷ Γ)
+        (lands C Λ E d (a .v) rest post))
         → Seq K W (‵ (Slice κ x) ∷ Token ∷ Γ) (runs C Λ E (seq (call f xs d) rest) post)
     reads t fm known i fits operands go-on =
         use2 W (raw (Point .pre (to i)) ⊛ ‵ (Slice κ x)) (apart i fits) $ split t $
-        calls-at t fm Point known (to i) operands (λ v. got t tt i v (λ p p-is is. go-on (record { p = p; v = v; is = is }) p-is))
+        calls-at t fm Point known (to i) operands
+        (λ v. got t tt i v (λ p p-is is. go-on (record { p = p; v = v; is = is }) p-is))
 
     -- ---- set_of_eight
     module _ (old : B2polygonShape) (a0 a1 a2 a3 a4 a5 a6 a7 : Read) where
       abbrev pub answered : PolygonAnswer
-      answered = b2-polygon-shape-set-counted old (a0 .p ∷ a1 .p ∷ a2 .p ∷ a3 .p ∷ a4 .p ∷ a5 .p ∷ a6 .p ∷ a7 .p ∷ []) (length (now x))
+      answered = b2-polygon-shape-set-counted old (a0 .p ∷ a1 .p ∷ a2 .p ∷ a3 .p ∷ a4 .p ∷ a5 .p ∷ a6 .p ∷ a7 .p ∷ [])
+          (length (now x))
 
       abbrev pub to-eight : EightPoints .Ghost
       to-eight = (
@@ -141,7 +153,13 @@ module _ {M : Type 1} (𝓤 : URA M) (H : Heap 𝓤) (A : Atoms 𝓤) (mem : Mem
                 a1 .v ∷ [],
                 (
                   a2 .v ∷ [],
-                  (a3 .v ∷ [], (a4 .v ∷ [], (a5 .v ∷ [], (a6 .v ∷ [], (a7 .v ∷ [], (vint w64 (length (now x)) ∷ [], tt)))))),
+                  (
+                    a3 .v ∷ [],
+                    (
+                      a4 .v ∷ [],
+                      (a5 .v ∷ [], (a6 .v ∷ [], (a7 .v ∷ [], (vint w64 (length (now x)) ∷ [], tt)))),
+                    ),
+                  ),
                 ),
               ),
             ),
@@ -150,7 +168,8 @@ module _ {M : Type 1} (𝓤 : URA M) (H : Heap 𝓤) (A : Atoms 𝓤) (mem : Mem
         tt,
       )
 
-      pub goes-eight : length (now x) < 2 ^ 64 → ent 𝓤 (sem 𝓤 H A (polygon.the-row .own old (value old ∷ []))) (EightPoints .pre to-eight)
+      pub goes-eight : length (now x) < 2 ^ 64 → ent 𝓤 (sem 𝓤 H A (polygon.the-row .own old (value old ∷ [])))
+          (EightPoints .pre to-eight)
       goes-eight fits =
           let made = (laws.makes vec.the-type vec-laws.the-plain) 𝓤 H A in
           qed W (‵ (polygon.the-row .own old (value old ∷ [])) ∷ []) ∵ nothing ! $
@@ -171,5 +190,6 @@ module _ {M : Type 1} (𝓤 : URA M) (H : Heap 𝓤) (A : Atoms 𝓤) (mem : Mem
           ⊛ raw (ensured 𝓤 H A eight.ended (eight.clauses 𝓤 H A mem run) tt (to-eight .0 .3) tt r)
 
       pub built : (r : PolygonAnswer)
-          → ent 𝓤 (ensured 𝓤 H A eight.ended (eight.clauses 𝓤 H A mem run) tt (to-eight .0 .3) tt r) (fact 𝓤 (r ≡ answered))
+          → ent 𝓤 (ensured 𝓤 H A eight.ended (eight.clauses 𝓤 H A mem run) tt (to-eight .0 .3) tt r)
+          (fact 𝓤 (r ≡ answered))
       built r = exE 𝓤 _ (λ ws. snd∗ 𝓤 (sem 𝓤 H A (lasts eight.ended tt (to-eight .0 .3) ws)) (fact 𝓤 (r ≡ answered)))

@@ -82,7 +82,8 @@ module _ (n k : ℕ) (n-low : 2 ^ 46 ≤ n) (n-high : n < 2 ^ 48) where
       let half : HalfUnit y (4 ^ k) (root .digits) =
       subst (λ (x : ℕ). HalfUnit y (4 ^ x) (root .digits)) same-scale (root .half-unit) in
       let same-digits : root .digits ≡ r =
-      nearest-root-unique n (root .digits) r (nearest-root-of-half-unit n (4 ^ k) (root .digits) (four-pow-pos k) half) r-nearest in
+      nearest-root-unique n (root .digits) r (nearest-root-of-half-unit n (4 ^ k) (root .digits) (four-pow-pos k)
+      half) r-nearest in
       let units : Units (rounded-root binary32 y) (r * 2 ^ k) =
       subst (λ (x : ℕ). Units (rounded-root binary32 y) (r * 2 ^ x)) same-scale
       (subst (λ (x : ℕ). Units (rounded-root binary32 y) (x * 2 ^ root .scale)) same-digits (root .value)) in

@@ -34,7 +34,8 @@ sqrt-of-units (inf s) n h n-pos = absurd h
 sqrt-of-units (fin true m e) n h n-pos = absurd (true≢false (h .0))
 sqrt-of-units (fin false zero e) n h n-pos = absurd (zero-has-none e n (h .1) n-pos)
 sqrt-of-units (fin false (suc m) e) n h n-pos =
-    ap (λ (x : ℕ). rounded-root binary32 (x * 2 ^ 149)) (ap (λ (x : ℕ). x / down e) (h .1) ∙ mul-div-cancel n (down-pos e))
+    ap (λ (x : ℕ). rounded-root binary32 (x * 2 ^ 149)) (ap (λ (x : ℕ). x / down e) (h .1)
+    ∙ mul-div-cancel n (down-pos e))
 
 -- ---- patterns above zero
 pub sqrt-of-normal : (e t : ℕ) → 0 < e → e < 255 → t < 2 ^ 23
@@ -44,13 +45,15 @@ sqrt-of-normal (suc x) t e-pos e-small t-small =
     let f = 2 ^ 23 + t in
     let f-pos : 0 < f = omega arith in
     let exponents : x + 149 ≡ suc x + 127 + 21 = omega arith in
-    sqrt-of-units (ofBits binary32 (suc x * 2 ^ 23 + t)) (f * 2 ^ x) (normal-units x t e-small t-small) (mul-pos f-pos (pow-pos x))
+    sqrt-of-units (ofBits binary32 (suc x * 2 ^ 23 + t)) (f * 2 ^ x) (normal-units x t e-small t-small)
+    (mul-pos f-pos (pow-pos x))
     ∙ ap (rounded-root binary32)
     (mul-assoc f (2 ^ x) (2 ^ 149)
     ∙ ap (λ (w : ℕ). f * w) (sym (pow-add 2 x 149) ∙ ap (λ (w : ℕ). 2 ^ w) exponents)
     ∙ ap (λ (w : ℕ). w * 2 ^ (suc x + 127 + 21)) (add-comm (2 ^ 23) t))
 
-pub sqrt-of-subnormal : (t : ℕ) → 0 < t → t < 2 ^ 23 → sqrt binary32 (ofBits binary32 t) ≡ rounded-root binary32 (t * 2 ^ 149)
+pub sqrt-of-subnormal : (t : ℕ) → 0 < t → t < 2 ^ 23 → sqrt binary32 (ofBits binary32 t)
+    ≡ rounded-root binary32 (t * 2 ^ 149)
 sqrt-of-subnormal t t-pos t-small = sqrt-of-units (ofBits binary32 t) t (subnormal-units t t-small) t-pos
 
 -- ---- patterns with the sign
@@ -62,7 +65,8 @@ sqrt-of-negative-units (fin false m e) n h n-pos = absurd (true≢false (sym (h 
 sqrt-of-negative-units (fin true zero e) n h n-pos = absurd (zero-has-none e n (h .1) n-pos)
 sqrt-of-negative-units (fin true (suc m) e) n h n-pos = refl
 
-sqrt-of-top-exponent : (c d : Bool) (x : Float) → sqrt binary32 x ≡ nan → sqrt binary32 (cond c (cond d (inf true) nan) x) ≡ nan
+sqrt-of-top-exponent : (c d : Bool) (x : Float) → sqrt binary32 x ≡ nan
+    → sqrt binary32 (cond c (cond d (inf true) nan) x) ≡ nan
 unfolding sqrt
 sqrt-of-top-exponent true true x h = refl
 sqrt-of-top-exponent true false x h = refl
@@ -123,6 +127,7 @@ infinity-to-minus-zero-own-root x x-fits not-nan low high =
       | inr h ↦
           let back : T (not (isNan (ofBits binary32 (toBits binary32 x)))) =
           subst (λ (y : Float). T (not (isNan y))) (sym (ofBits-toBits binary32 x x-fits)) not-nan in
-          let same : toBits binary32 x ≡ 255 * 2 ^ 23 = le-antisymm (pattern-le-infinity (toBits binary32 x) h back) low in
+          let same : toBits binary32 x ≡ 255 * 2 ^ 23 = le-antisymm (pattern-le-infinity (toBits binary32 x) h back)
+          low in
           own-root-by-pattern x (255 * 2 ^ 23) x-fits same infinity-own-root
     ]

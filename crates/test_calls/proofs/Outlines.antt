@@ -33,15 +33,18 @@ module _ (request : List ℕ) where
 
     pub set-malformed : (length request ≡ 4 * (38 + 2 * n) → ⊥) → set-answer request ≡ []
     unfolding set-answer
-    set-malformed size = simp (ne-eqb _ _ (λ (e : length request ≡ 4 * (38 + 2 * word-at request 37)). size (e ∙ sym size-is)))
+    set-malformed size = simp (ne-eqb _ _ (λ (e : length request ≡ 4 * (38 + 2 * word-at request 37)). size
+        (e ∙ sym size-is)))
 
-    pub set-words : (m : ℕ) (old : B2polygonShape) (array : List B2vec2) (answer : PolygonAnswer) → length request ≡ 4 * (38 + 2 * n)
+    pub set-words : (m : ℕ) (old : B2polygonShape) (array : List B2vec2) (answer : PolygonAnswer) → length request
+        ≡ 4 * (38 + 2 * n)
         → old ≡ polygon-at request 1 → take m array ≡ points-at request 38 m → (n ≤ 8 → m ≡ n)
         → answer ≡ b2-polygon-shape-set-counted old array n → outline-answer answer ≡ set-answer request
     unfolding set-answer
     set-words m old array answer size old-is first all answer-is =
         let whole : answer ≡ b2-polygon-shape-set old (points-at request 38 n) =
-        answer-is ∙ counted-whole old array (points-at request 38 n) n (length-points request (4 * 38) n) (λ few. rw (all few) at first) in
+        answer-is ∙ counted-whole old array (points-at request 38 n) n (length-points request (4 * 38) n)
+        (λ few. rw (all few) at first) in
         simp (eq-eqb _ _ (size ∙ size-is), whole, old-is, n-is)
 
   -- ---- the box
@@ -49,7 +52,8 @@ module _ (request : List ℕ) where
   unfolding box-answer
   box-malformed size = simp (ne-eqb _ _ size)
 
-  pub box-words : (old : B2polygonShape) (hx hy : Float) (answer : PolygonAnswer) → length request ≡ 156 → old ≡ polygon-at request 1
+  pub box-words : (old : B2polygonShape) (hx hy : Float) (answer : PolygonAnswer) → length request ≡ 156 → old
+      ≡ polygon-at request 1
       → hx ≡ float-at request 37 → hy ≡ float-at request 38 → answer ≡ b2-polygon-shape-set-as-box old hx hy
       → outline-answer answer ≡ box-answer request
   unfolding box-answer
@@ -62,7 +66,8 @@ module _ (request : List ℕ) where
 
   pub box-angle-words : (old : B2polygonShape) (hx hy : Float) (center : B2vec2) (q : B2Rot) (answer : PolygonAnswer)
       → length request ≡ 172 → old ≡ polygon-at request 1 → hx ≡ float-at request 37 → hy ≡ float-at request 38
-      → center ≡ vector-at request 39 → q ≡ rotation-at request 41 → answer ≡ b2-polygon-shape-set-as-box-angle old hx hy center q
+      → center ≡ vector-at request 39 → q ≡ rotation-at request 41 → answer
+      ≡ b2-polygon-shape-set-as-box-angle old hx hy center q
       → outline-answer answer ≡ box-angle-answer request
   unfolding box-angle-answer
   box-angle-words old hx hy center q answer size old-is hx-is hy-is center-is q-is answer-is =

@@ -43,7 +43,8 @@ box-answer request =
 unfoldable pub box-angle-answer : List ℕ → List ℕ
 box-angle-answer request =
     cond (eqb (length request) (4 * 43))
-    (outline-answer (b2-polygon-shape-set-as-box-angle (polygon-at request 1) (float-at request 37) (float-at request 38)
+    (outline-answer (b2-polygon-shape-set-as-box-angle (polygon-at request 1) (float-at request 37)
+    (float-at request 38)
     (vector-at request 39) (rotation-at request 41))) []
 
 -- 4, an outline: whether it is convex
@@ -51,13 +52,15 @@ abbrev pub validity-answer : ValidateAnswer → List ℕ
 validity-answer v = v .refusal ∷ flag (v .valid) ∷ []
 
 unfoldable pub validate-answer : List ℕ → List ℕ
-validate-answer request = cond (eqb (length request) (4 * 37)) (validity-answer (b2-polygon-shape-validate (polygon-at request 1))) []
+validate-answer request = cond (eqb (length request) (4 * 37))
+    (validity-answer (b2-polygon-shape-validate (polygon-at request 1))) []
 
 -- 5, a wall, v0, v1, v2, v3; the wall's flag is 0 or 1
 unfoldable pub one-sided-answer : List ℕ → List ℕ
 one-sided-answer request =
     cond (eqb (length request) (4 * 19) && ltb (word-at request 2) 2)
-    (wall-answer (b2-set-one-sided (edge-at request 1) (vector-at request 11) (vector-at request 13) (vector-at request 15)
+    (wall-answer (b2-set-one-sided (edge-at request 1) (vector-at request 11) (vector-at request 13)
+    (vector-at request 15)
     (vector-at request 17))) []
 
 -- 6, a wall, v1, v2

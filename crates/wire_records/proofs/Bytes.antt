@@ -24,7 +24,8 @@ length-bytes [] = refl
 length-bytes (w ∷ ws) = omega (arith, length-bytes ws)
 
 -- the bytes of the first i words, and of one more
-pub bytes-next : (ws : List ℕ) (i : ℕ) → i < length ws → bytes-of (take (i + 1) ws) ≡ bytes-of (take i ws) ++ number-bytes (getD ws i 0)
+pub bytes-next : (ws : List ℕ) (i : ℕ) → i < length ws → bytes-of (take (i + 1) ws)
+    ≡ bytes-of (take i ws) ++ number-bytes (getD ws i 0)
 bytes-next ws i h =
     ap (λ (n : ℕ). bytes-of (take n ws)) (add-one i)
     ∙ ap bytes-of (take-suc ws i 0 h)
@@ -37,7 +38,8 @@ pub word-written : (ws old buffer part : List ℕ) (i : ℕ) → i < length ws �
 word-written ws old buffer part i within before-written part-written =
     let so-far : length (bytes-of (take i ws)) ≡ 4 * i =
     length-bytes (take i ws) ∙ ap (λ (n : ℕ). 4 * n) (length-take-le i ws (omega arith)) in
-    over-next (bytes-of (take i ws)) (number-bytes (getD ws i 0)) old buffer part (4 * i) so-far before-written part-written
+    over-next (bytes-of (take i ws)) (number-bytes (getD ws i 0)) old buffer part (4 * i) so-far before-written
+    part-written
     ∙ ap (λ (bytes : List ℕ). over bytes old) (sym (bytes-next ws i within))
 
 -- room for all the words, and too little room
@@ -62,5 +64,6 @@ nothing-written ws out none =
     (record { count = simp (le-leb (4 * 0) (length out) room); left = simp (le-leb (4 * 0) (length out) room) })
 
 -- the words written are those of the definition
-pub written-as : (ws answer out : List ℕ) (r : ℕ) (after : List ℕ) → ws ≡ answer → Written ws out r after → Written answer out r after
+pub written-as : (ws answer out : List ℕ) (r : ℕ) (after : List ℕ) → ws ≡ answer → Written ws out r after
+    → Written answer out r after
 written-as ws answer out r after same h = subst (λ (l : List ℕ). Written l out r after) same h

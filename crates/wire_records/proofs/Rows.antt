@@ -15,21 +15,25 @@ pub whole-row : {A : Type 0} (n : ℕ) (l m : List A) → take n l ≡ m → len
 whole-row n l m first size = sym (take-all n l (omega arith)) ∙ first
 
 -- ---- writing
-words-next : (ps : List B2vec2) (p : B2vec2) → points-words (ps ++ (p ∷ [])) ≡ points-words ps ++ (bits (p .x) ∷ bits (p .y) ∷ [])
+words-next : (ps : List B2vec2) (p : B2vec2) → points-words (ps ++ (p ∷ []))
+    ≡ points-words ps ++ (bits (p .x) ∷ bits (p .y) ∷ [])
 unfolding points-words
 words-next [] p = refl
 words-next (q ∷ ps) p = rw (words-next ps p)
 
-two-stores : (l : List ℕ) (at a b : ℕ) → at + 1 < length l → take (suc (suc at)) (set (set l at a) (suc at) b) ≡ take at l ++ (a ∷ b ∷ [])
+two-stores : (l : List ℕ) (at a b : ℕ) → at + 1 < length l → take (suc (suc at)) (set (set l at a) (suc at) b)
+    ≡ take at l ++ (a ∷ b ∷ [])
 two-stores l at a b within =
     take-suc-set (set l at a) (suc at) b (simp length-set (omega arith))
     ∙ ap (λ (x : List ℕ). x ++ (b ∷ [])) (take-suc-set l at a (omega arith))
     ∙ append-assoc (take at l) (a ∷ []) (b ∷ [])
 
-pub point-written : (i k : ℕ) (ps : List B2vec2) (d : B2vec2) (old all : List ℕ) (a b : ℕ) → k < length ps → i + 2 * k + 1 < length all
+pub point-written : (i k : ℕ) (ps : List B2vec2) (d : B2vec2) (old all : List ℕ) (a b : ℕ) → k < length ps
+    → i + 2 * k + 1 < length all
     → a ≡ bits (getD ps k d .x) → b ≡ bits (getD ps k d .y)
     → take (i + 2 * k) all ≡ take i old ++ points-words (take k ps)
-    → take (i + 2 * (k + 1)) (set (set all (i + 2 * k) a) (i + 2 * k + 1) b) ≡ take i old ++ points-words (take (k + 1) ps)
+    → take (i + 2 * (k + 1)) (set (set all (i + 2 * k) a) (i + 2 * k + 1) b)
+    ≡ take i old ++ points-words (take (k + 1) ps)
 point-written i k ps d old all a b within room a-is b-is so-far =
     let p = getD ps k d in
     let at : i + 2 * (k + 1) ≡ suc (suc (i + 2 * k)) = omega arith in
@@ -48,5 +52,6 @@ pub outline-written : (refusal : ℕ) (s : B2polygonShape) (half whole : List �
     → half ≡ (first ∷ radius ∷ x ∷ y ∷ count ∷ []) ++ points-words (s .«m_vertices»)
     → take 37 whole ≡ half ++ points-words (s .«m_normals») → length whole ≡ 37 → whole ≡ refusal ∷ polygon-words s
 unfolding polygon-words
-outline-written refusal s half whole first radius x y count first-is radius-is x-is y-is count-is half-is whole-is size =
+outline-written refusal s half whole first radius x y count first-is radius-is x-is y-is count-is half-is whole-is
+    size =
     whole-row 37 whole _ whole-is size ∙ simp (half-is, first-is, radius-is, x-is, y-is, count-is)

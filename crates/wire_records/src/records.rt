@@ -113,7 +113,8 @@ fn with_points(old: [u32; 37], i: usize, ps: [B2vec2; 8]) -> [u32; 37]
 
 // The refusal and the outline.
 pub fn put_polygon(out: &mut [u8], answer: PolygonAnswer) -> u32
-    ensures { λ r. ⌜ Written (answer .refusal ∷ polygon-words (answer .shape)) (now (out .entry)) r (now (out .exit)) ⌝ }
+    ensures { λ r. ⌜ Written (answer .refusal ∷ polygon-words (answer .shape))
+        (now (out .entry)) r (now (out .exit)) ⌝ }
 {
     let s = answer.shape;
     let mut head = [0u32; 37];

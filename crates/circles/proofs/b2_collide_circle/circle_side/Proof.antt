@@ -24,7 +24,8 @@ array-copy-out-normal c = search needs
 loop-holds : tie.Need-loop-holds Inv-loop μ-loop
 loop-holds c =
     let start = c .before .before in
-    sides-begin _ _ _ _ _ _ _ _ (start .good .0 .1 .0 .1) (start .good .1 .0 .1 .0 .1) (start .pre .0) (start .pre .1) refl refl
+    sides-begin _ _ _ _ _ _ _ _ (start .good .0 .1 .0 .1) (start .good .1 .0 .1 .0 .1) (start .pre .0) (start .pre .1)
+    refl refl
 
 mul-v : tie.Need-mul-v Inv-loop μ-loop
 mul-v c = search needs
@@ -49,7 +50,8 @@ returns c =
     let dot = c .before in
     let sub = dot .before in
     let turn = sub .before .before .before in
-    side-outside _ _ _ _ _ _ _ _ _ _ (turn .before .loop .inv) (turn .loop-test .taken) _ _ _ _ _ refl refl (sub .b2-sub .ensures)
+    side-outside _ _ _ _ _ _ _ _ _ _ (turn .before .loop .inv) (turn .loop-test .taken) _ _ _ _ _ refl refl
+    (sub .b2-sub .ensures)
     (dot .b2-dot .ensures) (c .if1 .taken)
 
 add-i : tie.Need-add-i Inv-loop μ-loop
@@ -65,9 +67,11 @@ loop-again c =
     let sub = dot .before in
     let turn = sub .before .before .before in
     ⊎-elim
-    (λ w. rw (w .1, w .2, w .3, w .4) (side-taken _ _ _ _ _ _ _ _ _ _ (turn .before .loop .inv) (turn .loop-test .taken) _ _ _ _ _ refl refl
+    (λ w. rw (w .1, w .2, w .3, w .4) (side-taken _ _ _ _ _ _ _ _ _ _ (turn .before .loop .inv)
+    (turn .loop-test .taken) _ _ _ _ _ refl refl
     (sub .b2-sub .ensures) (dot .b2-dot .ensures) (near .if1 .left) (w .0 .taken)))
-    (λ w. rw (w .1, w .2, w .3, w .4) (side-left _ _ _ _ _ _ _ _ _ _ (turn .before .loop .inv) (turn .loop-test .taken) _ _ _ _ _ refl refl
+    (λ w. rw (w .1, w .2, w .3, w .4) (side-left _ _ _ _ _ _ _ _ _ _ (turn .before .loop .inv)
+    (turn .loop-test .taken) _ _ _ _ _ refl refl
     (sub .b2-sub .ensures) (dot .b2-dot .ensures) (near .if1 .left) (w .0 .left)))
     (c .if2 .came)
 

@@ -17,7 +17,8 @@ unit-requires : tie.Need-unit-requires
 unit-requires c κs = search needs
 
 returns-2 : tie.Need-returns-2
-returns-2 c = corner-near _ _ _ _ (c .before .before .before .farther-than .ensures) _ _ (c .before .before .if1 .left) (c .before .b2-sub .ensures) (c .unit .ensures)
+returns-2 c = corner-near _ _ _ _ (c .before .before .before .farther-than .ensures) _ _
+    (c .before .before .if1 .left) (c .before .b2-sub .ensures) (c .unit .ensures)
 
 pub corner-meeting-spec : {M : Type 1} → statement M
 corner-meeting-spec =

@@ -50,8 +50,10 @@ returns-2 c =
     let sub1 = sub2 .before in
     let near = sub1 .before in
     let scale = near .before in
-    face-corner _ _ _ _ _ _ _ _ (scale .before .b2-add .ensures) (scale .b2-scale .ensures) _ _ _ _ _ _ (near .if1 .left)
-    (sub1 .b2-sub .ensures) (sub2 .b2-sub2 .ensures) (dot1 .b2-dot .ensures) (sub3 .b2-sub3 .ensures) (sub4 .b2-sub4 .ensures) (dot2 .b2-dot2 .ensures) _ (c .corner-meeting .result) (choice .before .if2 .taken)
+    face-corner _ _ _ _ _ _ _ _ (scale .before .b2-add .ensures) (scale .b2-scale .ensures) _ _ _ _ _ _
+    (near .if1 .left)
+    (sub1 .b2-sub .ensures) (sub2 .b2-sub2 .ensures) (dot1 .b2-dot .ensures) (sub3 .b2-sub3 .ensures)
+    (sub4 .b2-sub4 .ensures) (dot2 .b2-dot2 .ensures) _ (c .corner-meeting .result) (choice .before .if2 .taken)
     (choice .nearer-end .ensures) (c .corner-meeting .ensures)
 
 b2-sub-requires-5 : tie.Need-b2-sub-requires-5
@@ -73,7 +75,8 @@ returns-3 c =
     let near = sub1 .before in
     let scale = near .before in
     face-far _ _ _ _ _ _ _ _ (scale .before .b2-add .ensures) (scale .b2-scale .ensures) _ _ _ _ _ _ (near .if1 .left)
-    (sub1 .b2-sub .ensures) (sub2 .b2-sub2 .ensures) (dot1 .b2-dot .ensures) (sub3 .b2-sub3 .ensures) (sub4 .b2-sub4 .ensures) (dot2 .b2-dot2 .ensures) _ _ (none .if2 .left)
+    (sub1 .b2-sub .ensures) (sub2 .b2-sub2 .ensures) (dot1 .b2-dot .ensures) (sub3 .b2-sub3 .ensures)
+    (sub4 .b2-sub4 .ensures) (dot2 .b2-dot2 .ensures) _ _ (none .if2 .left)
     (dot3 .before .b2-sub5 .ensures) (dot3 .b2-dot3 .ensures) (c .if3 .taken)
 
 returns-4 : tie.Need-returns-4
@@ -89,7 +92,8 @@ returns-4 c =
     let near = sub1 .before in
     let scale = near .before in
     face-near _ _ _ _ _ _ _ _ (scale .before .b2-add .ensures) (scale .b2-scale .ensures) _ _ _ _ _ _ (near .if1 .left)
-    (sub1 .b2-sub .ensures) (sub2 .b2-sub2 .ensures) (dot1 .b2-dot .ensures) (sub3 .b2-sub3 .ensures) (sub4 .b2-sub4 .ensures) (dot2 .b2-dot2 .ensures) _ _ (none .if2 .left)
+    (sub1 .b2-sub .ensures) (sub2 .b2-sub2 .ensures) (dot1 .b2-dot .ensures) (sub3 .b2-sub3 .ensures)
+    (sub4 .b2-sub4 .ensures) (dot2 .b2-dot2 .ensures) _ _ (none .if2 .left)
     (dot3 .before .b2-sub5 .ensures) (dot3 .b2-dot3 .ensures) (c .if3 .left)
 
 pub face-meeting-spec : {M : Type 1} → statement M

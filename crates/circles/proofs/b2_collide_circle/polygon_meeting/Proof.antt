@@ -14,7 +14,8 @@ face-meeting-requires : tie.Need-face-meeting-requires
 face-meeting-requires c κs = search needs
 
 returns-2 : tie.Need-returns-2
-returns-2 c = outline-near _ _ _ _ _ _ (c .before .before .circle-side .ensures) (c .face-meeting .result) (c .before .if1 .left) (c .face-meeting .ensures)
+returns-2 c = outline-near _ _ _ _ _ _ (c .before .before .circle-side .ensures) (c .face-meeting .result)
+    (c .before .if1 .left) (c .face-meeting .ensures)
 
 pub polygon-meeting-spec : {M : Type 1} → statement M
 polygon-meeting-spec =

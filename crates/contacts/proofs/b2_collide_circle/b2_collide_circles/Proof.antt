@@ -25,7 +25,8 @@ returns c =
     let made = c .before in
     let both = made .before in
     c .accepted .ensures ∙ ap manifold-accepted (made .circles-manifold .ensures)
-    ∙ all-in-range _ _ _ _ _ _ _ (both .before .before .circles-in-range .ensures) (both .before .placements-in-range .ensures) (both .if1 .taken)
+    ∙ all-in-range _ _ _ _ _ _ _ (both .before .before .circles-in-range .ensures)
+    (both .before .placements-in-range .ensures) (both .if1 .taken)
 
 out-of-range-requires : tie.Need-out-of-range-requires
 out-of-range-requires c κs = search needs
@@ -34,7 +35,8 @@ returns-2 : tie.Need-returns-2
 unfolding b2-collide-circles
 returns-2 c =
     let neither = c .before in
-    not-in-range _ _ _ _ _ _ _ (neither .before .before .circles-in-range .ensures) (neither .before .placements-in-range .ensures) _ (neither .if1 .left)
+    not-in-range _ _ _ _ _ _ _ (neither .before .before .circles-in-range .ensures)
+    (neither .before .placements-in-range .ensures) _ (neither .if1 .left)
     (c .out-of-range .ensures)
 
 pub b2-collide-circles-spec : {M : Type 1} → statement M

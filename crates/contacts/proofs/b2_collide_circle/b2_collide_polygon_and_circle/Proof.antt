@@ -45,7 +45,8 @@ returns-2 c =
     let right = shapes .before in
     count-taken _ _ _ _ (sym (right .before .miscounted .ensures) ∙ right .if1 .left)
     (c .accepted .ensures ∙ ap manifold-accepted (made .polygon-circle-manifold .ensures)
-    ∙ all-in-range _ _ _ _ _ _ _ (shapes .polygon-circle-in-range .ensures) (placed .placements-in-range .ensures) (both .if2 .taken))
+    ∙ all-in-range _ _ _ _ _ _ _ (shapes .polygon-circle-in-range .ensures) (placed .placements-in-range .ensures)
+    (both .if2 .taken))
 
 out-of-range-requires : tie.Need-out-of-range-requires
 out-of-range-requires c κs = search needs
@@ -58,7 +59,8 @@ returns-3 c =
     let shapes = placed .before in
     let right = shapes .before in
     count-taken _ _ _ _ (sym (right .before .miscounted .ensures) ∙ right .if1 .left)
-    (not-in-range _ _ _ _ _ _ _ (shapes .polygon-circle-in-range .ensures) (placed .placements-in-range .ensures) _ (neither .if2 .left)
+    (not-in-range _ _ _ _ _ _ _ (shapes .polygon-circle-in-range .ensures) (placed .placements-in-range .ensures) _
+    (neither .if2 .left)
     (c .out-of-range .ensures))
 
 pub b2-collide-polygon-and-circle-spec : {M : Type 1} → statement M

@@ -20,7 +20,8 @@ returns : tie.Need-returns
 returns c =
     let far = c .before .before in
     let at-b = far .before in
-    circles-far _ _ _ _ _ _ _ _ (at-b .before .b2-mul-transform-by-vec2 .ensures) (at-b .b2-mul-transform-by-vec22 .ensures)
+    circles-far _ _ _ _ _ _ _ _ (at-b .before .b2-mul-transform-by-vec2 .ensures)
+    (at-b .b2-mul-transform-by-vec22 .ensures)
     (far .farther-than .ensures) _ (c .before .if1 .taken) (c .no-points .ensures)
 
 circle-point-requires : tie.Need-circle-point-requires
@@ -30,7 +31,8 @@ returns-2 : tie.Need-returns-2
 returns-2 c =
     let far = c .before .before in
     let at-b = far .before in
-    circles-near _ _ _ _ _ _ _ _ (at-b .before .b2-mul-transform-by-vec2 .ensures) (at-b .b2-mul-transform-by-vec22 .ensures)
+    circles-near _ _ _ _ _ _ _ _ (at-b .before .b2-mul-transform-by-vec2 .ensures)
+    (at-b .b2-mul-transform-by-vec22 .ensures)
     (far .farther-than .ensures) _ (c .before .if1 .left) (c .circle-point .ensures)
 
 pub circles-manifold-spec : {M : Type 1} → statement M

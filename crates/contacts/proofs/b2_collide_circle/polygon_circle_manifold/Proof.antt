@@ -31,7 +31,8 @@ returns c =
     let meeting = told .before .before in
     let c-there = meeting .before in
     meets-not _ _ _ _ _ _ _ (meeting .polygon-meeting .result) (c-there .before .b2-mul-transform-by-vec2 .ensures)
-    (c-there .b2-mul-t-transform-by-vec2 .ensures) (meeting .polygon-meeting .ensures) _ (told .enum-told .given .1) (c .no-points .ensures)
+    (c-there .b2-mul-t-transform-by-vec2 .ensures) (meeting .polygon-meeting .ensures) _ (told .enum-told .given .1)
+    (c .no-points .ensures)
 
 returns-2 : tie.Need-returns-2
 returns-2 c =
@@ -40,7 +41,8 @@ returns-2 c =
     let meeting = known .before .before in
     let c-there = meeting .before in
     meets-at _ _ _ _ _ _ _ (meeting .polygon-meeting .result) (c-there .before .b2-mul-transform-by-vec2 .ensures)
-    (c-there .b2-mul-t-transform-by-vec2 .ensures) (meeting .polygon-meeting .ensures) _ _ _ _ _ (known .meeting .given .1) (c .circle-point .ensures)
+    (c-there .b2-mul-t-transform-by-vec2 .ensures) (meeting .polygon-meeting .ensures) _ _ _ _ _
+    (known .meeting .given .1) (c .circle-point .ensures)
 
 pub polygon-circle-manifold-spec : {M : Type 1} → statement M
 polygon-circle-manifold-spec =

@@ -21,7 +21,8 @@ returns c =
     let both = c .before in
     let placed = both .before in
     c .wall-circle-answer .ensures
-    ∙ all-in-range _ _ _ _ _ _ _ (placed .before .edge-circle-in-range .ensures) (placed .placements-in-range .ensures) (both .if1 .taken)
+    ∙ all-in-range _ _ _ _ _ _ _ (placed .before .edge-circle-in-range .ensures)
+    (placed .placements-in-range .ensures) (both .if1 .taken)
 
 out-of-range-requires : tie.Need-out-of-range-requires
 out-of-range-requires c κs = search needs
@@ -31,7 +32,8 @@ unfolding b2-collide-edge-and-circle
 returns-2 c =
     let neither = c .before in
     let placed = neither .before in
-    not-in-range _ _ _ _ _ _ _ (placed .before .edge-circle-in-range .ensures) (placed .placements-in-range .ensures) _ (neither .if1 .left)
+    not-in-range _ _ _ _ _ _ _ (placed .before .edge-circle-in-range .ensures) (placed .placements-in-range .ensures)
+    _ (neither .if1 .left)
     (c .out-of-range .ensures)
 
 pub b2-collide-edge-and-circle-spec : {M : Type 1} → statement M

@@ -61,8 +61,10 @@ returns-2 c =
     let given = right .before .before .before .before .before .before .args in
     count-taken _ _ _ _ (sym (right .before .miscounted .ensures) ∙ right .if1 .left)
     (c .accepted .ensures ∙ ap manifold-accepted (made .edge-polygon-manifold .ensures
-    ∙ ap (λ (t : B2Transform). edge-polygon-manifold (with-count (given .m) 0) (given .a) t (given .b)) (xf .b2-mul-t-transform .ensures))
-    ∙ all-in-range _ _ _ _ _ _ _ (shapes .edge-polygon-in-range .ensures) (placed .placements-in-range .ensures) (both .if2 .taken))
+    ∙ ap (λ (t : B2Transform). edge-polygon-manifold (with-count (given .m) 0) (given .a) t (given .b))
+    (xf .b2-mul-t-transform .ensures))
+    ∙ all-in-range _ _ _ _ _ _ _ (shapes .edge-polygon-in-range .ensures) (placed .placements-in-range .ensures)
+    (both .if2 .taken))
 
 out-of-range-requires : tie.Need-out-of-range-requires
 out-of-range-requires c κs = search needs
@@ -75,7 +77,8 @@ returns-3 c =
     let shapes = placed .before in
     let right = shapes .before in
     count-taken _ _ _ _ (sym (right .before .miscounted .ensures) ∙ right .if1 .left)
-    (not-in-range _ _ _ _ _ _ _ (shapes .edge-polygon-in-range .ensures) (placed .placements-in-range .ensures) _ (neither .if2 .left)
+    (not-in-range _ _ _ _ _ _ _ (shapes .edge-polygon-in-range .ensures) (placed .placements-in-range .ensures) _
+    (neither .if2 .left)
     (c .out-of-range .ensures))
 
 pub b2-collide-edge-and-polygon-spec : {M : Type 1} → statement M

@@ -15,7 +15,11 @@ edge-circle-answer-requires c κs = search needs
 returns : tie.Need-returns
 returns c =
     let q = c .before in
-    simp (c .edge-circle-answer .ensures, q .b2-mul-t-transform-by-vec2 .ensures, q .before .b2-mul-transform-by-vec2 .ensures)
+    simp (
+      c .edge-circle-answer .ensures,
+      q .b2-mul-t-transform-by-vec2 .ensures,
+      q .before .b2-mul-transform-by-vec2 .ensures,
+    )
 
 pub wall-circle-answer-spec : {M : Type 1} → statement M
 wall-circle-answer-spec =

@@ -22,7 +22,8 @@ unfolding b2-collide-polygons
 returns c =
     let wrong = c .before in
     let counts = wrong .before in
-    count-refused _ _ _ _ (sym (ap₂ _||_ (counts .before .miscounted .ensures) (counts .miscounted2 .ensures)) ∙ wrong .if1 .taken)
+    count-refused _ _ _ _ (sym (ap₂ _||_ (counts .before .miscounted .ensures) (counts .miscounted2 .ensures))
+    ∙ wrong .if1 .taken)
     (c .refused .ensures)
 
 polygons-in-range-requires : tie.Need-polygons-in-range-requires
@@ -35,7 +36,8 @@ polygons-manifold-requires : tie.Need-polygons-manifold-requires
 polygons-manifold-requires c κs =
     let right = c .before .before .before in
     let counts = right .before in
-    both-counted-well _ _ (sym (ap₂ _||_ (counts .before .miscounted .ensures) (counts .miscounted2 .ensures)) ∙ right .if1 .left)
+    both-counted-well _ _ (sym (ap₂ _||_ (counts .before .miscounted .ensures) (counts .miscounted2 .ensures))
+    ∙ right .if1 .left)
 
 accepted-requires : tie.Need-accepted-requires
 accepted-requires c κs = search needs
@@ -49,9 +51,11 @@ returns-2 c =
     let shapes = placed .before in
     let right = shapes .before in
     let counts = right .before in
-    count-taken _ _ _ _ (sym (ap₂ _||_ (counts .before .miscounted .ensures) (counts .miscounted2 .ensures)) ∙ right .if1 .left)
+    count-taken _ _ _ _ (sym (ap₂ _||_ (counts .before .miscounted .ensures) (counts .miscounted2 .ensures))
+    ∙ right .if1 .left)
     (c .accepted .ensures ∙ ap manifold-accepted (made .polygons-manifold .ensures)
-    ∙ all-in-range _ _ _ _ _ _ _ (shapes .polygons-in-range .ensures) (placed .placements-in-range .ensures) (both .if2 .taken))
+    ∙ all-in-range _ _ _ _ _ _ _ (shapes .polygons-in-range .ensures) (placed .placements-in-range .ensures)
+    (both .if2 .taken))
 
 out-of-range-requires : tie.Need-out-of-range-requires
 out-of-range-requires c κs = search needs
@@ -64,8 +68,10 @@ returns-3 c =
     let shapes = placed .before in
     let right = shapes .before in
     let counts = right .before in
-    count-taken _ _ _ _ (sym (ap₂ _||_ (counts .before .miscounted .ensures) (counts .miscounted2 .ensures)) ∙ right .if1 .left)
-    (not-in-range _ _ _ _ _ _ _ (shapes .polygons-in-range .ensures) (placed .placements-in-range .ensures) _ (neither .if2 .left)
+    count-taken _ _ _ _ (sym (ap₂ _||_ (counts .before .miscounted .ensures) (counts .miscounted2 .ensures))
+    ∙ right .if1 .left)
+    (not-in-range _ _ _ _ _ _ _ (shapes .polygons-in-range .ensures) (placed .placements-in-range .ensures) _
+    (neither .if2 .left)
     (c .out-of-range .ensures))
 
 pub b2-collide-polygons-spec : {M : Type 1} → statement M

@@ -29,8 +29,10 @@ returns c =
     let b = normal .before in
     let a = b .before in
     let start = a .before .before .before in
-    ends-in-range (start .args .t1) _ _ _ _ _ _ _ _ _ (start .good .0 .1 .0 .1) refl refl (a .contact-point-in-range .ensures)
-    (b .contact-point-in-range2 .ensures) (normal .contact-point-in-range3 .ensures) (c .contact-number-in-range .ensures)
+    ends-in-range (start .args .t1) _ _ _ _ _ _ _ _ _ (start .good .0 .1 .0 .1) refl refl
+    (a .contact-point-in-range .ensures)
+    (b .contact-point-in-range2 .ensures) (normal .contact-point-in-range3 .ensures)
+    (c .contact-number-in-range .ensures)
 
 pub clip-in-range-spec : {M : Type 1} → statement M
 clip-in-range-spec =

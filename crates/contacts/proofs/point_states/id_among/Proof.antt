@@ -17,7 +17,8 @@ same-id-requires-2 : tie.Need-same-id-requires-2
 same-id-requires-2 c κs = search needs
 
 returns-3 : tie.Need-returns-3
-returns-3 c = among-two _ _ _ _ (c .before .before .same-id .ensures) (c .same-id2 .ensures) (c .before .before .before .if1 .left) (c .before .if2 .left)
+returns-3 c = among-two _ _ _ _ (c .before .before .same-id .ensures) (c .same-id2 .ensures)
+    (c .before .before .before .if1 .left) (c .before .if2 .left)
 
 pub id-among-spec : {M : Type 1} → statement M
 id-among-spec =

@@ -14,10 +14,12 @@ id-among-requires : tie.Need-id-among-requires
 id-among-requires c κs = search needs
 
 returns-3 : tie.Need-returns-3
-returns-3 c = second-state-is _ _ _ _ _ (c .before .id-among .ensures) (c .if3 .taken) (c .before .before .before .if1 .left) (c .before .before .if2 .left)
+returns-3 c = second-state-is _ _ _ _ _ (c .before .id-among .ensures) (c .if3 .taken)
+    (c .before .before .before .if1 .left) (c .before .before .if2 .left)
 
 returns-4 : tie.Need-returns-4
-returns-4 c = second-state-is _ _ _ _ _ (c .before .id-among .ensures) (c .if3 .left) (c .before .before .before .if1 .left) (c .before .before .if2 .left)
+returns-4 c = second-state-is _ _ _ _ _ (c .before .id-among .ensures) (c .if3 .left)
+    (c .before .before .before .if1 .left) (c .before .before .if2 .left)
 
 pub second-state-spec : {M : Type 1} → statement M
 second-state-spec = tie.close (tie.spec returns returns-2 id-among-requires returns-3 returns-4)

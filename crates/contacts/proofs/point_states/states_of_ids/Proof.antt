@@ -18,7 +18,12 @@ second-state-requires-2 c κs = search needs
 
 returns : tie.Need-returns
 unfolding states-of-ids
-returns c = simp (c .second-state2 .ensures, c .before .first-state2 .ensures, c .before .before .second-state .ensures, c .before .before .before .first-state .ensures)
+returns c = simp (
+  c .second-state2 .ensures,
+  c .before .first-state2 .ensures,
+  c .before .before .second-state .ensures,
+  c .before .before .before .first-state .ensures,
+)
 
 pub states-of-ids-spec : {M : Type 1} → statement M
 states-of-ids-spec =

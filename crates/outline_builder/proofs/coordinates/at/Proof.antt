@@ -24,7 +24,8 @@ element-copy-out-t12 : tie.Need-element-copy-out-t12
 element-copy-out-t12 c = search needs
 
 returns : tie.Need-returns
-returns c = point-read (c .before .before .args .xs .now) (c .before .before .args .i) (omega (arith, c .before .before .pre .1)) _ _
+returns c = point-read (c .before .before .args .xs .now) (c .before .before .args .i)
+    (omega (arith, c .before .before .pre .1)) _ _
 
 pub at-spec : {M : Type 1} → statement M
 at-spec =

@@ -40,7 +40,8 @@ returns c =
     let i = loop .loop .i in
     let eight = loop .loop .inv .2 in
     let within : i < length (take n ps) = first-places n i ps (omega arith) (omega arith) in
-    all-failed point-in-range (take n ps) i _ _ within (c .before .before .at .ensures ∙ sym (at-first-place ps n i (omega arith)))
+    all-failed point-in-range (take n ps) i _ _ within (c .before .before .at .ensures
+    ∙ sym (at-first-place ps n i (omega arith)))
     (loop .loop .inv .3) (sym (c .before .point-in-range .ensures) ∙ not-true _ (c .if1 .taken))
 
 add-i : tie.Need-add-i Inv-loop μ-loop
@@ -60,7 +61,8 @@ loop-again c =
       omega arith,
       omega arith,
       eight,
-      all-next point-in-range (take n ps) i _ _ within (c .before .before .at .ensures ∙ sym (at-first-place ps n i (omega arith)))
+      all-next point-in-range (take n ps) i _ _ within (c .before .before .at .ensures
+          ∙ sym (at-first-place ps n i (omega arith)))
           (loop .loop .inv .3) (sym (c .before .point-in-range .ensures) ∙ not-false _ (c .if1 .left)),
     )
 

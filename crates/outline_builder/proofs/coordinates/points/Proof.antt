@@ -42,7 +42,8 @@ loop-again c =
       omega arith,
       eight,
       simp length-set size,
-      copied-next (points-in (loop .before .args .xs .now)) (loop .loop .vs) (loop .loop .i) (inv .3) _ _ (omega arith) (omega arith) (c .at .ensures),
+      copied-next (points-in (loop .before .args .xs .now)) (loop .loop .vs) (loop .loop .i) (inv .3) _ _
+          (omega arith) (omega arith) (c .at .ensures),
     )
 
 returns : tie.Need-returns Inv-loop μ-loop

@@ -79,7 +79,8 @@ loop-again c =
     let inv = loop .loop .inv in
     let eight = inv .2 in
     let count : length (take m vs) ≡ m = length-take-le m vs (omega arith) in
-    let p2-is = from-corner vs m i (omega arith) (omega arith) _ _ _ (second .before .at2 .ensures) (second .b2-sub2 .ensures) in
+    let p2-is = from-corner vs m i (omega arith) (omega arith) _ _ _ (second .before .at2 .ensures)
+    (second .b2-sub2 .ensures) in
     let p3-is =
     from-following vs m i (omega arith) (omega arith) _ (after .after .ensures .0) (after .after .ensures .1) _ _ _
     (third .before .at3 .ensures) (third .b2-sub3 .ensures) in (
@@ -88,7 +89,8 @@ loop-again c =
       inv .2,
       inv .3,
       inv .4,
-      fan-next (take m vs) i _ _ _ _ _ _ (omega arith) (inv .3) (inv .4) p2-is p3-is (c .with-triangle .ensures) (inv .5),
+      fan-next (take m vs) i _ _ _ _ _ _ (omega arith) (inv .3) (inv .4) p2-is p3-is (c .with-triangle .ensures)
+          (inv .5),
     )
 
 returns : tie.Need-returns Inv-loop μ-loop

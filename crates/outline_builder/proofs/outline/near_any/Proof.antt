@@ -39,7 +39,8 @@ returns c =
     let j = loop .loop .j in
     let eight = loop .loop .inv .2 in
     let within : j < length (take n ps) = first-places n j ps (omega arith) (omega arith) in
-    near-found too-near _ (take n ps) j _ _ within (c .before .before .at .ensures ∙ sym (at-first-place ps n j (omega arith))) (loop .loop .inv .3)
+    near-found too-near _ (take n ps) j _ _ within (c .before .before .at .ensures
+    ∙ sym (at-first-place ps n j (omega arith))) (loop .loop .inv .3)
     (sym (c .before .too-near .ensures) ∙ c .if1 .taken)
 
 add-j : tie.Need-add-j Inv-loop μ-loop
@@ -59,7 +60,8 @@ loop-again c =
       omega arith,
       omega arith,
       eight,
-      near-next too-near _ (take n ps) j _ _ within (c .before .before .at .ensures ∙ sym (at-first-place ps n j (omega arith))) (loop .loop .inv .3)
+      near-next too-near _ (take n ps) j _ _ within (c .before .before .at .ensures
+          ∙ sym (at-first-place ps n j (omega arith))) (loop .loop .inv .3)
           (sym (c .before .too-near .ensures) ∙ c .if1 .left),
     )
 

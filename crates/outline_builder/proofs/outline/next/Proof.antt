@@ -18,7 +18,8 @@ use Rattle.outline_builder.proofs.outline.next.Tie as tie
 
 abbrev Inv-loop : tie.InvT-loop
 Inv-loop ps n ih corner ie₀ r₀ j₀ ie r j =
-    (j ≤ n) × (n ≤ 8) × (ie < n) × (ih < n) × EightPoints ps × (corner ≡ point-at (points-in ps) ih) × (r ≡ b2-sub (point-at (points-in ps) ie) corner)
+    (j ≤ n) × (n ≤ 8) × (ie < n) × (ih < n) × EightPoints ps × (corner ≡ point-at (points-in ps) ih)
+    × (r ≡ b2-sub (point-at (points-in ps) ie) corner)
     × (scan (replaces (take n (points-in ps)) ih) ie (places j (n - j)) ≡ next (take n (points-in ps)) ih)
 
 abbrev μ-loop : tie.MeasureT-loop
@@ -92,7 +93,8 @@ loop-again c =
       inv .4,
       inv .5,
       v-is,
-      scanned-next (replaces ps ih ie j) j ie j n (chosen _ _ j ie (w .0 .taken) test-is) (omega arith) (replaces (take n ps) ih) _ same (inv .7),
+      scanned-next (replaces ps ih ie j) j ie j n (chosen _ _ j ie (w .0 .taken) test-is) (omega arith)
+          (replaces (take n ps) ih) _ same (inv .7),
     ))
     (λ w. rw (w .1, w .2) (
       omega arith,
@@ -102,7 +104,8 @@ loop-again c =
       inv .4,
       inv .5,
       inv .6,
-      scanned-next (replaces ps ih ie j) ie ie j n (unchosen _ _ j ie (w .0 .left) test-is) (omega arith) (replaces (take n ps) ih) _ same (inv .7),
+      scanned-next (replaces ps ih ie j) ie ie j n (unchosen _ _ j ie (w .0 .left) test-is) (omega arith)
+          (replaces (take n ps) ih) _ same (inv .7),
     ))
     (c .if1 .came)
 

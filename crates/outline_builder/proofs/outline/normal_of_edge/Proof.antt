@@ -21,7 +21,8 @@ returns c =
     let edge = start .args .edge in
     let x-fits : T (fits binary32 (edge .x)) = subst T (sym (start .good .0 .1 .1 .0 .1)) tt in
     let y-fits : T (fits binary32 (edge .y)) = subst T (sym (start .good .0 .1 .1 .1 .0 .1)) tt in
-    normal-is edge (start .args .squared) x-fits y-fits (start .pre .0) (start .pre .1) _ _ (turned .b2-cross-vec-by-scalar .ensures)
+    normal-is edge (start .args .squared) x-fits y-fits (start .pre .0) (start .pre .1) _ _
+    (turned .b2-cross-vec-by-scalar .ensures)
     (root .b2-sqrt .ensures)
 
 pub normal-of-edge-spec : {M : Type 1} → statement M

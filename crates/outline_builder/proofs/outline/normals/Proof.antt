@@ -20,7 +20,8 @@ use Rattle.outline_builder.proofs.outline.normals.Tie as tie
 
 abbrev Inv-loop : tie.InvT-loop
 Inv-loop vs m ns₀ i₀ ns i =
-    (i ≤ m) × (m ≤ 8) × EightPoints vs × EightPoints ns₀ × EightPoints ns × Facing (take m (points-in vs)) (points-in ns₀) i (points-in ns)
+    (i ≤ m) × (m ≤ 8) × EightPoints vs × EightPoints ns₀ × EightPoints ns
+    × Facing (take m (points-in vs)) (points-in ns₀) i (points-in ns)
 
 abbrev μ-loop : tie.MeasureT-loop
 μ-loop vs m ns₀ i₀ ns i = m - i
@@ -50,7 +51,10 @@ normal-of-edge-requires : tie.Need-normal-of-edge-requires Inv-loop μ-loop
 normal-of-edge-requires c κs = (c .before .before .b2-length-squared .ensures, c .before .if1 .taken)
 
 put-requires : tie.Need-put-requires Inv-loop μ-loop
-put-requires c κs = (omega arith, c .before .before .before .before .before .before .before .before .before .loop .inv .4)
+put-requires c κs = (
+  omega arith,
+  c .before .before .before .before .before .before .before .before .before .loop .inv .4,
+)
 
 -- ---- the loop in which an edge was taken, its corners, and the edge among theirs
 abbrev loop-of : tie.After-b2-sub Inv-loop μ-loop → tie.At-loop Inv-loop μ-loop
@@ -60,16 +64,19 @@ abbrev corners : tie.At-loop Inv-loop μ-loop → List B2vec2
 corners loop = take (loop .before .args .m) (points-in (loop .before .args .vs .now))
 
 corners-count : (loop : tie.At-loop Inv-loop μ-loop) → length (corners loop) ≡ loop .before .args .m
-corners-count loop = let eight = loop .loop .inv .2 in length-take-le (loop .before .args .m) (points-in (loop .before .args .vs .now)) (omega arith)
+corners-count loop = let eight = loop .loop .inv .2 in length-take-le (loop .before .args .m)
+    (points-in (loop .before .args .vs .now)) (omega arith)
 
 edge-is : (edge : tie.After-b2-sub Inv-loop μ-loop)
-    → edge .b2-sub .result ≡ b2-sub (following (corners (loop-of edge)) (loop-of edge .loop .i)) (point-at (corners (loop-of edge)) (loop-of edge .loop .i))
+    → edge .b2-sub .result ≡ b2-sub (following (corners (loop-of edge)) (loop-of edge .loop .i))
+    (point-at (corners (loop-of edge)) (loop-of edge .loop .i))
 edge-is edge =
     let at = edge .before in
     let after = at .before .before in
     let loop = loop-of edge in
     let eight = loop .loop .inv .2 in
-    edge-of-corners (points-in (loop .before .args .vs .now)) (loop .before .args .m) (loop .loop .i) (omega arith) (omega arith) _ (after .after .ensures .0)
+    edge-of-corners (points-in (loop .before .args .vs .now)) (loop .before .args .m) (loop .loop .i) (omega arith)
+    (omega arith) _ (after .after .ensures .0)
     (after .after .ensures .1) _ _ _ (at .before .at .ensures) (at .at2 .ensures) (edge .b2-sub .ensures)
 
 returns : tie.Need-returns Inv-loop μ-loop
@@ -103,7 +110,8 @@ loop-again c =
       inv .3,
       eight-stored (loop .loop .ns) _ i _ (inv .4) (c .put .ensures),
       subst (Facing (corners loop) _ (i + 1)) (sym (c .put .ensures))
-          (facing-next (corners loop) _ _ i _ (inv .5) (omega arith) (edge-is edge) _ (omega (arith, inv .3)) (c .before .normal-of-edge .ensures)
+          (facing-next (corners loop) _ _ i _ (inv .5) (omega arith) (edge-is edge) _ (omega (arith, inv .3))
+          (c .before .normal-of-edge .ensures)
           (ap (lt epsilon-squared) (sym (long .before .b2-length-squared .ensures)) ∙ long .if1 .taken)),
     )
 

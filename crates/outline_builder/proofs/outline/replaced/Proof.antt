@@ -21,7 +21,8 @@ turns-closer-requires : tie.Need-turns-closer-requires
 turns-closer-requires c κs = search needs
 
 returns-2 : tie.Need-returns-2
-returns-2 c = seen (c .before .before .args .ih) (c .before .before .args .ie) _ _ (c .before .if1 .left) (c .turns-closer .ensures)
+returns-2 c = seen (c .before .before .args .ih) (c .before .before .args .ie) _ _ (c .before .if1 .left)
+    (c .turns-closer .ensures)
 
 pub replaced-spec : {M : Type 1} → statement M
 replaced-spec = tie.close (tie.spec returns turns-closer-requires returns-2)

@@ -66,7 +66,8 @@ loop-again c =
       omega arith,
       inv .3,
       p .at2 .ensures,
-      scanned-next (earlier ps i0 i) i i0 i n (chosen _ _ i i0 (w .0 .taken) test-is) (omega arith) (earlier (take n ps)) _ same (inv .5),
+      scanned-next (earlier ps i0 i) i i0 i n (chosen _ _ i i0 (w .0 .taken) test-is) (omega arith)
+          (earlier (take n ps)) _ same (inv .5),
     ))
     (λ w. rw (w .1, w .2) (
       omega arith,
@@ -74,7 +75,8 @@ loop-again c =
       omega arith,
       inv .3,
       inv .4,
-      scanned-next (earlier ps i0 i) i0 i0 i n (unchosen _ _ i i0 (w .0 .left) test-is) (omega arith) (earlier (take n ps)) _ same (inv .5),
+      scanned-next (earlier ps i0 i) i0 i0 i n (unchosen _ _ i i0 (w .0 .left) test-is) (omega arith)
+          (earlier (take n ps)) _ same (inv .5),
     ))
     (c .if1 .came)
 

@@ -19,7 +19,8 @@ b2-length-squared-requires-2 c κs = search needs
 returns-2 : tie.Need-returns-2
 returns-2 c =
     let cross = c .before .before .before .before in
-    turns-level _ _ _ (cross .b2-cross .ensures) _ _ (c .before .before .before .if1 .left) (c .before .before .if2 .taken)
+    turns-level _ _ _ (cross .b2-cross .ensures) _ _ (c .before .before .before .if1 .left)
+    (c .before .before .if2 .taken)
     (c .before .b2-length-squared .ensures) (c .b2-length-squared2 .ensures)
 
 returns-3 : tie.Need-returns-3

@@ -14,7 +14,8 @@ use Rattle.outline_builder.proofs.outline.walk.Tie as tie
 
 abbrev Inv-loop : tie.InvT-loop
 Inv-loop ps n i0 corners₀ ih₀ m₀ corners ih m =
-    (m ≤ 8) × (n ≤ 8) × (ih < n) × (i0 ≡ start (take n (points-in ps))) × EightPoints ps × EightPoints corners₀ × EightPoints corners
+    (m ≤ 8) × (n ≤ 8) × (ih < n) × (i0 ≡ start (take n (points-in ps))) × EightPoints ps × EightPoints corners₀
+    × EightPoints corners
     × Walking (take n (points-in ps)) (points-in corners₀) m ih (points-in corners)
 
 abbrev μ-loop : tie.MeasureT-loop
@@ -23,8 +24,17 @@ abbrev μ-loop : tie.MeasureT-loop
 loop-holds : tie.Need-loop-holds Inv-loop μ-loop
 loop-holds c =
     let n = c .args .n in
-    let ps = points-in (c .args .ps .now) in
-    (omega arith, omega arith, omega arith, c .pre .2, c .pre .3, c .pre .4, c .pre .4, walking-starts (take n ps) _ _ (c .pre .2))
+    let ps = points-in (c .args .ps .now) in (
+      omega arith,
+      omega arith,
+      omega arith,
+      c .pre .2,
+      c .pre .3,
+      c .pre .4,
+      c .pre .4,
+      walking-starts (take n ps) _ _
+          (c .pre .2),
+    )
 
 at-requires : tie.Need-at-requires Inv-loop μ-loop
 at-requires c κs = (omega arith, c .before .before .loop .inv .4)
@@ -80,8 +90,12 @@ loop-again c =
 
 returns-2 : tie.Need-returns-2 Inv-loop μ-loop
 returns-2 c =
-    let loop = c .before in
-    (omega arith, loop .loop .inv .6, walking-lost _ _ _ _ (loop .loop .m) (loop .loop .ih) (loop .loop .inv .7) (omega arith))
+    let loop = c .before in (
+      omega arith,
+      loop .loop .inv .6,
+      walking-lost _ _ _ _ (loop .loop .m) (loop .loop .ih) (loop .loop .inv .7)
+          (omega arith),
+    )
 
 pub walk-spec : {M : Type 1} → statement M
 walk-spec =

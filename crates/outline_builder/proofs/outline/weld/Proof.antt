@@ -22,7 +22,8 @@ use Rattle.outline_builder.proofs.outline.weld.Tie as tie
 abbrev Inv-loop : tie.InvT-loop
 Inv-loop points count ps₀ n₀ i₀ ps n i =
     (n ≤ i) × (i ≤ count) × (count ≤ 8) × EightPoints points × EightPoints ps
-    × (weld too-near (take n (points-in ps)) (drop i (take count (points-in points))) ≡ welded (take count (points-in points)))
+    × (weld too-near (take n (points-in ps)) (drop i (take count (points-in points)))
+    ≡ welded (take count (points-in points)))
 
 abbrev μ-loop : tie.MeasureT-loop
 μ-loop points count ps₀ n₀ i₀ ps n i = count - i
@@ -67,8 +68,10 @@ loop-again c =
       omega arith,
       inv .3,
       eight-stored (loop .loop .ps) _ (loop .loop .n) _ (inv .4) (w .2 .ensures),
-      ap (λ (ps : List B2vec2). weld too-near (take (loop .loop .n + 1) ps) (drop (i + 1) (take count points))) (w .2 .ensures)
-          ∙ weld-kept too-near (points-in (loop .loop .ps)) (take count points) _ (loop .loop .n) i _ _ within v-is (inv .5)
+      ap (λ (ps : List B2vec2). weld too-near (take (loop .loop .n + 1) ps) (drop (i + 1) (take count points)))
+          (w .2 .ensures)
+          ∙ weld-kept too-near (points-in (loop .loop .ps)) (take count points) _ (loop .loop .n) i _ _ within v-is
+          (inv .5)
           (omega (arith, inv .4)) (sym (c .before .near-any .ensures) ∙ not-true _ (w .0 .taken)),
     ))
     (λ w. rw (w .1, w .2) (
@@ -77,7 +80,8 @@ loop-again c =
       omega arith,
       inv .3,
       inv .4,
-      weld-dropped too-near (points-in (loop .loop .ps)) (take count points) _ (loop .loop .n) i _ _ within v-is (inv .5)
+      weld-dropped too-near (points-in (loop .loop .ps)) (take count points) _ (loop .loop .n) i _ _ within v-is
+          (inv .5)
           (sym (c .before .near-any .ensures) ∙ not-false _ (w .0 .left)),
     ))
     (c .if1 .came)
@@ -88,8 +92,12 @@ returns c =
     let points = points-in (loop .before .args .points .now) in
     let count = loop .before .args .count in
     let eight = loop .loop .inv .3 in
-    let end : loop .loop .i ≡ length (take count points) = omega (arith, length-take-le count points (omega arith)) in
-    (omega arith, loop .loop .inv .4, weld-ended too-near _ (take count points) _ (loop .loop .i) end (loop .loop .inv .5))
+    let end : loop .loop .i ≡ length (take count points) = omega (arith, length-take-le count points (omega arith)) in (
+      omega arith,
+      loop .loop .inv .4,
+      weld-ended too-near _ (take count points) _ (loop .loop .i) end
+          (loop .loop .inv .5),
+    )
 
 pub weld-spec : {M : Type 1} → statement M
 weld-spec =

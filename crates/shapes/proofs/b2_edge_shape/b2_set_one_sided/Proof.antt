@@ -27,9 +27,15 @@ returns c =
     let first = second .before in
     let zeroth = first .before in
     let args = zeroth .before .args in
-    chosen (point-in-range (args .v0) && point-in-range (args .v1) && point-in-range (args .v2) && point-in-range (args .v3)) _ _ _
+    chosen (point-in-range (args .v0) && point-in-range (args .v1) && point-in-range (args .v2)
+    && point-in-range (args .v3)) _ _ _
     (c .if1 .taken)
-    (simp (third .point-in-range4 .ensures, second .point-in-range3 .ensures, first .point-in-range2 .ensures, zeroth .point-in-range .ensures))
+    (simp (
+      third .point-in-range4 .ensures,
+      second .point-in-range3 .ensures,
+      first .point-in-range2 .ensures,
+      zeroth .point-in-range .ensures,
+    ))
 
 returns-2 : tie.Need-returns-2
 unfolding b2-set-one-sided
@@ -39,9 +45,15 @@ returns-2 c =
     let first = second .before in
     let zeroth = first .before in
     let args = zeroth .before .args in
-    unchosen (point-in-range (args .v0) && point-in-range (args .v1) && point-in-range (args .v2) && point-in-range (args .v3)) _ _ _
+    unchosen (point-in-range (args .v0) && point-in-range (args .v1) && point-in-range (args .v2)
+    && point-in-range (args .v3)) _ _ _
     (c .if1 .left)
-    (simp (third .point-in-range4 .ensures, second .point-in-range3 .ensures, first .point-in-range2 .ensures, zeroth .point-in-range .ensures))
+    (simp (
+      third .point-in-range4 .ensures,
+      second .point-in-range3 .ensures,
+      first .point-in-range2 .ensures,
+      zeroth .point-in-range .ensures,
+    ))
 
 pub b2-set-one-sided-spec : {M : Type 1} → statement M
 b2-set-one-sided-spec =

@@ -63,24 +63,31 @@ use Rattle.shapes.proofs.b2_polygon_shape.b2_polygon_shape_set.Code as 
 abbrev stayed : Stays (f.ended .signature .params) (f.ended .kept)
 stayed = (stay-none (λ _. polygon.the-row) yes, (stay-none-slice (0 ∷ []) tt (plain (λ _. vec.the-row)) yes, tt))
 
-module _ {M : Type 1} (𝓤 : URA M) (H : Heap 𝓤) (A : Atoms 𝓤) (W : Given 𝓤 H A) (mem : Memory → SProp 𝓤) (run : Routine → Fun 𝓤) where
+module _ {M : Type 1} (𝓤 : URA M) (H : Heap 𝓤) (A : Atoms 𝓤) (W : Given 𝓤 H A) (mem : Memory → SProp 𝓤) (run : Routine
+    → Fun 𝓤) where
   module _ (κ : Lft) (q : Share) (old : B2polygonShape) (x : RefT (List B2vec2)) where
     abbrev Post : Val → SProp 𝓤
     Post =
         walkOf 𝓤 H A f.ended stayed (f.clauses 𝓤 H A mem run) .post
         (((κ, tt), (q, tt), tt, (old, (x, tt)), (value old ∷ [], (slice x ∷ [], tt))), tt)
 
-    exits : (r : PolygonAnswer) (u : Val) → r ≡ b2-polygon-shape-set old (now x) → Is polygon.the-row old (value old ∷ [])
-        → ent 𝓤 (⋆ 𝓤 H A (‵ (answer.the-row .own r (u ∷ [])) ∷ ‵ (Slice κ x) ∷ asks.Token 𝓤 H A mem run W κ q x ∷ [])) (Post u)
+    exits : (r : PolygonAnswer) (u : Val) → r ≡ b2-polygon-shape-set old (now x)
+        → Is polygon.the-row old (value old ∷ [])
+        → ent 𝓤 (⋆ 𝓤 H A (‵ (answer.the-row .own r (u ∷ [])) ∷ ‵ (Slice κ x) ∷ asks.Token 𝓤 H A mem run W κ q x ∷ []))
+        (Post u)
     exits r u r-is old-is =
-        qed W (‵ (answer.the-row .own r (u ∷ [])) ∷ ‵ (Slice κ x) ∷ asks.Token 𝓤 H A mem run W κ q x ∷ []) ∵ suffices ! _
+        qed W (‵ (answer.the-row .own r (u ∷ [])) ∷ ‵ (Slice κ x) ∷ asks.Token 𝓤 H A mem run W κ q x ∷ []) ∵
+        suffices ! _
         (ends-at 𝓤 H A f.ended stayed (f.clauses 𝓤 H A mem run) W
-        (((κ, tt), (q, tt), tt, (old, (x, tt)), (value old ∷ [], (slice x ∷ [], tt))), tt) u r (tt, (tt, tt)) (tt, (tt, tt))) $
+        (((κ, tt), (q, tt), tt, (old, (x, tt)), (value old ∷ [], (slice x ∷ [], tt))), tt) u r (tt, (tt, tt))
+        (tt, (tt, tt))) $
         says ! r-is $ move ! (2 ∷ []) $ frame ! $ nothing ! $ move ! (2 ∷ 0 ∷ []) $ fjoin ! $
-        owned ! polygon.the-row (Is polygon.the-row) ((laws.makes polygon.the-type polygon-laws.the-plain) 𝓤 H A) old _ old-is $ fjoin ! $
+        owned ! polygon.the-row (Is polygon.the-row) ((laws.makes polygon.the-type polygon-laws.the-plain) 𝓤 H A) old
+        _ old-is $ fjoin ! $
         frame ! $ done !
 
-    module _ (C : Calls 𝓤 H) (Λ : Loops 𝓤 H) (fm : FmC 𝓤 H (W .laws) C) (known : Triple 𝓤 (C point-or) (asks.Point 𝓤 H A mem run))
+    module _ (C : Calls 𝓤 H) (Λ : Loops 𝓤 H) (fm : FmC 𝓤 H (W .laws) C)
+        (known : Triple 𝓤 (C point-or) (asks.Point 𝓤 H A mem run))
         (known-eight : Triple 𝓤 (C set-of-eight) (asks.EightPoints 𝓤 H A mem run)) where
       -- twelve locals, and in front of them what the slice owns and the token; the point at place i goes to local 3 +
       -- i, and what it owns is made again for the builder
@@ -90,11 +97,14 @@ module _ {M : Type 1} (𝓤 : URA M) (H : Heap 𝓤) (A : Atoms 𝓤) (W : Given
       walk room =
           let typed = laws.lawful vec.the-type vec-laws.the-laws 𝓤 H A W .typed in
           qed W (asks.Token 𝓤 H A mem run W κ q x
-          ∷ ‵ (owns (polygon.the-row ∷ ShrSlice (named 0) κ vec.the-row ∷ []) (old, (x, tt)) (value old ∷ [], (slice x ∷ [], tt))) ∷ []) ∵
+          ∷ ‵ (owns (polygon.the-row ∷ ShrSlice (named 0) κ vec.the-row ∷ []) (old, (x, tt))
+          (value old ∷ [], (slice x ∷ [], tt))) ∷ []) ∵
           move ! (1 ∷ []) $ fsplit ! $
-          peeks ! polygon.the-row (Is polygon.the-row) (shows 𝓤 H A polygon.the-row) old (value old ∷ []) (λ old-is. drop ! $
+          peeks ! polygon.the-row (Is polygon.the-row) (shows 𝓤 H A polygon.the-row) old (value old ∷ [])
+          (λ old-is. drop ! $
           fsplit ! $ move ! (0 ∷ 2 ∷ []) $ enter ! C Λ code.function (value old ∷ slice x ∷ []) _ $
-          alloc1 ! (λ l₀. alloc1 ! (λ l₁. alloc1 ! (λ l₂. alloc1 ! (λ l₃. alloc1 ! (λ l₄. alloc1 ! (λ l₅. alloc1 ! (λ l₆. alloc1 ! (λ l₇.
+          alloc1 ! (λ l₀. alloc1 ! (λ l₁. alloc1 !
+          (λ l₂. alloc1 ! (λ l₃. alloc1 ! (λ l₄. alloc1 ! (λ l₅. alloc1 ! (λ l₆. alloc1 ! (λ l₇.
           alloc1 ! (λ l₈. alloc1 ! (λ l₉. alloc1 ! (λ l₁₀. alloc1 ! (λ l₁₁. alloc0 ! $ params1 ! $
           pass1 ! (init ! 20 refl (laws.lawful polygon.the-type polygon-laws.the-laws 𝓤 H A W .typed old _ old-is .0)) $
           pass1 ! (init ! 18 refl (tt, (tt, (record { fits = room .0 }, tt)))) $ pass0 ! $ move ! (24 ∷ 25 ∷ []) $
@@ -126,38 +136,53 @@ module _ {M : Type 1} (𝓤 : URA M) (H : Heap 𝓤) (A : Atoms 𝓤) (W : Given
           let to-eight = asks.to-eight 𝓤 H A mem run W κ q x old a0 a1 a2 a3 a4 a5 a6 a7 in
           let answered = asks.answered 𝓤 H A mem run W κ q x old a0 a1 a2 a3 a4 a5 a6 a7 in
           -- the length, then the builder
-          assigns ! (of-opd ! (load ! (from ! (fld ! refl (stop !))) (look-in ! 20 (sub ! 1 refl (whole !))))) (from ! (stop !))
+          assigns ! (of-opd ! (load ! (from ! (fld ! refl (stop !))) (look-in ! 20 (sub ! 1 refl (whole !)))))
+          (from ! (stop !))
           (init ! 2 refl (tt, record { fits = room .0 })) $
-          owned ! polygon.the-row (Is polygon.the-row) ((laws.makes polygon.the-type polygon-laws.the-plain) 𝓤 H A) old _ old-is $
-          use1 W (raw (EightPoints .pre to-eight)) (asks.goes-eight 𝓤 H A mem run W κ q x old a0 a1 a2 a3 a4 a5 a6 a7 (room .0)) $
+          owned ! polygon.the-row (Is polygon.the-row) ((laws.makes polygon.the-type polygon-laws.the-plain) 𝓤 H A)
+          old _ old-is $
+          use1 W (raw (EightPoints .pre to-eight)) (asks.goes-eight 𝓤 H A mem run W κ q x old a0 a1 a2 a3 a4 a5 a6 a7
+          (room .0)) $
           calls-at ! fm EightPoints known-eight to-eight
-          (and-then ! (load ! (from ! (stop !)) (look ! 23 refl)) (and-then ! (load ! (from ! (stop !)) (look ! 19 refl))
-          (and-then ! (load ! (from ! (stop !)) (look ! 17 refl)) (and-then ! (load ! (from ! (stop !)) (look ! 15 refl))
-          (and-then ! (load ! (from ! (stop !)) (look ! 13 refl)) (and-then ! (load ! (from ! (stop !)) (look ! 11 refl))
+          (and-then ! (load ! (from ! (stop !)) (look ! 23 refl))
+          (and-then ! (load ! (from ! (stop !)) (look ! 19 refl))
+          (and-then ! (load ! (from ! (stop !)) (look ! 17 refl))
+          (and-then ! (load ! (from ! (stop !)) (look ! 15 refl))
+          (and-then ! (load ! (from ! (stop !)) (look ! 13 refl))
+          (and-then ! (load ! (from ! (stop !)) (look ! 11 refl))
           (and-then ! (load ! (from ! (stop !)) (look ! 9 refl)) (and-then ! (load ! (from ! (stop !)) (look ! 7 refl))
           (and-then ! (load ! (from ! (stop !)) (look ! 5 refl))
           (and-then ! (load ! (from ! (stop !)) (look ! 3 refl)) (no-more !))))))))))) (λ u.
-          use1 W (later (some (asks.Built 𝓤 H A mem run W κ q x old a0 a1 a2 a3 a4 a5 a6 a7 u))) (id⊢ 𝓤 _) $ await ! tt $
+          use1 W (later (some (asks.Built 𝓤 H A mem run W κ q x old a0 a1 a2 a3 a4 a5 a6 a7 u))) (id⊢ 𝓤 _) $
+          await ! tt $
           pick ! (λ r. split ! $ move ! (1 ∷ []) $
           use1 W (raw (fact 𝓤 (r ≡ answered))) (asks.built 𝓤 H A mem run W κ q x old a0 a1 a2 a3 a4 a5 a6 a7 r) $
           heard ! (r ≡ answered) (λ r-is. split ! $ drop ! $
           peeks ! answer.the-row (Is answer.the-row) (shows 𝓤 H A answer.the-row) r (u ∷ []) (λ answer-is.
-          land ! (from ! (stop !)) (init ! 25 refl (laws.lawful answer.the-type answer-laws.the-laws 𝓤 H A W .typed r _ answer-is .0)) $
-          returns ! (look ! 25 refl) $ forget ! 3 refl $ forget ! 5 refl $ forget ! 7 refl $ forget ! 9 refl $ forget ! 11 refl $
-          forget ! 13 refl $ forget ! 15 refl $ forget ! 17 refl $ forget ! 19 refl $ forget ! 21 refl $ forget ! 23 refl $
+          land ! (from ! (stop !)) (init ! 25 refl (laws.lawful answer.the-type answer-laws.the-laws 𝓤 H A W .typed r
+          _ answer-is .0)) $
+          returns ! (look ! 25 refl) $ forget ! 3 refl $ forget ! 5 refl $ forget ! 7 refl $ forget ! 9 refl $
+          forget ! 11 refl $
+          forget ! 13 refl $ forget ! 15 refl $ forget ! 17 refl $ forget ! 19 refl $ forget ! 21 refl $
+          forget ! 23 refl $
           forget ! 25 refl $
-          move ! (25 ∷ 26 ∷ []) $ free1 ! $ move ! (23 ∷ 24 ∷ []) $ free1 ! $ move ! (21 ∷ 22 ∷ []) $ free1 ! $ move ! (19 ∷ 20 ∷ []) $
+          move ! (25 ∷ 26 ∷ []) $ free1 ! $ move ! (23 ∷ 24 ∷ []) $ free1 ! $ move ! (21 ∷ 22 ∷ []) $ free1 ! $
+          move ! (19 ∷ 20 ∷ []) $
           free1 ! $
-          move ! (17 ∷ 18 ∷ []) $ free1 ! $ move ! (15 ∷ 16 ∷ []) $ free1 ! $ move ! (13 ∷ 14 ∷ []) $ free1 ! $ move ! (11 ∷ 12 ∷ []) $
+          move ! (17 ∷ 18 ∷ []) $ free1 ! $ move ! (15 ∷ 16 ∷ []) $ free1 ! $ move ! (13 ∷ 14 ∷ []) $ free1 ! $
+          move ! (11 ∷ 12 ∷ []) $
           free1 ! $
-          move ! (9 ∷ 10 ∷ []) $ free1 ! $ move ! (7 ∷ 8 ∷ []) $ free1 ! $ move ! (5 ∷ 6 ∷ []) $ free1 ! $ move ! (3 ∷ 4 ∷ []) $ free1 ! $
+          move ! (9 ∷ 10 ∷ []) $ free1 ! $ move ! (7 ∷ 8 ∷ []) $ free1 ! $ move ! (5 ∷ 6 ∷ []) $ free1 ! $
+          move ! (3 ∷ 4 ∷ []) $ free1 ! $
           free0 ! $
           keep ! (0 ∷ 1 ∷ 2 ∷ []) $
           by !
-          (exits r u (lent-is old (now x) _ _ _ _ _ _ _ _ r a0-is a1-is a2-is a3-is a4-is a5-is a6-is a7-is r-is) old-is)
+          (exits r u (lent-is old (now x) _ _ _ _ _ _ _ _ r a0-is a1-is a2-is a3-is a4-is a5-is a6-is a7-is r-is)
+          old-is)
           )))))))))))))))))))))))))
 
-  module _ (C : Calls 𝓤 H) (Λ : Loops 𝓤 H) (fm : FmC 𝓤 H (W .laws) C) (known : Triple 𝓤 (C point-or) (asks.Point 𝓤 H A mem run))
+  module _ (C : Calls 𝓤 H) (Λ : Loops 𝓤 H) (fm : FmC 𝓤 H (W .laws) C)
+      (known : Triple 𝓤 (C point-or) (asks.Point 𝓤 H A mem run))
       (known-eight : Triple 𝓤 (C set-of-eight) (asks.EightPoints 𝓤 H A mem run)) where
     walks : Walks 𝓤 H A f.ended stayed (WpFn 𝓤 H C Λ code.function) (f.clauses 𝓤 H A mem run)
     walks =
@@ -167,7 +192,8 @@ module _ {M : Type 1} (𝓤 : URA M) (H : Heap 𝓤) (A : Atoms 𝓤) (W : Given
         (λ κs qs bounds a g are. via 𝓤 _ (fst∗ 𝓤 _ (emp 𝓤))
         (walk (κs .0) (qs .0) (a .0) (a .1 .0) C Λ fm known known-eight (are .1 .0 .0 .1)))
 
-  meets : (𝓣 : Tables 𝓤 H) → Triple 𝓤 (𝓣 .C point-or) (asks.Point 𝓤 H A mem run) → Triple 𝓤 (𝓣 .C set-of-eight) (asks.EightPoints 𝓤 H A mem run)
+  meets : (𝓣 : Tables 𝓤 H) → Triple 𝓤 (𝓣 .C point-or) (asks.Point 𝓤 H A mem run)
+      → Triple 𝓤 (𝓣 .C set-of-eight) (asks.EightPoints 𝓤 H A mem run)
       → Meets 𝓤 H A f.signature (WpFn 𝓤 H (𝓣 .C) (𝓣 .Λ) code.function) (f.spec 𝓤 H A mem run)
   meets 𝓣 known known-eight =
       walk-meets 𝓤 H A f.ended stayed W (
@@ -183,7 +209,8 @@ b2-polygon-shape-set-spec 𝓤 H 𝓜 𝓖 𝓡 =
     entered 𝓤 H (tripleOf 𝓤 H (𝓖 .A) f.signature (f.spec 𝓤 H (𝓖 .A) (𝓜 .mem) (𝓡 .run))) (tables 𝓤 H 𝓜 𝓡 code.env .C)
     (tables 𝓤 H 𝓜 𝓡 code.env .Λ) set-of-slice code.function (code.unfolded 𝓤 H 𝓜 𝓡)
     (meets 𝓤 H (𝓖 .A) (givenOf 𝓤 H 𝓜 𝓖) (𝓜 .mem) (𝓡 .run) (tablesOf 𝓤 H 𝓜 (tables 𝓤 H 𝓜 𝓡 code.env))
-    (cited 𝓤 H (asks.Point 𝓤 H (𝓖 .A) (𝓜 .mem) (𝓡 .run)) 𝓜 𝓡 code.env point-or point-def.routine code.calls-shapes·b2-polygon-shape·point-or
+    (cited 𝓤 H (asks.Point 𝓤 H (𝓖 .A) (𝓜 .mem) (𝓡 .run)) 𝓜 𝓡 code.env point-or point-def.routine
+    code.calls-shapes·b2-polygon-shape·point-or
     (point-thm.met 𝓤 H 𝓜 𝓖 𝓡))
     (cited 𝓤 H (asks.EightPoints 𝓤 H (𝓖 .A) (𝓜 .mem) (𝓡 .run)) 𝓜 𝓡 code.env set-of-eight eight-def.routine
     code.calls-shapes·b2-polygon-shape·set-of-eight (eight-thm.met 𝓤 H 𝓜 𝓖 𝓡)))

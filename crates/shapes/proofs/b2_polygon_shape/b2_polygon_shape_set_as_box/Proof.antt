@@ -37,7 +37,8 @@ returns-2 c =
     let args = tests .before .before .args in
     let both = tests .before .coordinate-in-range .result && tests .coordinate-in-range2 .result in
     simp (c .put-four2 .ensures, c .before .put-four .ensures)
-    (chosen (coordinate-in-range (args .hx) && coordinate-in-range (args .hy)) both _ _ (not-false both (accepted .if1 .left))
+    (chosen (coordinate-in-range (args .hx) && coordinate-in-range (args .hy)) both _ _
+    (not-false both (accepted .if1 .left))
     (simp (tests .coordinate-in-range2 .ensures, tests .before .coordinate-in-range .ensures)))
 
 pub b2-polygon-shape-set-as-box-spec : {M : Type 1} → statement M

@@ -24,8 +24,13 @@ unfolding b2-polygon-shape-set-as-box-angle
 returns c =
     let tests = c .before in
     let args = tests .before .before .before .args in
-    chosen (not (coordinate-in-range (args .hx) && coordinate-in-range (args .hy) && point-in-range (args .center))) _ _ _ (c .if1 .taken)
-    (simp (tests .point-in-range .ensures, tests .before .coordinate-in-range2 .ensures, tests .before .before .coordinate-in-range .ensures))
+    chosen (not (coordinate-in-range (args .hx) && coordinate-in-range (args .hy) && point-in-range (args .center))) _
+    _ _ (c .if1 .taken)
+    (simp (
+      tests .point-in-range .ensures,
+      tests .before .coordinate-in-range2 .ensures,
+      tests .before .before .coordinate-in-range .ensures,
+    ))
 
 rotation-in-range-requires : tie.Need-rotation-in-range-requires
 rotation-in-range-requires c κs = search needs
@@ -38,9 +43,14 @@ returns-2 c =
     let tests = shape .before in
     let args = tests .before .before .before .args in
     chosen (not (rotation-in-range (args .q))) _ _ _ (c .if2 .taken) (simp (rotation .rotation-in-range .ensures))
-    ∙ unchosen (not (coordinate-in-range (args .hx) && coordinate-in-range (args .hy) && point-in-range (args .center))) _ _ _
+    ∙ unchosen (not (coordinate-in-range (args .hx) && coordinate-in-range (args .hy)
+    && point-in-range (args .center))) _ _ _
     (shape .if1 .left)
-    (simp (tests .point-in-range .ensures, tests .before .coordinate-in-range2 .ensures, tests .before .before .coordinate-in-range .ensures))
+    (simp (
+      tests .point-in-range .ensures,
+      tests .before .coordinate-in-range2 .ensures,
+      tests .before .before .coordinate-in-range .ensures,
+    ))
 
 b2-mul-transform-by-vec2-requires : tie.Need-b2-mul-transform-by-vec2-requires
 b2-mul-transform-by-vec2-requires c κs = search needs
@@ -101,10 +111,16 @@ returns-3 c =
       vertex2 .b2-mul-transform-by-vec22 .ensures,
       vertex1 .b2-mul-transform-by-vec2 .ensures,
     )
-    (unchosen (not (rotation-in-range (args .q))) _ _ _ (placed .if2 .left) (simp (rotation .rotation-in-range .ensures))
-    ∙ unchosen (not (coordinate-in-range (args .hx) && coordinate-in-range (args .hy) && point-in-range (args .center))) _ _ _
+    (unchosen (not (rotation-in-range (args .q))) _ _ _ (placed .if2 .left)
+    (simp (rotation .rotation-in-range .ensures))
+    ∙ unchosen (not (coordinate-in-range (args .hx) && coordinate-in-range (args .hy)
+    && point-in-range (args .center))) _ _ _
     (shape .if1 .left)
-    (simp (tests .point-in-range .ensures, tests .before .coordinate-in-range2 .ensures, tests .before .before .coordinate-in-range .ensures)))
+    (simp (
+      tests .point-in-range .ensures,
+      tests .before .coordinate-in-range2 .ensures,
+      tests .before .before .coordinate-in-range .ensures,
+    )))
 
 pub b2-polygon-shape-set-as-box-angle-spec : {M : Type 1} → statement M
 b2-polygon-shape-set-as-box-angle-spec =

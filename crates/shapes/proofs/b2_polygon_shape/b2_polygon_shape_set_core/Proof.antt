@@ -25,9 +25,11 @@ use Rattle.shapes.proofs.b2_polygon_shape.b2_polygon_shape_set_core.Tie
 abbrev first-of : tie.After-in-range → tie.Start
 first-of i = i .before .before .before .before .before
 
-inside-is : (i : tie.After-in-range) → all-points point-in-range (take (first-of i .args .count) (first-of i .args .points)) ≡ i .in-range .result
+inside-is : (i : tie.After-in-range)
+    → all-points point-in-range (take (first-of i .args .count) (first-of i .args .points)) ≡ i .in-range .result
 inside-is i =
-    ap (λ (l : List B2vec2). all-points point-in-range (take (first-of i .args .count) l)) (sym (i .before .before .coordinates .ensures .1))
+    ap (λ (l : List B2vec2). all-points point-in-range (take (first-of i .args .count) l))
+    (sym (i .before .before .coordinates .ensures .1))
     ∙ sym (i .in-range .ensures)
 
 -- ---- after welding
@@ -37,7 +39,8 @@ start-of d = d .before .before .before .before .before .before .before .before .
 abbrev kept : tie.After-weld → List B2vec2
 kept d = points-in (d .weld .last .1 .1 .0)
 
-at-weld : (d : tie.After-weld) → AfterWeld (start-of d .args .old) (start-of d .args .points) (start-of d .args .count) (d .weld .result) (kept d)
+at-weld : (d : tie.After-weld) → AfterWeld (start-of d .args .old) (start-of d .args .points)
+    (start-of d .args .count) (d .weld .result) (kept d)
 at-weld d =
     let inside = d .before .before .before .before in
     let given = inside .before .before in
@@ -60,11 +63,13 @@ walked : (w : tie.After-walk)
 walked w =
     let d = weld-of w in
     let ps = take (d .weld .result) (kept d) in
-    subst (λ (old : List B2vec2). WalkResult ps old (row ps) (w .walk .result) (corners w)) (w .before .before .before .coordinates2 .ensures .1)
+    subst (λ (old : List B2vec2). WalkResult ps old (row ps) (w .walk .result) (corners w))
+    (w .before .before .before .coordinates2 .ensures .1)
     (w .walk .ensures .2)
 
 at-walk : (w : tie.After-walk) → 3 ≤ w .walk .result
-    → AfterWalk (start-of (weld-of w) .args .old) (start-of (weld-of w) .args .points) (start-of (weld-of w) .args .count) (w .walk .result) (corners w)
+    → AfterWalk (start-of (weld-of w) .args .old) (start-of (weld-of w) .args .points)
+    (start-of (weld-of w) .args .count) (w .walk .result) (corners w)
 at-walk w closed =
     let enough = w .before .before .before .before .before .before .before in
     after-walk _ _ _ _ _ (at-weld (weld-of w)) (enough .if4 .left) _ _ (walked w) closed
@@ -85,8 +90,10 @@ faces f = points-in (f .normals .last .1 .1 .0)
 faced : (f : tie.After-normals) (t : Bool) → f .normals .result ≡ t
     → NormalsResult (edges (row-of f)) (old-of f .«m_normals») (long-enough (edges (row-of f))) t (faces f)
 faced f t answer =
-    subst (λ (u : Bool). NormalsResult (edges (row-of f)) (old-of f .«m_normals») (long-enough (edges (row-of f))) u (faces f)) answer
-    (subst (λ (old : List B2vec2). NormalsResult (edges (row-of f)) old (long-enough (edges (row-of f))) (f .normals .result) (faces f))
+    subst (λ (u : Bool). NormalsResult (edges (row-of f)) (old-of f .«m_normals») (long-enough (edges (row-of f))) u
+    (faces f)) answer
+    (subst (λ (old : List B2vec2). NormalsResult (edges (row-of f)) old (long-enough (edges (row-of f)))
+    (f .normals .result) (faces f))
     (f .before .before .before .coordinates3 .ensures .1) (f .normals .ensures .1))
 
 known : (f : tie.After-normals)
@@ -134,8 +141,13 @@ walk-requires c κs =
     let start = vertices .before .before in
     let d = start .before .before .before in
     let fewer = d .weld .ensures .0 in
-    let not-more = d .before .before .before .before .before .before .before .if2 .left in
-    (omega arith, start .start .ensures .0, start .start .ensures .1, d .weld .ensures .1, vertices .coordinates2 .ensures .0)
+    let not-more = d .before .before .before .before .before .before .before .if2 .left in (
+      omega arith,
+      start .start .ensures .0,
+      start .start .ensures .1,
+      d .weld .ensures .1,
+      vertices .coordinates2 .ensures .0,
+    )
 
 returns-5 : tie.Need-returns-5
 returns-5 c =
@@ -170,7 +182,8 @@ b2-add-requires c κs = search needs
 
 points-requires : tie.Need-points-requires
 points-requires c κs =
-    c .before .before .before .before .before .before .before .before .before .before .before .before .before .before .before .before .before
+    c .before .before .before .before .before .before .before .before .before .before .before .before .before .before
+    .before .before .before
     .walk .ensures .1
 
 points-requires-2 : tie.Need-points-requires-2
@@ -186,7 +199,8 @@ returns-7 c =
     let w = walk-of f in
     let walked = known f in
     let closed = f .before .before .before .before .before .if5 .left in
-    let long = long-edges (edges (row-of f)) _ (faces f) _ (faced f true (not-false _ (fan .before .before .if6 .left))) in
+    let long = long-edges (edges (row-of f)) _ (faces f) _
+    (faced f true (not-false _ (fan .before .before .if6 .left))) in
     outline-built (old-of f) (row-of f) _ (long .0) (fan .fan .ensures) _ _ _ _ _ _ (s .before .before .if7 .taken)
     (vertices .points .ensures ∙ walked .corners-over) (c .points2 .ensures ∙ long .1) (sym (walked .corners-length))
     (centroid .before .b2-scale .ensures) (centroid .b2-add .ensures)
@@ -197,7 +211,8 @@ returns-8 : tie.Need-returns-8
 returns-8 c =
     let fan = c .before .before in
     let f = fan .before .before .before in
-    let long = long-edges (edges (row-of f)) _ (faces f) _ (faced f true (not-false _ (fan .before .before .if6 .left))) in
+    let long = long-edges (edges (row-of f)) _ (faces f) _
+    (faced f true (not-false _ (fan .before .before .if6 .left))) in
     area-too-small (old-of f) (row-of f) _ (long .0) (fan .fan .ensures) (c .if7 .left) ∙ known f .corners-so
 
 pub b2-polygon-shape-set-core-spec : {M : Type 1} → statement M

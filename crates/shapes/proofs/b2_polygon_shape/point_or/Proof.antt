@@ -66,7 +66,8 @@ value p = laws.val vec.the-type vec-laws.the-laws p
 origin-is : Is vec.the-row origin (value origin ∷ [])
 origin-is = laws.owes vec.the-type vec-laws.the-laws origin ((refl, zero-fits), ((refl, zero-fits), tt))
 
-module _ {M : Type 1} (𝓤 : URA M) (H : Heap 𝓤) (A : Atoms 𝓤) (W : Given 𝓤 H A) (mem : Memory → SProp 𝓤) (run : Routine → Fun 𝓤) where
+module _ {M : Type 1} (𝓤 : URA M) (H : Heap 𝓤) (A : Atoms 𝓤) (W : Given 𝓤 H A) (mem : Memory → SProp 𝓤) (run : Routine
+    → Fun 𝓤) where
   module _ (κ : Lft) (q : Share) (b o : ℕ) (γ : GName) (points : List B2vec2) (i : ℕ) where
     abbrev x : RefT (List B2vec2) × (ℕ × Unit {0})
     x = (record { ptr = (b, o); name = γ; now = points }, (i, tt))
@@ -90,16 +91,19 @@ module _ {M : Type 1} (𝓤 : URA M) (H : Heap 𝓤) (A : Atoms 𝓤) (W : Given
         → ent 𝓤 (⋆ 𝓤 H A (‵ (flft κ q) ∷ ‵ Slice ∷ ‵ Place ∷ [])) (Post (value r))
     exits r r-is is =
         qed W (‵ (flft κ q) ∷ ‵ Slice ∷ ‵ Place ∷ []) ∵ suffices ! _
-        (ends-at 𝓤 H A f.ended stayed (f.clauses 𝓤 H A mem run) W (((κ, tt), (q, tt), tt, x, at), tt) (value r) r (tt, (tt, tt))
+        (ends-at 𝓤 H A f.ended stayed (f.clauses 𝓤 H A mem run) W (((κ, tt), (q, tt), tt, x, at), tt) (value r) r
+        (tt, (tt, tt))
         (tt, (tt, tt))) $
-        says ! r-is $ nothing ! $ move ! (1 ∷ 0 ∷ []) $ join ! $ nothing ! $ move ! (3 ∷ 0 ∷ []) $ fjoin ! $ move ! (2 ∷ 0 ∷ []) $ fjoin ! $
+        says ! r-is $ nothing ! $ move ! (1 ∷ 0 ∷ []) $ join ! $ nothing ! $ move ! (3 ∷ 0 ∷ []) $ fjoin ! $
+        move ! (2 ∷ 0 ∷ []) $ fjoin ! $
         move ! (1 ∷ 0 ∷ []) $ frame ! $ frame ! $
         owned ! vec.the-row (Is vec.the-row) ((laws.makes vec.the-type vec-laws.the-plain) 𝓤 H A) r _ is $ done !
 
     module _ (C : Calls 𝓤 H) (Λ : Loops 𝓤 H) where
       -- eight locals; local n stands at 2 (7 - n), with its fact after it
       walk : Room vec.the-row (length points) → i < 2 ^ 64
-          → ent 𝓤 (onEntry 𝓤 H A f.signature (κ, tt) (q, tt) x at) (WpFn 𝓤 H C Λ code.function (slice ∷ vint w64 i ∷ []) Post)
+          → ent 𝓤 (onEntry 𝓤 H A f.signature (κ, tt) (q, tt) x at)
+          (WpFn 𝓤 H C Λ code.function (slice ∷ vint w64 i ∷ []) Post)
       walk room i-fits =
           qed W ((‵ (flft κ q) ⊛ ‵ ftrue) ∷ ‵ (owns (ShrSlice (named 0) κ vec.the-row ∷ usize ∷ []) x at) ∷ []) ∵
           enter ! C Λ code.function (slice ∷ vint w64 i ∷ []) _ $
@@ -109,9 +113,11 @@ module _ {M : Type 1} (𝓤 : URA M) (H : Heap 𝓤) (A : Atoms 𝓤) (W : Given
           pass1 ! (init ! 10 refl (tt, record { fits = i-fits })) $
           pass0 ! $
           -- the test of i against the length
-          assigns ! (of-opd ! (load ! (from ! (fld ! refl (stop !))) (look-in ! 12 (sub ! 1 refl (whole !))))) (from ! (stop !))
+          assigns ! (of-opd ! (load ! (from ! (fld ! refl (stop !))) (look-in ! 12 (sub ! 1 refl (whole !)))))
+          (from ! (stop !))
           (init ! 8 refl (tt, record { fits = room .0 })) $
-          assigns ! (bin ! (load ! (from ! (stop !)) (look ! 10 refl)) (load ! (from ! (stop !)) (look ! 8 refl)) tt) (from ! (stop !))
+          assigns ! (bin ! (load ! (from ! (stop !)) (look ! 10 refl)) (load ! (from ! (stop !)) (look ! 8 refl)) tt)
+          (from ! (stop !))
           (init ! 6 refl (tt, tt)) $
           first ! $ branches ! (load ! (from ! (stop !)) (look ! 6 refl))
           (λ test.
@@ -119,30 +125,39 @@ module _ {M : Type 1} (𝓤 : URA M) (H : Heap 𝓤) (A : Atoms 𝓤) (W : Given
           let scaled = scaled-fits i (length points) 8 within (room .1) in
           let typed = laws.lawful vec.the-type vec-laws.the-laws 𝓤 H A W .typed (point-at points i) _ in
           -- where the element stands
-          assigns ! (bin ! (load ! (from ! (stop !)) (look ! 10 refl)) (lit ! tt) scaled) (from ! (stop !)) (init ! 4 refl (tt, scaled)) $
+          assigns ! (bin ! (load ! (from ! (stop !)) (look ! 10 refl)) (lit ! tt) scaled) (from ! (stop !))
+          (init ! 4 refl (tt, scaled)) $
           assigns ! (bin ! (load ! (from ! (fld ! refl (stop !))) (look-in ! 12 (sub ! 0 refl (whole !))))
           (load ! (from ! (stop !)) (look ! 4 refl)) tt)
           (from ! (stop !)) (init ! 2 refl (tt, tt)) $
           rewrite ! 2 (λ (p : ℕ). ‵ (fat fullShare tyPtr l₆ 0 (vptr b p))) (sym (place-is 8 o i)) refl $
-          move ! (17 ∷ []) $ fsplit ! $ fsplit ! $ move ! (1 ∷ []) $ fsplit ! $ move ! (20 ∷ []) $ split ! $ move ! (3 ∷ 0 ∷ []) $
-          looks-slice ! tt vec.the-row (Is vec.the-row) (shows 𝓤 H A vec.the-row) (laws.vals vec.the-type vec-laws.the-laws)
-          (laws.tells vec.the-type vec-laws.the-laws) ((laws.copy vec.the-type vec-laws.the-copy) 𝓤 H A W) points b o (λ part.
+          move ! (17 ∷ []) $ fsplit ! $ fsplit ! $ move ! (1 ∷ []) $ fsplit ! $ move ! (20 ∷ []) $ split ! $
+          move ! (3 ∷ 0 ∷ []) $
+          looks-slice ! tt vec.the-row (Is vec.the-row) (shows 𝓤 H A vec.the-row)
+          (laws.vals vec.the-type vec-laws.the-laws)
+          (laws.tells vec.the-type vec-laws.the-laws) ((laws.copy vec.the-type vec-laws.the-copy) 𝓤 H A W) points b o
+          (λ part.
           elem-out ! vec.the-row (Is vec.the-row) (shows 𝓤 H A vec.the-row) (laws.vals vec.the-type vec-laws.the-laws)
           (laws.tells vec.the-type vec-laws.the-laws) part points i origin b o within (λ is.
           -- the element is in front: it is read, through local 7, into the answer, and put back
           assigns ! (of-opd ! (load ! (from ! (hop ! (look ! 11 refl) (stop !))) (look-raw ! 0 refl))) (from ! (stop !))
           (init ! 9 refl (typed is .0)) $
-          assigns ! (of-opd ! (load ! (from ! (stop !)) (look ! 9 refl))) (from ! (stop !)) (init ! 23 refl (typed is .0)) $
+          assigns ! (of-opd ! (load ! (from ! (stop !)) (look ! 9 refl))) (from ! (stop !))
+          (init ! 23 refl (typed is .0)) $
           elem-back ! vec.the-row part points i origin (value (point-at points i) ∷ []) b o within $
           shuts-slice ! tt vec.the-row part points b o $
           returns-within ! Post refl (look ! 20 refl) $
-          forget ! 6 refl $ forget ! 8 refl $ forget ! 10 refl $ forget ! 12 refl $ forget ! 14 refl $ forget ! 16 refl $
+          forget ! 6 refl $ forget ! 8 refl $ forget ! 10 refl $ forget ! 12 refl $ forget ! 14 refl $
+          forget ! 16 refl $
           forget ! 18 refl $ forget ! 20 refl $
-          move ! (20 ∷ 21 ∷ []) $ free1 ! $ move ! (18 ∷ 19 ∷ []) $ free1 ! $ move ! (16 ∷ 17 ∷ []) $ free1 ! $ move ! (14 ∷ 15 ∷ []) $
+          move ! (20 ∷ 21 ∷ []) $ free1 ! $ move ! (18 ∷ 19 ∷ []) $ free1 ! $ move ! (16 ∷ 17 ∷ []) $ free1 ! $
+          move ! (14 ∷ 15 ∷ []) $
           free1 ! $
-          move ! (12 ∷ 13 ∷ []) $ free1 ! $ move ! (10 ∷ 11 ∷ []) $ free1 ! $ move ! (8 ∷ 9 ∷ []) $ free1 ! $ move ! (6 ∷ 7 ∷ []) $
+          move ! (12 ∷ 13 ∷ []) $ free1 ! $ move ! (10 ∷ 11 ∷ []) $ free1 ! $ move ! (8 ∷ 9 ∷ []) $ free1 ! $
+          move ! (6 ∷ 7 ∷ []) $
           free1 ! $ free0 ! $
-          move ! (3 ∷ 1 ∷ []) $ fjoin ! $ move ! (3 ∷ 0 ∷ []) $ fjoin ! $ move ! (3 ∷ []) $ fsplit ! $ keep ! (3 ∷ 2 ∷ 0 ∷ []) $
+          move ! (3 ∷ 1 ∷ []) $ fjoin ! $ move ! (3 ∷ 0 ∷ []) $ fjoin ! $ move ! (3 ∷ []) $ fsplit ! $
+          keep ! (3 ∷ 2 ∷ 0 ∷ []) $
           by ! (exits (point-at points i) refl is))))
           (λ test.
           let past = List·getD-eq-default points origin (nltb→le i (length points) test) in
@@ -151,24 +166,32 @@ module _ {M : Type 1} (𝓤 : URA M) (H : Heap 𝓤) (A : Atoms 𝓤) (W : Given
           (init ! 14 refl typed) $
           returns-within ! Post refl (look ! 14 refl) $
           forget ! 6 refl $ forget ! 8 refl $ forget ! 10 refl $ forget ! 12 refl $ forget ! 14 refl $
-          move ! (14 ∷ 15 ∷ []) $ free1 ! $ move ! (12 ∷ 13 ∷ []) $ free1 ! $ move ! (10 ∷ 11 ∷ []) $ free1 ! $ move ! (8 ∷ 9 ∷ []) $
+          move ! (14 ∷ 15 ∷ []) $ free1 ! $ move ! (12 ∷ 13 ∷ []) $ free1 ! $ move ! (10 ∷ 11 ∷ []) $ free1 ! $
+          move ! (8 ∷ 9 ∷ []) $
           free1 ! $
-          move ! (6 ∷ 7 ∷ []) $ free1 ! $ move ! (4 ∷ 5 ∷ []) $ free1 ! $ move ! (2 ∷ 3 ∷ []) $ free1 ! $ free1 ! $ free0 ! $
+          move ! (6 ∷ 7 ∷ []) $ free1 ! $ move ! (4 ∷ 5 ∷ []) $ free1 ! $ move ! (2 ∷ 3 ∷ []) $ free1 ! $ free1 ! $
+          free0 ! $
           split ! $ move ! (2 ∷ []) $ fsplit ! $ move ! (1 ∷ []) $ fsplit ! $ keep ! (3 ∷ 2 ∷ 0 ∷ []) $
           by ! (exits origin (sym past) origin-is))))))))))
 
-  walks : (C : Calls 𝓤 H) (Λ : Loops 𝓤 H) → Walks 𝓤 H A f.ended stayed (WpFn 𝓤 H C Λ code.function) (f.clauses 𝓤 H A mem run)
+  walks : (C : Calls 𝓤 H) (Λ : Loops 𝓤 H) → Walks 𝓤 H A f.ended stayed (WpFn 𝓤 H C Λ code.function)
+      (f.clauses 𝓤 H A mem run)
   walks C Λ =
-      walked 𝓤 H A f.ended stayed (f.clauses 𝓤 H A mem run) (WpFn 𝓤 H C Λ code.function) (λ κs. (slice-vals, (uint-vals w64, tt)))
+      walked 𝓤 H A f.ended stayed (f.clauses 𝓤 H A mem run) (WpFn 𝓤 H C Λ code.function)
+      (λ κs. (slice-vals, (uint-vals w64, tt)))
       (λ κs. (shr-slice-tells (named 0) (κs .0) vec.the-row, (uint-tells w64, tt)))
       (λ κs qs bounds a g are. via 𝓤 _ (fst∗ 𝓤 _ (emp 𝓤))
-      (walk (κs .0) (qs .0) (a .0 .ptr .0) (a .0 .ptr .1) (a .0 .name) (a .0 .now) (a .1 .0) C Λ (are .0 .0 .1) (are .1 .0 .1)))
+      (walk (κs .0) (qs .0) (a .0 .ptr .0) (a .0 .ptr .1) (a .0 .name) (a .0 .now) (a .1 .0) C Λ (are .0 .0 .1)
+      (are .1 .0 .1)))
 
   meets : (𝓣 : Tables 𝓤 H) → Meets 𝓤 H A f.signature (WpFn 𝓤 H (𝓣 .C) (𝓣 .Λ) code.function) (f.spec 𝓤 H A mem run)
   meets 𝓣 =
-      walk-meets 𝓤 H A f.ended stayed W
-      (goes-none-slice 𝓤 H A W 1 (0 ∷ []) tt (plain (λ _. vec.the-row)) yes, (goes-none 𝓤 H A W 1 (λ _. usize) yes (λ κs x f. refl), tt))
-      (f.clauses 𝓤 H A mem run) (WpFn 𝓤 H (𝓣 .C) (𝓣 .Λ) code.function) (WpFn-mono 𝓤 H (W .laws) 𝓣 code.function) (walks (𝓣 .C) (𝓣 .Λ))
+      walk-meets 𝓤 H A f.ended stayed W (
+        goes-none-slice 𝓤 H A W 1 (0 ∷ []) tt (plain (λ _. vec.the-row)) yes,
+        (goes-none 𝓤 H A W 1 (λ _. usize) yes (λ κs x f. refl), tt),
+      )
+      (f.clauses 𝓤 H A mem run) (WpFn 𝓤 H (𝓣 .C) (𝓣 .Λ) code.function) (WpFn-mono 𝓤 H (W .laws) 𝓣 code.function)
+      (walks (𝓣 .C) (𝓣 .Λ))
 
 pub point-or-spec : {M : Type 1} → stated.statement M
 unfolding code.routine tablesOf

@@ -44,7 +44,8 @@ returns c =
     let args = both .before .args in
     let fails = not-true _ (sym (c .before .some-right .ensures) ∙ c .if1 .taken) in
     sym (faces-failed _ (args .count) (loop .loop .i) (args .count) (omega arith) fails)
-    ∙ joined-faces (args .vs) _ _ (args .count) (both .split-coordinates .ensures .0) (both .split-coordinates .ensures .1)
+    ∙ joined-faces (args .vs) _ _ (args .count) (both .split-coordinates .ensures .0)
+    (both .split-coordinates .ensures .1)
 
 add-i : tie.Need-add-i Inv-loop μ-loop
 add-i c = search needs
@@ -55,8 +56,12 @@ loop-less c = search needs
 loop-again : tie.Need-loop-again Inv-loop μ-loop
 loop-again c =
     let loop = c .before .before .before .before .before in
-    let count = loop .before .before .before .before .args .count in
-    (omega arith, omega arith, faces-next _ count (loop .loop .i) _ (c .before .some-right .ensures) (c .if1 .left) (loop .loop .inv .2))
+    let count = loop .before .before .before .before .args .count in (
+      omega arith,
+      omega arith,
+      faces-next _ count (loop .loop .i) _ (c .before .some-right .ensures) (c .if1 .left)
+          (loop .loop .inv .2),
+    )
 
 returns-2 : tie.Need-returns-2 Inv-loop μ-loop
 returns-2 c =
@@ -65,7 +70,8 @@ returns-2 c =
     let args = both .before .args in
     let all : loop .loop .i ≡ args .count = omega arith in
     sym (loop .loop .inv .2) ∙ ap (faces-convex _ (args .count)) all
-    ∙ joined-faces (args .vs) _ _ (args .count) (both .split-coordinates .ensures .0) (both .split-coordinates .ensures .1)
+    ∙ joined-faces (args .vs) _ _ (args .count) (both .split-coordinates .ensures .0)
+    (both .split-coordinates .ensures .1)
 
 pub faces-convex-spec : {M : Type 1} → statement M
 faces-convex-spec =

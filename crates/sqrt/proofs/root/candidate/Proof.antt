@@ -24,7 +24,8 @@ steps-fit k t b-fits c-fits d-fits t-small =
     let of-b = product-le (k .b + (k .c + k .d * t / 2 ^ 24) * t / 2 ^ 24) t (omega arith) t-small in
     record { of-d = of-d; of-c = of-c; of-b = of-b }
 
-steps : (c : tie.After-struct-known) → Steps (c .before .segment-cubic .result) (524287 - c .before .before .args .b % 524288)
+steps : (c : tie.After-struct-known) → Steps (c .before .segment-cubic .result)
+    (524287 - c .before .before .args .b % 524288)
 steps c = steps-fit (c .before .segment-cubic .result) _ (omega arith) (omega arith) (omega arith) (omega arith)
 
 segment-cubic-requires : tie.Need-segment-cubic-requires

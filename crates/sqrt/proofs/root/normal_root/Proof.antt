@@ -39,7 +39,8 @@ radicand-bounds b =
 pattern-of-root : (b k r : ℕ) → 2 ^ 23 ≤ b → b < 255 * 2 ^ 23 → k ≡ scale b / 2 - 1 → NearestRoot (radicand b) r
     → ofBits binary32 (k * 2 ^ 23 + r) ≡ sqrt binary32 (ofBits binary32 b)
 pattern-of-root b k r b-low b-high k-is r-nearest =
-    let nearest : NearestRoot (widened (significand b) (scale b)) r = subst (λ (n : ℕ). NearestRoot n r) (radicand-widened b) r-nearest in
+    let nearest : NearestRoot (widened (significand b) (scale b)) r = subst (λ (n : ℕ). NearestRoot n r)
+    (radicand-widened b) r-nearest in
     ap (λ (x : ℕ). ofBits binary32 (x * 2 ^ 23 + r)) k-is
     ∙ scaled-root-pattern (significand b) (scale b) r (omega arith) (omega arith) (omega arith) (omega arith) nearest
     ∙ sym (sqrt-of-normal (b / 2 ^ 23) (b % 2 ^ 23) (omega arith) (omega arith) (omega arith))
@@ -47,7 +48,8 @@ pattern-of-root b k r b-low b-high k-is r-nearest =
 
 root-small : (c : tie.After-nearest-root) → c .nearest-root .result ≤ 2 ^ 24
 root-small c =
-    nearest-root-le-2^24 _ (c .nearest-root .result) (radicand-bounds (c .before .before .args .b) .1) (c .nearest-root .ensures)
+    nearest-root-le-2^24 _ (c .nearest-root .result) (radicand-bounds (c .before .before .args .b) .1)
+    (c .nearest-root .ensures)
 
 add-f : tie.Need-add-f
 add-f c = search needs

@@ -48,7 +48,8 @@ float-from-bits-result c =
 returns : tie.Need-returns
 returns c =
     let s = c .before in
-    scaled-root-pattern (s .args .f) (s .args .g) (c .bisected-root .result) (s .pre .0) (s .pre .1) (s .pre .2) (s .pre .3)
+    scaled-root-pattern (s .args .f) (s .args .g) (c .bisected-root .result) (s .pre .0) (s .pre .1) (s .pre .2)
+    (s .pre .3)
     (c .bisected-root .ensures)
 
 pub scaled-root-spec : {M : Type 1} → statement M

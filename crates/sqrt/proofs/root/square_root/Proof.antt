@@ -40,7 +40,8 @@ returns-3 c =
     let s = c .before .before .before .before in
     let x = s .args .x in
     zero-over-zero
-    ∙ root-by-pattern x nan (x-fits s) (sym (sqrt-of-negative (toBits binary32 x) (omega arith) (toBits-lt binary32 x (x-fits s))))
+    ∙ root-by-pattern x nan (x-fits s)
+    (sym (sqrt-of-negative (toBits binary32 x) (omega arith) (toBits-lt binary32 x (x-fits s))))
 
 returns-4 : tie.Need-returns-4
 returns-4 c =

@@ -42,7 +42,8 @@ returns-2 c =
     let hx = hy .before in
     let old = hx .before in
     written-as _ _ _ _ _
-    (box-angle-words _ _ _ _ _ _ _ (old .before .if1 .left) (old .polygon .ensures) (hx .float .ensures) (hy .float2 .ensures)
+    (box-angle-words _ _ _ _ _ _ _ (old .before .if1 .left) (old .polygon .ensures) (hx .float .ensures)
+    (hy .float2 .ensures)
     (center .vector .ensures) (q .rotation .ensures) (built .b2-polygon-shape-set-as-box-angle .ensures))
     (written .put-polygon .ensures)
 

@@ -12,7 +12,8 @@ word-requires : tie.Need-word-requires
 word-requires c κs = search needs
 
 returns-2 : tie.Need-returns-2
-returns-2 c = nothing-written _ _ (one-sided-unflagged _ _ (c .before .word .ensures) (c .before .before .if1 .left) (c .if2 .taken))
+returns-2 c = nothing-written _ _ (one-sided-unflagged _ _ (c .before .word .ensures) (c .before .before .if1 .left)
+    (c .if2 .taken))
 
 edge-requires : tie.Need-edge-requires
 edge-requires c κs = search needs
@@ -49,8 +50,10 @@ returns-3 c =
     let old = v0 .before in
     let word = old .before .before in
     written-as _ _ _ _ _
-    (one-sided-words _ _ (word .word .ensures) _ _ _ _ _ _ (word .before .if1 .left) (old .before .if2 .left) (old .edge .ensures)
-    (v0 .vector .ensures) (v1 .vector2 .ensures) (v2 .vector3 .ensures) (v3 .vector4 .ensures) (built .b2-set-one-sided .ensures))
+    (one-sided-words _ _ (word .word .ensures) _ _ _ _ _ _ (word .before .if1 .left) (old .before .if2 .left)
+    (old .edge .ensures)
+    (v0 .vector .ensures) (v1 .vector2 .ensures) (v2 .vector3 .ensures) (v3 .vector4 .ensures)
+    (built .b2-set-one-sided .ensures))
     (written .put-edge .ensures)
 
 pub set-one-sided-spec : {M : Type 1} → statement M

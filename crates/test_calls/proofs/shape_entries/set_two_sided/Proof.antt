@@ -12,7 +12,8 @@ word-requires : tie.Need-word-requires
 word-requires c κs = search needs
 
 returns-2 : tie.Need-returns-2
-returns-2 c = nothing-written _ _ (two-sided-unflagged _ _ (c .before .word .ensures) (c .before .before .if1 .left) (c .if2 .taken))
+returns-2 c = nothing-written _ _ (two-sided-unflagged _ _ (c .before .word .ensures) (c .before .before .if1 .left)
+    (c .if2 .taken))
 
 edge-requires : tie.Need-edge-requires
 edge-requires c κs = search needs
@@ -41,7 +42,8 @@ returns-3 c =
     let old = v1 .before in
     let word = old .before .before in
     written-as _ _ _ _ _
-    (two-sided-words _ _ (word .word .ensures) _ _ _ _ (word .before .if1 .left) (old .before .if2 .left) (old .edge .ensures)
+    (two-sided-words _ _ (word .word .ensures) _ _ _ _ (word .before .if1 .left) (old .before .if2 .left)
+    (old .edge .ensures)
     (v1 .vector .ensures) (v2 .vector2 .ensures) (built .b2-set-two-sided .ensures))
     (written .put-edge .ensures)
 

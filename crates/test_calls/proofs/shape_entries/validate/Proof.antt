@@ -37,7 +37,8 @@ returns-2 c =
     let tested = refusal .before in
     let old = tested .before in
     written-as _ _ _ _ _
-    (validate-words _ _ _ _ _ (old .before .if1 .left) (old .polygon .ensures) (tested .b2-polygon-shape-validate .ensures)
+    (validate-words _ _ _ _ _ (old .before .if1 .left) (old .polygon .ensures)
+    (tested .b2-polygon-shape-validate .ensures)
     (refusal .wide .ensures .0) (valid .flag .ensures))
     (written .put-words .ensures)
 

@@ -61,8 +61,10 @@ returns c =
     let radius = x .before in
     written-as _ _ _ _ _
     (outline-written _ (radius .before .before .before .before .args .answer .shape) _ _ _ _ _ _ _
-    (radius .before .wide .ensures .0) (radius .f32-to-bits .ensures) (x .f32-to-bits2 .ensures) (y .f32-to-bits3 .ensures)
-    (count .low-word .ensures) (half .with-points .ensures .0) (all .with-points2 .ensures .0) (all .with-points2 .ensures .1))
+    (radius .before .wide .ensures .0) (radius .f32-to-bits .ensures) (x .f32-to-bits2 .ensures)
+    (y .f32-to-bits3 .ensures)
+    (count .low-word .ensures) (half .with-points .ensures .0) (all .with-points2 .ensures .0)
+    (all .with-points2 .ensures .1))
     (written .put-words .ensures)
 
 pub put-polygon-spec : {M : Type 1} → statement M

@@ -17,7 +17,8 @@ use Rattle.wire_records.proofs.records.with_points.Tie as tie
 
 abbrev Inv-loop : tie.InvT-loop
 Inv-loop i ps all₀ k₀ all k =
-    (k ≤ 8) × (i + 16 ≤ 37) × (length ps ≡ 8) × (length all ≡ 37) × (take (i + 2 * k) all ≡ take i all₀ ++ points-words (take k ps))
+    (k ≤ 8) × (i + 16 ≤ 37) × (length ps ≡ 8) × (length all ≡ 37)
+    × (take (i + 2 * k) all ≡ take i all₀ ++ points-words (take k ps))
 
 abbrev μ-loop : tie.MeasureT-loop
 μ-loop i ps all₀ k₀ all k = 8 - k
@@ -88,7 +89,8 @@ loop-again c =
       omega arith,
       inv .2,
       simp length-set (inv .3),
-      point-written i k ps _ _ all _ _ (omega arith) (omega arith) (c .before .f32-to-bits .ensures) (c .f32-to-bits2 .ensures) (inv .4),
+      point-written i k ps _ _ all _ _ (omega arith) (omega arith) (c .before .f32-to-bits .ensures)
+          (c .f32-to-bits2 .ensures) (inv .4),
     )
 
 returns : tie.Need-returns Inv-loop μ-loop

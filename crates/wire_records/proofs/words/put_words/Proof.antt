@@ -15,7 +15,8 @@ use Rattle.wire_records.proofs.words.put_words.Tie as tie
 
 abbrev Inv-loop : tie.InvT-loop
 Inv-loop out₀ words n i₀ out i =
-    (i ≤ n) × (n ≡ length words) × (4 * n ≤ length out₀) × (length out ≡ length out₀) × (out ≡ over (bytes-of (take i words)) out₀)
+    (i ≤ n) × (n ≡ length words) × (4 * n ≤ length out₀) × (length out ≡ length out₀)
+    × (out ≡ over (bytes-of (take i words)) out₀)
 
 abbrev μ-loop : tie.MeasureT-loop
 μ-loop out₀ words n i₀ out i = n - i
@@ -24,7 +25,8 @@ mul-if1 : tie.Need-mul-if1 Inv-loop μ-loop
 mul-if1 c = search needs
 
 returns : tie.Need-returns Inv-loop μ-loop
-returns c = written-none (c .before .before .before .args .words .now) (c .before .before .before .args .out .now) (c .if1 .taken)
+returns c = written-none (c .before .before .before .args .words .now) (c .before .before .before .args .out .now)
+    (c .if1 .taken)
 
 loop-holds : tie.Need-loop-holds Inv-loop μ-loop
 unfolding bytes-of
@@ -65,10 +67,16 @@ loop-again c =
     let i = at-loop .loop .i in
     let out = start .args .out .now in
     let put = c .before .before .put-number in
-    let next = word-written words out (at-loop .loop .out) (put .last .0) i (omega arith) (at-loop .loop .inv .4) (put .ensures) in
+    let next = word-written words out (at-loop .loop .out) (put .last .0) i (omega arith) (at-loop .loop .inv .4)
+    (put .ensures) in
     let room : length (bytes-of (take (i + 1) words)) ≤ length out =
-    omega (arith, length-bytes (take (i + 1) words), length-take-le (i + 1) words (omega arith)) in
-    (omega arith, refl, at-loop .loop .inv .2, ap length next ∙ length-over (bytes-of (take (i + 1) words)) out room, next)
+    omega (arith, length-bytes (take (i + 1) words), length-take-le (i + 1) words (omega arith)) in (
+      omega arith,
+      refl,
+      at-loop .loop .inv .2,
+      ap length next ∙ length-over (bytes-of (take (i + 1) words)) out room,
+      next,
+    )
 
 cast-result : tie.Need-cast-result Inv-loop μ-loop
 cast-result c = search needs
@@ -80,7 +88,8 @@ returns-2 : tie.Need-returns-2 Inv-loop μ-loop
 returns-2 c =
     let start = c .before .before .before .before .before in
     let loop = c .before .loop in
-    written-whole (start .args .words .now) (start .args .out .now) (loop .out) (loop .i) (omega arith) (loop .inv .2) (loop .inv .4)
+    written-whole (start .args .words .now) (start .args .out .now) (loop .out) (loop .i) (omega arith) (loop .inv .2)
+    (loop .inv .4)
 
 pub put-words-spec : {M : Type 1} → statement M
 put-words-spec =
