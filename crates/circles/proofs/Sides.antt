@@ -138,8 +138,7 @@ module _ (vs ns : List B2vec2) (count : ℕ) (c : B2vec2) (radius : Float) where
         separation = separation;
         v1 = v1;
         v2 = v2;
-        normal =
-            normal;
+        normal = normal;
       })
   side-found index separation v1 normal i next v2 d so-far past next-in next-is v2-is =
       let eight = so-far .vs-eight in

@@ -105,6 +105,5 @@ b2-mul-transform a b = record { p = b2-add (b2-mul-rot-by-vec2 (a .q) (b .p)) (a
 unfoldable pub b2-mul-t-transform : B2Transform → B2Transform → B2Transform
 b2-mul-t-transform a b = record {
   p = b2-mul-t-rot-by-vec2 (a .q) (b2-sub (b .p) (a .p));
-  q =
-      b2-mul-t-rot (a .q) (b .q);
+  q = b2-mul-t-rot (a .q) (b .q);
 }

@@ -56,8 +56,7 @@ pub corner-of-ahead : (s : List Point) (p m u : Point) → List·Memᴰ p s
 corner-of-ahead s p m u p-in all = record {
   mem = p-in;
   direction = tilted large m u;
-  ahead =
-      λ r r-in. go r r-in (all r r-in);
+  ahead = λ r r-in. go r r-in (all r r-in);
 }
   where
     along : Point → ℕ

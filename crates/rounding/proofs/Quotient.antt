@@ -33,8 +33,7 @@ fraction : (s : Bool) (n : ℕ) (a : Z) → Between a (signed s n) → Fraction 
 fraction false n a (inl h) = let p = h .1 .1 in record {
   not-zero = omega arith;
   not-negative = h .0;
-  at-most =
-      h .1 .0;
+  at-most = h .1 .0;
 }
 fraction false n a (inr h) = absurd (let p = h .1 .1 in omega arith)
 fraction true n a (inl h) = absurd (let p = h .1 .1 in omega arith)

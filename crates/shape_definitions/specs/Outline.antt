@@ -50,15 +50,15 @@ start ps = scan (earlier ps) 0 (later-places ps)
 -- ---- the next corner: the candidate begins at place 0 and is replaced by j when the cross product is below 0, or
 -- equals 0 and j is farther; a candidate that is the corner itself is always replaced
 abbrev pub turns-closer : B2vec2 → B2vec2 → Bool
-turns-closer r v = lt (b2-cross r v) zero32 || eq (b2-cross r v) zero32
-    && lt (b2-length-squared r) (b2-length-squared v)
+turns-closer r v = lt (b2-cross r v) zero32
+    || eq (b2-cross r v) zero32 && lt (b2-length-squared r) (b2-length-squared v)
 
 unfoldable pub closer : B2vec2 → B2vec2 → B2vec2 → Bool
 closer corner candidate p = turns-closer (b2-sub candidate corner) (b2-sub p corner)
 
 abbrev pub replaces : List B2vec2 → ℕ → ℕ → ℕ → Bool
-replaces ps corner candidate j = eqb candidate corner || closer (point-at ps corner) (point-at ps candidate)
-    (point-at ps j)
+replaces ps corner candidate j = eqb candidate corner
+    || closer (point-at ps corner) (point-at ps candidate) (point-at ps j)
 
 unfoldable pub next : List B2vec2 → ℕ → ℕ
 next ps corner = scan (replaces ps corner) 0 (later-places ps)
