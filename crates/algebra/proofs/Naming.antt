@@ -34,8 +34,8 @@ module _ {A B : Type 0} (g : A → B) where
     cond-in true a b a-in b-in = a-in
     cond-in false a b a-in b-in = b-in
 
-    module _ (testA : A → A → Bool) (testB : B → B → Bool) (same-test : (e j : A) → In e → In j → testB (g e) (g j)
-        ≡ testA e j) where
+    module _ (testA : A → A → Bool) (testB : B → B → Bool) (same-test : (e j : A) → In e → In j
+        → testB (g e) (g j) ≡ testA e j) where
       pub scan-map : (js : List A) (e : A) → In e → ((j : A) → List·Memᴰ j js → In j)
           → scan testB (g e) (map g js) ≡ g (scan testA e js)
       scan-map [] e e-in js-in = refl
@@ -76,8 +76,8 @@ module _ {A B : Type 0} (g : A → B) where
           (λ k m. l-in k (L.List·Memᴰ·tail m))
 
     -- ---- the walk
-    module _ (sameA : A → A → Bool) (sameB : B → B → Bool) (same-same : (p q : A) → In p → In q → sameB (g p) (g q)
-        ≡ sameA p q)
+    module _ (sameA : A → A → Bool) (sameB : B → B → Bool) (same-same : (p q : A) → In p → In q
+        → sameB (g p) (g q) ≡ sameA p q)
         (nextA : A → A) (nextB : B → B) (same-next : (p : A) → In p → nextB (g p) ≡ g (nextA p))
         (next-in : (p : A) → In p → In (nextA p))
         (start : A) (start-in : In start) where

@@ -47,8 +47,8 @@ module _ (v1 v2 normal c : B2vec2) (separation radius : Float) (sum middle : B2v
     second-test t h = ap (λ (u : Float). le u zero32) (sym (u2-is ∙ ap₂ b2-dot d2-is e2-is)) ∙ h
 
     -- v is the end that the tests t1 and t2 choose
-    at-end : (t1 t2 : Bool) (v : B2vec2) (r : Meeting) → le u1 zero32 ≡ t1 → le u2 zero32 ≡ t2 → (t1 || t2) ≡ true → v
-        ≡ cond t1 v1 v2
+    at-end : (t1 t2 : Bool) (v : B2vec2) (r : Meeting) → le u1 zero32 ≡ t1 → le u2 zero32 ≡ t2 → (t1 || t2) ≡ true
+        → v ≡ cond t1 v1 v2
         → AtCorner v c radius r → AtFace v1 v2 normal separation c radius r
     unfolding circle-at-face
     at-end true t2 v r h1 h2 some v-is meets old centre =

@@ -37,8 +37,8 @@ module _ (vs ns : List B2vec2) (count : ℕ) (c : B2vec2) (radius : Float) where
     pub best-is : scan is-greater (best-at index separation) (map (valued (out-of-face vs ns c)) (places i (count - i)))
         ≡ first-greatest (out-of-face vs ns c) count
 
-  pub sides-begin : (v n d : B2vec2) → length vs ≡ 8 → length ns ≡ 8 → 0 < count → count ≤ 8 → v ≡ getD vs 0 d → n
-      ≡ getD ns 0 d
+  pub sides-begin : (v n d : B2vec2) → length vs ≡ 8 → length ns ≡ 8 → 0 < count → count ≤ 8 → v ≡ getD vs 0 d
+      → n ≡ getD ns 0 d
       → SoFar 0 (neg b2-max-float) v n 0
   unfolding some-below first-greatest
   sides-begin v n d vs-eight ns-eight some few v-is n-is = record {
@@ -131,8 +131,8 @@ module _ (vs ns : List B2vec2) (count : ℕ) (c : B2vec2) (radius : Float) where
 
   -- all places are done: v2 is the corner after the best face's first
   pub side-found : (index : ℕ) (separation : Float) (v1 normal : B2vec2) (i next : ℕ) (v2 d : B2vec2)
-      → SoFar index separation v1 normal i → count ≤ i → next < count → next ≡ place-after count index → v2
-      ≡ getD vs next d
+      → SoFar index separation v1 normal i → count ≤ i → next < count → next ≡ place-after count index
+      → v2 ≡ getD vs next d
       → SideOf vs ns count c radius (record {
         outside = false;
         separation = separation;

@@ -15,8 +15,8 @@ use Rattle.clipping.specs.Places.{left-over}
 use Rattle.clipping.proofs.Two.{Two, two, two-of, two-over}
 
 -- ---- two ends over two places are themselves
-pub over-both : {A : Type 0} (left old : List A) → length old ≡ 2 → 2 ≤ length left → length left ≤ 2 → over left old
-    ≡ left
+pub over-both : {A : Type 0} (left old : List A) → length old ≡ 2 → 2 ≤ length left → length left ≤ 2
+    → over left old ≡ left
 over-both left old old-two enough few = go (two-of left (omega arith))
   where
     go : {l : List _} → Two l → over l old ≡ l

@@ -18,10 +18,10 @@ pair-of (x ∷ y ∷ z ∷ l) a b d size a-is b-is = absurd (omega arith)
 
 pub ends-in-range : (ends : List B2clipVertex) (a b d : B2clipVertex) (normal : B2vec2) (offset : Float)
     (s t u v : Bool)
-    → length ends ≡ 2 → a ≡ getD ends 0 d → b ≡ getD ends 1 d → s ≡ contact-point-in-range (a .v) → t
-    ≡ contact-point-in-range (b .v)
-    → u ≡ contact-point-in-range normal → v ≡ contact-number-in-range offset → (s && (t && (u && v)))
-    ≡ clip-in-range ends normal offset
+    → length ends ≡ 2 → a ≡ getD ends 0 d → b ≡ getD ends 1 d → s ≡ contact-point-in-range (a .v)
+    → t ≡ contact-point-in-range (b .v)
+    → u ≡ contact-point-in-range normal → v ≡ contact-number-in-range offset
+    → (s && (t && (u && v))) ≡ clip-in-range ends normal offset
 unfolding clip-in-range
 ends-in-range ends a b d normal offset s t u v size a-is b-is s-is t-is u-is v-is =
     ap₂ _&&_ s-is (ap₂ _&&_ t-is (ap₂ _&&_ u-is v-is))

@@ -111,8 +111,8 @@ module _ (m : B2manifold) (a : B2polygonShape) (xfA : B2Transform) (b : B2circle
       made-is ∙ ap (λ (t : Meeting). met t (with-count m 0) (b .«m_p»)) (sym nothing) ∙ met-is
 
   pub meets-at : (made : B2manifold) (nx ny x y : Float) → r ≡ Point nx ny x y
-      → made ≡ with-one-point m EFaceA (vec2 nx ny) (vec2 x y) (b .«m_p») default-id → made
-      ≡ outline-circle m a xfA b xfB
+      → made ≡ with-one-point m EFaceA (vec2 nx ny) (vec2 x y) (b .«m_p») default-id
+      → made ≡ outline-circle m a xfA b xfB
   meets-at made nx ny x y at made-is =
       made-is ∙ one-point-anew m EFaceA (vec2 nx ny) (vec2 x y) (b .«m_p») default-id
       ∙ ap (λ (t : Meeting). met t (with-count m 0) (b .«m_p»)) (sym at) ∙ met-is

@@ -21,8 +21,8 @@ Units x g = HasValue x false g (2 ^ 149)
 pattern-of-units : ℕ → ℕ
 pattern-of-units g = 0 + (size g - 24) * 2 ^ 23 + g / 2 ^ (size g - 24)
 
-to-bits-of-fin : (m : ℕ) (e : ℤ) (g : ℕ) → m * up e * 2 ^ 149 ≡ g * down e → toBits binary32 (fin false m e)
-    ≡ pattern-of-units g
+to-bits-of-fin : (m : ℕ) (e : ℤ) (g : ℕ) → m * up e * 2 ^ 149 ≡ g * down e
+    → toBits binary32 (fin false m e) ≡ pattern-of-units g
 unfolding toBits pattern-of-units
 to-bits-of-fin m e g h =
     ap (λ (n : ℕ). 0 + (size n - 24) * 2 ^ 23 + n / 2 ^ (size n - 24))

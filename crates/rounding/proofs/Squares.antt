@@ -47,8 +47,8 @@ square-same {x = fin s m e} {y = fin t n d} x-f32 y-f32 same =
     ∙ ap (λ (u : Bool). round binary32 u (n * up d * (n * up d)) (down d * down d)) (sym (unlike-itself t))
 
 -- ---- times 1 and times -1, squared
-pub times-one-squared : (y : Float) → T (fits binary32 y) → mul binary32 (mul binary32 one32 y) (mul binary32 one32 y)
-    ≡ mul binary32 y y
+pub times-one-squared : (y : Float) → T (fits binary32 y)
+    → mul binary32 (mul binary32 one32 y) (mul binary32 one32 y) ≡ mul binary32 y y
 unfolding mul ofBits
 times-one-squared nan in-format = refl
 times-one-squared (inf true) in-format = refl

@@ -59,8 +59,8 @@ module _ (old : B2polygonShape) (points : List B2vec2) (count : ℕ) where
         (outline-of-welded old (welded (take count points)))) outside)
 
     -- the points that welding keeps
-    of-welded : (ps : List B2vec2) → all-points point-in-range (take count points) ≡ true → ps
-        ≡ welded (take count points)
+    of-welded : (ps : List B2vec2) → all-points point-in-range (take count points) ≡ true
+        → ps ≡ welded (take count points)
         → outline-of-welded old ps ≡ b2-polygon-shape-set-counted old points count
     of-welded ps inside ps-is =
         ap (outline-of-welded old) ps-is
@@ -98,13 +98,13 @@ module _ (old : B2polygonShape) (ps : List B2vec2) where
 
   -- ---- 4: the walk
   module _ (before : List B2vec2) (m : ℕ) (vs : List B2vec2) where
-    not-closed : (o : Option (List ℕ)) → WalkResult ps before o m vs → m < 3 → refused walk-not-closed old
-        ≡ outline-of-row old ps o
+    not-closed : (o : Option (List ℕ)) → WalkResult ps before o m vs → m < 3
+        → refused walk-not-closed old ≡ outline-of-row old ps o
     not-closed none walked few = refl
     not-closed (some places) walked few = let same = walked .0 in simp (lt-ltb (length places) 3 (omega arith))
 
-    of-corners : (o : Option (List ℕ)) → WalkResult ps before o m vs → 3 ≤ m → outline-of-corners old (take m vs)
-        ≡ outline-of-row old ps o
+    of-corners : (o : Option (List ℕ)) → WalkResult ps before o m vs → 3 ≤ m
+        → outline-of-corners old (take m vs) ≡ outline-of-row old ps o
     of-corners none walked enough = absurd (omega arith)
     of-corners (some places) walked enough =
         let same = walked .0 in
@@ -164,16 +164,16 @@ module _ (old : B2polygonShape) (corners : List B2vec2) where
   edge-too-short before new faced = simp (short-edge (edges corners) before new (long-enough (edges corners)) faced)
 
   module _ (sum : FanSum) (all-long : long-enough (edges corners) ≡ true) (sum-is : sum ≡ fan corners) where
-    pub area-too-small : lt b2-epsilon (sum .area) ≡ false → refused edge-or-area-too-small old
-        ≡ outline-of-corners old corners
+    pub area-too-small : lt b2-epsilon (sum .area) ≡ false
+        → refused edge-or-area-too-small old ≡ outline-of-corners old corners
     unfolding outline-of-corners
     area-too-small small = simp (all-long, ap (λ (x : FanSum). lt b2-epsilon (x .area)) (sym sum-is) ∙ small)
 
     pub outline-built : (vs ns : List B2vec2) (m : ℕ) (s scaled centroid : B2vec2) → lt b2-epsilon (sum .area) ≡ true
         → vs ≡ put-first corners (old .«m_vertices»)
         → ns ≡ put-first (map normal-of-edge (edges corners)) (old .«m_normals») → m ≡ length corners
-        → scaled ≡ b2-scale (div binary32 one32 (sum .area)) (sum .moment) → centroid ≡ b2-add scaled s → s
-        ≡ point-at corners 0
+        → scaled ≡ b2-scale (div binary32 one32 (sum .area)) (sum .moment) → centroid ≡ b2-add scaled s
+        → s ≡ point-at corners 0
         → record {
           refusal = accepted;
           shape = record {

@@ -32,11 +32,11 @@ eight-hold-all (a ∷ b ∷ c ∷ d ∷ e ∷ f ∷ g ∷ h ∷ i ∷ l) few = a
 
 module _ (old : B2polygonShape) (l : List B2vec2) where
   -- the points that were read one by one, and what the builder answered
-  pub lent-is : (p0 p1 p2 p3 p4 p5 p6 p7 : B2vec2) (r : PolygonAnswer) → p0 ≡ point-at l 0 → p1 ≡ point-at l 1 → p2
-      ≡ point-at l 2
+  pub lent-is : (p0 p1 p2 p3 p4 p5 p6 p7 : B2vec2) (r : PolygonAnswer) → p0 ≡ point-at l 0 → p1 ≡ point-at l 1
+      → p2 ≡ point-at l 2
       → p3 ≡ point-at l 3 → p4 ≡ point-at l 4 → p5 ≡ point-at l 5 → p6 ≡ point-at l 6 → p7 ≡ point-at l 7
-      → r ≡ b2-polygon-shape-set-counted old (p0 ∷ p1 ∷ p2 ∷ p3 ∷ p4 ∷ p5 ∷ p6 ∷ p7 ∷ []) (length l) → r
-      ≡ b2-polygon-shape-set old l
+      → r ≡ b2-polygon-shape-set-counted old (p0 ∷ p1 ∷ p2 ∷ p3 ∷ p4 ∷ p5 ∷ p6 ∷ p7 ∷ []) (length l)
+      → r ≡ b2-polygon-shape-set old l
   lent-is p0 p1 p2 p3 p4 p5 p6 p7 r p0-is p1-is p2-is p3-is p4-is p5-is p6-is p7-is r-is =
       r-is ∙ (simp (p0-is, p1-is, p2-is, p3-is, p4-is, p5-is, p6-is, p7-is)) ∙ counted-whole old (first-eight l) l
       (length l) refl (eight-hold-all l)

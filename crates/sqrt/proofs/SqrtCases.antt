@@ -52,8 +52,8 @@ sqrt-of-normal (suc x) t e-pos e-small t-small =
     ∙ ap (λ (w : ℕ). f * w) (sym (pow-add 2 x 149) ∙ ap (λ (w : ℕ). 2 ^ w) exponents)
     ∙ ap (λ (w : ℕ). w * 2 ^ (suc x + 127 + 21)) (add-comm (2 ^ 23) t))
 
-pub sqrt-of-subnormal : (t : ℕ) → 0 < t → t < 2 ^ 23 → sqrt binary32 (ofBits binary32 t)
-    ≡ rounded-root binary32 (t * 2 ^ 149)
+pub sqrt-of-subnormal : (t : ℕ) → 0 < t → t < 2 ^ 23
+    → sqrt binary32 (ofBits binary32 t) ≡ rounded-root binary32 (t * 2 ^ 149)
 sqrt-of-subnormal t t-pos t-small = sqrt-of-units (ofBits binary32 t) t (subnormal-units t t-small) t-pos
 
 -- ---- patterns with the sign

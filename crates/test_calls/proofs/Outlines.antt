@@ -36,8 +36,8 @@ module _ (request : List ℕ) where
     set-malformed size = simp (ne-eqb _ _ (λ (e : length request ≡ 4 * (38 + 2 * word-at request 37)). size
         (e ∙ sym size-is)))
 
-    pub set-words : (m : ℕ) (old : B2polygonShape) (array : List B2vec2) (answer : PolygonAnswer) → length request
-        ≡ 4 * (38 + 2 * n)
+    pub set-words : (m : ℕ) (old : B2polygonShape) (array : List B2vec2) (answer : PolygonAnswer)
+        → length request ≡ 4 * (38 + 2 * n)
         → old ≡ polygon-at request 1 → take m array ≡ points-at request 38 m → (n ≤ 8 → m ≡ n)
         → answer ≡ b2-polygon-shape-set-counted old array n → outline-answer answer ≡ set-answer request
     unfolding set-answer
@@ -52,8 +52,8 @@ module _ (request : List ℕ) where
   unfolding box-answer
   box-malformed size = simp (ne-eqb _ _ size)
 
-  pub box-words : (old : B2polygonShape) (hx hy : Float) (answer : PolygonAnswer) → length request ≡ 156 → old
-      ≡ polygon-at request 1
+  pub box-words : (old : B2polygonShape) (hx hy : Float) (answer : PolygonAnswer) → length request ≡ 156
+      → old ≡ polygon-at request 1
       → hx ≡ float-at request 37 → hy ≡ float-at request 38 → answer ≡ b2-polygon-shape-set-as-box old hx hy
       → outline-answer answer ≡ box-answer request
   unfolding box-answer
@@ -66,8 +66,8 @@ module _ (request : List ℕ) where
 
   pub box-angle-words : (old : B2polygonShape) (hx hy : Float) (center : B2vec2) (q : B2Rot) (answer : PolygonAnswer)
       → length request ≡ 172 → old ≡ polygon-at request 1 → hx ≡ float-at request 37 → hy ≡ float-at request 38
-      → center ≡ vector-at request 39 → q ≡ rotation-at request 41 → answer
-      ≡ b2-polygon-shape-set-as-box-angle old hx hy center q
+      → center ≡ vector-at request 39 → q ≡ rotation-at request 41
+      → answer ≡ b2-polygon-shape-set-as-box-angle old hx hy center q
       → outline-answer answer ≡ box-angle-answer request
   unfolding box-angle-answer
   box-angle-words old hx hy center q answer size old-is hx-is hy-is center-is q-is answer-is =

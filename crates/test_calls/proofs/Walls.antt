@@ -41,15 +41,15 @@ module _ (request : List ℕ) where
     pub one-sided-words : (old : B2edgeShape) (v0 v1 v2 v3 : B2vec2) (answer : EdgeAnswer) → length request ≡ 76
         → flag ≤ 1
         → old ≡ edge-at request 1 → v0 ≡ vector-at request 11 → v1 ≡ vector-at request 13 → v2 ≡ vector-at request 15
-        → v3 ≡ vector-at request 17 → answer ≡ b2-set-one-sided old v0 v1 v2 v3 → wall-answer answer
-        ≡ one-sided-answer request
+        → v3 ≡ vector-at request 17 → answer ≡ b2-set-one-sided old v0 v1 v2 v3
+        → wall-answer answer ≡ one-sided-answer request
     unfolding one-sided-answer
     one-sided-words old v0 v1 v2 v3 answer size known old-is v0-is v1-is v2-is v3-is answer-is =
         simp (eq-eqb _ _ size, lt-ltb _ _ (small known), answer-is, old-is, v0-is, v1-is, v2-is, v3-is)
 
     pub two-sided-words : (old : B2edgeShape) (v1 v2 : B2vec2) (answer : EdgeAnswer) → length request ≡ 60 → flag ≤ 1
-        → old ≡ edge-at request 1 → v1 ≡ vector-at request 11 → v2 ≡ vector-at request 13 → answer
-        ≡ b2-set-two-sided old v1 v2
+        → old ≡ edge-at request 1 → v1 ≡ vector-at request 11 → v2 ≡ vector-at request 13
+        → answer ≡ b2-set-two-sided old v1 v2
         → wall-answer answer ≡ two-sided-answer request
     unfolding two-sided-answer
     two-sided-words old v1 v2 answer size known old-is v1-is v2-is answer-is =

@@ -21,8 +21,8 @@ unfolding points-words
 words-next [] p = refl
 words-next (q ∷ ps) p = rw (words-next ps p)
 
-two-stores : (l : List ℕ) (at a b : ℕ) → at + 1 < length l → take (suc (suc at)) (set (set l at a) (suc at) b)
-    ≡ take at l ++ (a ∷ b ∷ [])
+two-stores : (l : List ℕ) (at a b : ℕ) → at + 1 < length l
+    → take (suc (suc at)) (set (set l at a) (suc at) b) ≡ take at l ++ (a ∷ b ∷ [])
 two-stores l at a b within =
     take-suc-set (set l at a) (suc at) b (simp length-set (omega arith))
     ∙ ap (λ (x : List ℕ). x ++ (b ∷ [])) (take-suc-set l at a (omega arith))
