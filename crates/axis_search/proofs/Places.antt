@@ -2,13 +2,14 @@
 -- nothing.
 use mathlib.Core.Path.{_≡_, refl, sym, ap, ap₂, _∙_}
 use mathlib.Core.Logic.{inl, inr}
-use mathlib.Core.List.{List, [], _∷_}
-use Prim.Native.Nat.{ℕ, zero, suc, _+_, _<_, _≤_}
+use mathlib.Core.List.{List}
+use Prim.Native.Nat.{ℕ, _+_, _<_, _≤_}
 use native.Mathlib.Omega.{arith}
 use lib.ListN.{length, getD, set, length-set}
 use lib.Seq.{getD-set-same, getD-set-other}
 use lib.Ieee.{Float, nan, binary32, add, sub, mul}
 use Rattle.algebra.proofs.Booleans.{less-or-not}
+use Rattle.algebra.proofs.Lists.{getD-within}
 use Rattle.floats.specs.declared.b2_math.B2vec2.{B2vec2}
 use Rattle.floats.specs.declared.b2_math.B2Transform.{B2Transform}
 use Rattle.floats.specs.B2Math.{vec2, b2-sub, b2-dot, b2-mul-rot-by-vec2, b2-mul-transform-by-vec2}
@@ -16,12 +17,6 @@ use Rattle.shape_definitions.specs.Outline.{origin, point-at}
 use Rattle.contact_definitions.specs.declared.axis.Best.{Best}
 use Rattle.axis_search.specs.declared.rows.FarthestFace.{FarthestFace}
 use Rattle.axis_search.specs.Rows.{Eight, at, vector-at, FaceRows, distance-at, faced}
-
--- an element of an array, whatever is said to stand past its end
-pub getD-within : {A : Type 0} (l : List A) (i : ℕ) (d e : A) → i < length l → getD l i d ≡ getD l i e
-getD-within [] i d e within = absurd (omega arith)
-getD-within (x ∷ l) zero d e within = refl
-getD-within (x ∷ l) (suc i) d e within = getD-within l i d e (omega arith)
 
 pub eight-set : (row : List Float) (i : ℕ) (x : Float) → Eight row → Eight (set row i x)
 eight-set row i x eight = length-set row i x ∙ eight

@@ -6,6 +6,7 @@ use native.Mathlib.Omega.{arith}
 use lib.ListN.{length, getD}
 use lib.Ieee.{Float}
 use Rattle.algebra.specs.Loops.{places, scan}
+use Rattle.algebra.proofs.Lists.{getD-within}
 use Rattle.floats.specs.declared.b2_math.B2vec2.{B2vec2}
 use Rattle.floats.specs.declared.b2_math.B2Transform.{B2Transform}
 use Rattle.floats.specs.B2Common.{b2-max-float}
@@ -17,7 +18,6 @@ use Rattle.contact_definitions.proofs.Searches.{scan-starts, scanned, scanned-a
 use Rattle.axis_search.specs.declared.rows.FarthestFace.{FarthestFace}
 use Rattle.axis_search.specs.Rows.{Eight, at, FaceRows, lesser, distance-at, least-from, LeastRow, faced}
 use Rattle.axis_search.specs.Outlines.{outlined}
-use Rattle.axis_search.proofs.Places.{getD-within}
 
 -- ---- every face's least distance, a corner at a time
 pub record Lowest (nxs nys xs ys : List Float) (v2s : List B2vec2) (count2 : ℕ) (old : List Float) (n j : ℕ)

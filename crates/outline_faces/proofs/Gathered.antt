@@ -11,7 +11,7 @@ use Rattle.floats.specs.B2Math.{b2-dot, b2-mul-rot-by-vec2, b2-mul-t-rot-by-vec
 use Rattle.shape_definitions.specs.Outline.{origin, point-at, place-after}
 use Rattle.contact_definitions.specs.declared.axis.Best.{Best}
 use Rattle.contact_definitions.specs.Searches.{first-least}
-use Rattle.axis_search.proofs.Places.{getD-within}
+use Rattle.algebra.proofs.Lists.{getD-within}
 use Rattle.outline_faces.specs.declared.faces.Corner.{Corner}
 use Rattle.outline_faces.specs.declared.faces.Face.{Face}
 use Rattle.outline_faces.specs.Faces.{corner-of, face-of}

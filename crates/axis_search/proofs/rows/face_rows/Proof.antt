@@ -5,7 +5,8 @@ use native.Mathlib.Omega.{arith}
 use lib.ListN.{length}
 use Rattle.floats.specs.B2Math.{b2-mul-rot-by-vec2, b2-mul-transform-by-vec2}
 use Rattle.axis_search.specs.Rows.{FaceRows}
-use Rattle.axis_search.proofs.Places.{getD-within, face-rows-next}
+use Rattle.algebra.proofs.Lists.{getD-within}
+use Rattle.axis_search.proofs.Places.{face-rows-next}
 use borrow.Author.Needs.{needs}
 use Rattle.axis_search.proofs.rows.face_rows.Statement.{statement}
 use Rattle.axis_search.proofs.rows.face_rows.Tie as tie
