@@ -1,0 +1,149 @@
+-- Document 01, "The touch record": frames. What a frame makes of the first body that it names and of the pair, and
+-- what it answers. Refusals 10, 11, 12, 13 in that order, then those of the shape, the placement or the contact; each
+-- kind of frame has its order in one definition. A refusal changes nothing. Definitions only.
+use Prim.Native.Nat.{ℕ, _+_, _*_}
+use mathlib.Core.Bool.{Bool, true, false, not, cond, _&&_, _||_}
+use mathlib.Core.List.{List}
+use lib.Dec.{eqb, ltb, leb}
+use lib.ListN.{length}
+use Rattle.floats.specs.Ranges.{transform-in-range}
+use Rattle.lines.specs.Fields.{byte-at, float-at, vector-at, points-at, placement-at}
+use Rattle.shape_definitions.specs.declared.b2_circle_shape.B2circleShape.{B2circleShape}
+use Rattle.shape_definitions.specs.declared.b2_edge_shape.EdgeAnswer.{EdgeAnswer}
+use Rattle.shape_definitions.specs.declared.b2_polygon_shape.PolygonAnswer.{PolygonAnswer}
+use Rattle.shape_definitions.specs.Circle.{circle-in-range}
+use Rattle.shape_definitions.specs.Edge.{b2-set-one-sided, b2-set-two-sided}
+use Rattle.shape_definitions.specs.Polygon.{b2-polygon-shape-set}
+use Rattle.shape_definitions.specs.Refusal.{accepted, shape-out-of-range, placement-out-of-range}
+use Rattle.shape_definitions.specs.Refusal.{malformed-frame, unknown-id, no-shape, pair-not-listed}
+use Rattle.record_definitions.specs.declared.world.Body.{Body}
+use Rattle.record_definitions.specs.declared.world.Pair.{Pair}
+use Rattle.record_definitions.specs.declared.touch.TestAnswer.{TestAnswer}
+use Rattle.record_definitions.specs.declared.frame.Answer.{Answer}
+use Rattle.record_definitions.specs.declared.frame.Answer.the-variants.{Accepted, Refused, Tested}
+use Rattle.record_definitions.specs.declared.frame.Change.{Change}
+use Rattle.record_definitions.specs.World.{no-body, circle-kind, outline-kind, wall-kind}
+use Rattle.record_definitions.specs.World.{blank-outline, blank-wall, circle-body, outline-body, wall-body, placed}
+use Rattle.record_definitions.specs.Touch.{tested}
+
+-- ---- the length of a frame, by its kind and its third byte: the count of an outline, the flag of a wall. 0 where a
+-- kind, a flag or a count is none
+abbrev pub outline-length : ℕ → ℕ
+outline-length count = cond (leb count 8) (3 + 8 * count) 0
+
+abbrev pub wall-length : ℕ → ℕ
+wall-length flag = cond (eqb flag 0) 19 (cond (eqb flag 1) 35 0)
+
+unfoldable pub frame-length : ℕ → ℕ → ℕ
+frame-length kind third =
+    cond (eqb kind 1) 14
+    (cond (eqb kind 2) (outline-length third)
+    (cond (eqb kind 3) (wall-length third)
+    (cond (eqb kind 4) 18
+    (cond (eqb kind 5) 3
+    0))))
+
+-- of a known kind, and just as long as such a frame is
+unfoldable pub well-formed : List ℕ → Bool
+well-formed bytes =
+    let size = frame-length (byte-at bytes 0) (byte-at bytes 2) in
+    not (eqb size 0) && eqb (length bytes) size
+
+abbrev pub largest-id : ℕ
+largest-id = 7
+
+-- ---- changes: a refusal changes nothing; a new shape forgets its pairs
+abbrev pub refused : ℕ → Body → Pair → Change
+refused number body pair = record {
+  said = record { answer = Refused number };
+  body = body;
+  pair = pair;
+  forget = false;
+}
+
+abbrev pub defined : Body → Pair → Change
+defined body pair = record { said = record { answer = Accepted }; body = body; pair = pair; forget = true }
+
+abbrev pub moved : Body → Pair → Change
+moved body pair = record { said = record { answer = Accepted }; body = body; pair = pair; forget = false }
+
+-- ---- 01 id x y radius
+abbrev pub circle-at : List ℕ → B2circleShape
+circle-at bytes = record { «m_radius» = float-at bytes 10; «m_p» = vector-at bytes 2 }
+
+unfoldable pub circle-change : Body → Pair → List ℕ → Change
+circle-change body pair bytes =
+    cond (circle-in-range (circle-at bytes)) (defined (circle-body (circle-at bytes)) pair)
+    (refused shape-out-of-range body pair)
+
+-- ---- 02 id count points
+abbrev pub outline-built : Body → Pair → PolygonAnswer → Change
+outline-built body pair built =
+    cond (eqb (built .refusal) accepted) (defined (outline-body (built .shape)) pair)
+    (refused (built .refusal) body pair)
+
+unfoldable pub outline-change : Body → Pair → List ℕ → Change
+outline-change body pair bytes =
+    outline-built body pair (b2-polygon-shape-set blank-outline (points-at bytes 3 (byte-at bytes 2)))
+
+-- ---- 03 id 00 v1 v2, two-sided; 03 id 01 v0 v1 v2 v3, one-sided
+abbrev pub wall-built : Body → Pair → EdgeAnswer → Change
+wall-built body pair built =
+    cond (eqb (built .refusal) accepted) (defined (wall-body (built .shape)) pair)
+    (refused (built .refusal) body pair)
+
+unfoldable pub wall-at : List ℕ → EdgeAnswer
+wall-at bytes =
+    cond (eqb (byte-at bytes 2) 0) (b2-set-two-sided blank-wall (vector-at bytes 3) (vector-at bytes 11))
+    (b2-set-one-sided blank-wall (vector-at bytes 3) (vector-at bytes 11) (vector-at bytes 19) (vector-at bytes 27))
+
+unfoldable pub wall-change : Body → Pair → List ℕ → Change
+wall-change body pair bytes = wall-built body pair (wall-at bytes)
+
+-- ---- 04 id x y sine cosine
+unfoldable pub place-change : Body → Pair → List ℕ → Change
+place-change body pair bytes =
+    cond (eqb (body .kind) no-body) (refused no-shape body pair)
+    (cond (not (transform-in-range (placement-at bytes 2))) (refused placement-out-of-range body pair)
+    (moved (placed body (placement-at bytes 2)) pair))
+
+-- ---- 05 a b
+-- the pairs that are tested: circle-circle, outline-circle, outline-outline, wall-circle, wall-outline
+unfoldable pub listed : ℕ → ℕ → Bool
+listed a b =
+    (eqb a circle-kind && eqb b circle-kind)
+    || (eqb a outline-kind && eqb b circle-kind) || (eqb a outline-kind && eqb b outline-kind)
+    || (eqb a wall-kind && eqb b circle-kind) || (eqb a wall-kind && eqb b outline-kind)
+
+unfoldable pub test-refusal : ℕ → ℕ → ℕ → ℕ → ℕ
+test-refusal ida idb kinda kindb =
+    cond (ltb largest-id idb) unknown-id
+    (cond (eqb kinda no-body || eqb kindb no-body) no-shape
+    (cond (eqb ida idb || not (listed kinda kindb)) pair-not-listed
+    accepted))
+
+abbrev pub test-answered : Body → Pair → TestAnswer → Change
+test-answered body pair t =
+    cond (eqb (t .refusal) accepted)
+    (record { said = record { answer = Tested (t .touch) }; body = body; pair = t .pair; forget = false })
+    (refused (t .refusal) body pair)
+
+unfoldable pub test-change : ℕ → ℕ → Body → Body → Pair → Change
+test-change ida idb a b pair =
+    let number = test-refusal ida idb (a .kind) (b .kind) in
+    cond (eqb number accepted) (test-answered a pair (tested ida idb a b pair)) (refused number a pair)
+
+-- ---- any frame, for the body that its first id names, the one that its third byte names, and their pair
+unfoldable pub change-of-kind : ℕ → Body → Body → Pair → List ℕ → Change
+change-of-kind kind a b pair bytes =
+    cond (eqb kind 1) (circle-change a pair bytes)
+    (cond (eqb kind 2) (outline-change a pair bytes)
+    (cond (eqb kind 3) (wall-change a pair bytes)
+    (cond (eqb kind 4) (place-change a pair bytes)
+    (test-change (byte-at bytes 1) (byte-at bytes 2) a b pair))))
+
+unfoldable pub change : Body → Body → Pair → List ℕ → Change
+change a b pair bytes =
+    cond (not (well-formed bytes)) (refused malformed-frame a pair)
+    (cond (ltb largest-id (byte-at bytes 1)) (refused unknown-id a pair)
+    (change-of-kind (byte-at bytes 0) a b pair bytes))

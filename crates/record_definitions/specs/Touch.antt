@@ -1,0 +1,112 @@
+-- Document 01, "The touch record": a test of two bodies. The contact call from a default manifold, the world points,
+-- the point states against the pair's last contact, and the touches: one for each point in state add. Definitions only.
+use Prim.Native.Nat.{ℕ, _+_, _-_, _^_, min}
+use mathlib.Core.Bool.{cond}
+use lib.Dec.{eqb}
+use lib.ListN.{getD}
+use lib.Ieee.{Float}
+use Rattle.rounding.specs.Literals.{zero32}
+use Rattle.shape_definitions.specs.Refusal.{accepted}
+use Rattle.shape_definitions.specs.Outline.{origin, point-at}
+use Rattle.contact_definitions.specs.declared.b2_collision.B2manifold.{B2manifold}
+use Rattle.contact_definitions.specs.declared.b2_collision.B2pointState.{B2pointState}
+use Rattle.contact_definitions.specs.declared.b2_collision.B2pointState.the-variants.{B2NullState, B2AddState}
+use Rattle.contact_definitions.specs.declared.b2_collision.B2pointState.the-variants.{B2PersistState, B2RemoveState}
+use Rattle.contact_definitions.specs.declared.b2_collision.B2worldManifold.{B2worldManifold}
+use Rattle.contact_definitions.specs.declared.b2_collision.ManifoldAnswer.{ManifoldAnswer}
+use Rattle.contact_definitions.specs.declared.b2_collision.PointStates.{PointStates}
+use Rattle.contact_definitions.specs.declared.b2_collision.WorldAnswer.{WorldAnswer}
+use Rattle.contact_definitions.specs.Manifold.{as-byte, default-manifold, kind-number}
+use Rattle.contact_definitions.specs.B2CollideCircle.{b2-collide-circles, b2-collide-polygon-and-circle}
+use Rattle.contact_definitions.specs.B2CollidePolygon.{b2-collide-polygons}
+use Rattle.contact_definitions.specs.B2CollideEdge.{b2-collide-edge-and-circle, b2-collide-edge-and-polygon}
+use Rattle.contact_definitions.specs.PointStates.{ids-in, ids-of, states-of-ids}
+use Rattle.contact_definitions.specs.WorldManifold.{default-world-manifold, b2-world-manifold-initialize}
+use Rattle.record_definitions.specs.declared.world.Body.{Body}
+use Rattle.record_definitions.specs.declared.world.Pair.{Pair}
+use Rattle.record_definitions.specs.declared.touch.TestAnswer.{TestAnswer}
+use Rattle.record_definitions.specs.declared.touch.Touch.{Touch}
+use Rattle.record_definitions.specs.declared.touch.TouchPoint.{TouchPoint}
+use Rattle.record_definitions.specs.World.{circle-kind, outline-kind}
+
+-- ---- the contact of a listed pair, from a default manifold
+unfoldable pub meet-circle : Body → Body → ManifoldAnswer
+meet-circle a b =
+    cond (eqb (a .kind) circle-kind) (b2-collide-circles default-manifold (a .circle) (a .xf) (b .circle) (b .xf))
+    (cond (eqb (a .kind) outline-kind)
+    (b2-collide-polygon-and-circle default-manifold (a .outline) (a .xf) (b .circle) (b .xf))
+    (b2-collide-edge-and-circle default-manifold (a .wall) (a .xf) (b .circle) (b .xf)))
+
+unfoldable pub meet-outline : Body → Body → ManifoldAnswer
+meet-outline a b =
+    cond (eqb (a .kind) outline-kind)
+    (b2-collide-polygons default-manifold (a .outline) (a .xf) (b .outline) (b .xf))
+    (b2-collide-edge-and-polygon default-manifold (a .wall) (a .xf) (b .outline) (b .xf))
+
+unfoldable pub meet : Body → Body → ManifoldAnswer
+meet a b = cond (eqb (b .kind) circle-kind) (meet-circle a b) (meet-outline a b)
+
+-- ---- its world points, with the radius of each body's shape
+unfoldable pub skin : Body → Float
+skin body =
+    cond (eqb (body .kind) circle-kind) (body .circle .«m_radius»)
+    (cond (eqb (body .kind) outline-kind) (body .outline .«m_radius») (body .wall .«m_radius»))
+
+unfoldable pub world-points : Body → Body → B2manifold → WorldAnswer
+world-points a b m = b2-world-manifold-initialize default-world-manifold m (a .xf) (skin a) (b .xf) (skin b)
+
+-- a test is refused by the contact, then by the world points
+abbrev pub refusal-of : ManifoldAnswer → WorldAnswer → ℕ
+refusal-of met world = cond (eqb (met .refusal) accepted) (world .refusal) (met .refusal)
+
+-- ---- touches: the 32-bit count holds at its largest
+abbrev pub added : B2pointState → ℕ
+added B2NullState = 0
+added B2AddState = 1
+added B2PersistState = 0
+added B2RemoveState = 0
+
+abbrev pub largest-count : ℕ
+largest-count = 2 ^ 32 - 1
+
+unfoldable pub touches-after : ℕ → PointStates → ℕ
+touches-after touches states = min (touches + (added (states .new0) + added (states .new1))) largest-count
+
+-- the states against the pair's last contact
+unfoldable pub states-of : Pair → B2manifold → PointStates
+states-of pair m = states-of-ids (ids-in (pair .ids)) (ids-in (ids-of m))
+
+-- ---- the result as printed: the kind is 0 where there is no point
+abbrev pub shown-kind : B2manifold → ℕ
+shown-kind m = cond (eqb (m .«point_count») 0) 0 (kind-number (m .«manifold_type»))
+
+abbrev pub point-of : B2worldManifold → ℕ → TouchPoint
+point-of w i = record { p = point-at (w .points) i; separation = getD (w .separations) i zero32 }
+
+unfoldable pub touch-of : ℕ → ℕ → B2manifold → PointStates → ℕ → B2worldManifold → Touch
+touch-of ida idb m states touches w = record {
+  a = ida;
+  b = idb;
+  count = as-byte (m .«point_count»);
+  kind = shown-kind m;
+  states = states;
+  touches = touches;
+  normal = w .normal;
+  first = point-of w 0;
+  second = point-of w 1;
+}
+
+-- ---- the test of a listed pair
+unfoldable pub tested-as : ℕ → ℕ → Pair → ManifoldAnswer → WorldAnswer → TestAnswer
+tested-as ida idb pair met world =
+    let m = met .manifold in
+    let states = states-of pair m in
+    let touches = touches-after (pair .touches) states in
+    record {
+      refusal = refusal-of met world;
+      touch = touch-of ida idb m states touches (world .world);
+      pair = record { ids = ids-of m; touches = touches };
+    }
+
+unfoldable pub tested : ℕ → ℕ → Body → Body → Pair → TestAnswer
+tested ida idb a b pair = tested-as ida idb pair (meet a b) (world-points a b (meet a b .manifold))

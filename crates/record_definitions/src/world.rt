@@ -1,0 +1,36 @@
+// The state: eight bodies, and for each ordered pair of them what its last test left.
+use contact_definitions::b2_collision::CountedIds;
+use floats::b2_math::B2Transform;
+use shape_definitions::b2_circle_shape::B2circleShape;
+use shape_definitions::b2_edge_shape::B2edgeShape;
+use shape_definitions::b2_polygon_shape::B2polygonShape;
+
+// A body's kind is that of the frame that defines it: 1 circle, 2 outline, 3 wall; 0 where there is no shape. The
+// shapes of the other kinds are blank.
+pub const NO_BODY: u8 = 0;
+
+pub const CIRCLE: u8 = 1;
+
+pub const OUTLINE: u8 = 2;
+
+pub const WALL: u8 = 3;
+
+pub struct Body {
+    pub kind: u8,
+    pub xf: B2Transform,
+    pub circle: B2circleShape,
+    pub outline: B2polygonShape,
+    pub wall: B2edgeShape,
+}
+
+// What a pair keeps: the ids of its last contact's points, and its touches.
+pub struct Pair {
+    pub ids: CountedIds,
+    pub touches: u32,
+}
+
+// The pair of bodies a and b stands at 8 * a + b.
+pub struct World {
+    pub bodies: [Body; 8],
+    pub pairs: [Pair; 64],
+}
