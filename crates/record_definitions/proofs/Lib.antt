@@ -1,2 +1,5 @@
 pub mod Pieces
 pub mod Feeding
+pub mod Alone
+pub mod FreshPairs
+pub mod Exported
