@@ -6,3 +6,6 @@ pub mod Exported
 pub mod Refusing
 pub mod Changes
 pub mod Pairs
+pub mod States
+pub mod Counting
+pub mod Lengths
