@@ -1,32 +1,24 @@
 -- What a test that answers prints and keeps: the states and ids of its contact, the count of touches, and the number of
 -- points, which is at most two. Assumes nothing.
-use Prim.Native.Nat.{ℕ, _+_, _%_, _≤_, _<_, min}
-use mathlib.Core.Path.{_≡_, refl, sym, _∙_, ap}
-use mathlib.Core.Bool.{Bool, true, false, cond}
-use mathlib.Core.List.{List, [], _∷_, _++_}
+use Prim.Native.Nat.{ℕ, _≤_}
+use mathlib.Core.Path.{_≡_, refl}
+use mathlib.Core.Bool.{Bool, true, false}
 use native.Mathlib.Omega.{arith}
 use lib.Dec.{eqb}
-use lib.ListN.{length, length-append}
-use borrow.Author.Tests.{eq-eqb, ne-eqb, eqb-true}
-use Rattle.lines.specs.Fields.{byte-at}
+use borrow.Author.Tests.{eqb-true}
 use Rattle.shape_definitions.specs.Refusal.{accepted}
-use Rattle.contact_definitions.specs.declared.b2_collision.B2manifold.{B2manifold}
 use Rattle.contact_definitions.specs.declared.b2_collision.ManifoldAnswer.{ManifoldAnswer}
-use Rattle.contact_definitions.specs.declared.b2_collision.PointStates.{PointStates}
 use Rattle.contact_definitions.specs.declared.b2_collision.WorldAnswer.{WorldAnswer}
-use Rattle.contact_definitions.specs.Manifold.{as-byte, default-manifold}
+use Rattle.contact_definitions.specs.Manifold.{default-manifold}
 use Rattle.contact_definitions.specs.PointStates.{ids-of}
 use Rattle.contact_definitions.proofs.Counts.{Few, OnFace, Accepted, either}
 use Rattle.contact_definitions.proofs.Theorem.{circles-count, polygon-and-circle-count, edge-and-circle-count}
 use Rattle.contact_definitions.proofs.Theorem.{polygons-count-and-kind, edge-and-polygon-count-and-kind}
 use Rattle.record_definitions.specs.declared.world.Body.{Body}
 use Rattle.record_definitions.specs.declared.world.Pair.{Pair}
-use Rattle.record_definitions.specs.declared.world.World.{World}
-use Rattle.record_definitions.specs.declared.touch.Touch.{Touch}
-use Rattle.record_definitions.specs.declared.frame.Answer.the-variants.{Tested}
-use Rattle.record_definitions.specs.World.{circle-kind, outline-kind, body-at, pair-at}
+use Rattle.record_definitions.specs.World.{circle-kind, outline-kind}
 use Rattle.record_definitions.specs.Touch.{meet-circle, meet-outline, meet, world-points, refusal-of}
-use Rattle.record_definitions.specs.Touch.{added, largest-count, touches-after, states-of, touch-of, tested-as}
+use Rattle.record_definitions.specs.Touch.{touches-after, states-of, touch-of, tested-as}
 use Rattle.record_definitions.specs.Touch.{tested}
 
 -- ---- at most two points

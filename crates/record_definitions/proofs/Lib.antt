@@ -9,3 +9,8 @@ pub mod Pairs
 pub mod States
 pub mod Counting
 pub mod Lengths
+pub mod Sound
+pub mod BuiltCounts
+pub mod SoundTests
+pub mod Again
+pub mod Theorem

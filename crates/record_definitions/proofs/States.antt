@@ -2,12 +2,12 @@
 -- counted point is in state persist where its id is among the ids of the pair's last contact, and else in state add.
 -- Assumes nothing.
 use Prim.Native.Nat.{ℕ, zero, suc, _+_, _≤_, _<_}
-use mathlib.Core.Path.{_≡_, refl, sym, _∙_, ap}
+use mathlib.Core.Path.{_≡_, refl}
 use mathlib.Core.Bool.{Bool, true, false, cond, _||_}
 use mathlib.Core.List.{List, [], _∷_, map}
 use native.Mathlib.Omega.{arith}
-use lib.Dec.{eqb, ltb}
-use lib.ListN.{length, getD, take}
+use lib.Dec.{eqb}
+use lib.ListN.{length, take}
 use borrow.Author.Tests.{eq-eqb, ne-eqb, le-ltb}
 use Rattle.shape_definitions.specs.Refusal.{accepted}
 use Rattle.contact_definitions.specs.declared.b2_collision.B2contactId.{B2contactId}
@@ -17,7 +17,7 @@ use Rattle.contact_definitions.specs.declared.b2_collision.B2pointState.the-var
 use Rattle.contact_definitions.specs.declared.b2_collision.B2pointState.the-variants.{B2PersistState}
 use Rattle.contact_definitions.specs.declared.b2_collision.CountedIds.{CountedIds}
 use Rattle.contact_definitions.specs.declared.b2_collision.PointStates.{PointStates}
-use Rattle.contact_definitions.specs.Manifold.{default-id, counted-points}
+use Rattle.contact_definitions.specs.Manifold.{counted-points}
 use Rattle.contact_definitions.specs.PointStates.{same-id, id-among, counted-ids, ids-of, ids-in}
 use Rattle.contact_definitions.specs.PointStates.{point-state, states-of-ids, b2-get-point-states}
 use Rattle.record_definitions.specs.Touch.{added}
@@ -105,7 +105,10 @@ adds-none : (n : ℕ) (ids : CountedIds) → ids .count ≡ n → added-against 
 unfolding added-against states-of-ids point-state ids-in id-among
 adds-none zero ids is = rw is refl
 adds-none (suc zero) ids is = rw (is, same-itself (ids .first)) refl
-adds-none (suc (suc n)) ids is = rw (two-ids n ids is, same-itself (ids .first), same-itself (ids .second), or-true (same-id (ids .first) (ids .second))) refl
+adds-none (suc (suc n)) ids is =
+    let second-there : same-id (ids .first) (ids .second) || true ≡ true =
+    or-true (same-id (ids .first) (ids .second)) in
+    rw (two-ids n ids is, same-itself (ids .first), same-itself (ids .second), second-there) refl
 
 pub repeated-adds-none : (ids : CountedIds)
     → added (states-of-ids (ids-in ids) (ids-in ids) .new0) + added (states-of-ids (ids-in ids) (ids-in ids) .new1) ≡ 0
