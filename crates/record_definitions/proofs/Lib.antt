@@ -14,3 +14,9 @@ pub mod BuiltCounts
 pub mod SoundTests
 pub mod Again
 pub mod Theorem
+pub mod Heats
+pub mod TableCases
+pub mod Controls
+pub mod OutlineHeats
+pub mod WallHeats
+pub mod ExportCases
