@@ -65,6 +65,12 @@ pub record OutlineHeats : Type 0 where
       ("02000200000000000000003f80000000000000", "ff01") ∷
       ("050001", "0500010101020002000000000100000000bf8000003f0000003df5c28fbe851eb8") ∷
       [])
+  -- the kind that the contact call writes is not printed where clipping leaves no point
+  pub clipped-away : Runs (
+      ("020004bf800000bf8000003f800000bf8000003f8000003f800000bf8000003f800000", "00") ∷
+      ("0201033f8147ae3f83d70a3f8ccccdc0a000003f8147ae40400000", "00") ∷
+      ("050001", "05000100000000000000000000") ∷
+      [])
   -- refusals 1, 2, 3, 4 and 5 of an outline
   pub outlines-refused : Runs (
       ("020000", "ff01") ∷
@@ -103,6 +109,7 @@ unfolding neg add sub mul div le lt eq ofBits toBits root-digits whole-root roun
 outline-heats = record {
   outlines-slide = refl;
   outline-and-circle = refl;
+  clipped-away = refl;
   outlines-refused = refl;
   far-centroid = refl;
 }
