@@ -3,6 +3,7 @@
 ghost use mathlib.Core.Path.{_≡_};
 ghost use Prim.Native.Nat.{_<_, _≤_};
 ghost use Rattle.contact_definitions.specs.WorldManifold.{world-of-kind, b2-world-manifold-initialize};
+ghost use Rattle.world_points.specs.Points.{world-answer};
 use crate::circle_points;
 use crate::face_points;
 use crate::point_ranges;
@@ -82,4 +83,21 @@ pub fn b2_world_manifold_initialize_core(
         world,
         refusal: refusal::ACCEPTED,
     }
+}
+
+// The same, with the caller's record changed through a reference: the refusal, or 0.
+pub fn b2_world_manifold_initialize(
+    world: &mut B2worldManifold,
+    m: B2manifold,
+    xf_a: B2Transform,
+    radius_a: f32,
+    xf_b: B2Transform,
+    radius_b: f32,
+) -> u8
+    ensures { λ r. ⌜ world-answer (now (world .exit)) r
+        ≡ b2-world-manifold-initialize (now (world .entry)) m «xf_a» «radius_a» «xf_b» «radius_b» ⌝ }
+{
+    let a = b2_world_manifold_initialize_core(*world, m, xf_a, radius_a, xf_b, radius_b);
+    *world = a.world;
+    a.refusal
 }
