@@ -1,6 +1,6 @@
 -- The world manifold of a face from what the code computes: the points over the places, by the count, and the middle
 -- from either side. Assumes nothing.
-use mathlib.Core.Path.{_≡_, refl, sym, ap, ap₂, _∙_}
+use mathlib.Core.Path.{_≡_, refl, ap, ap₂, _∙_}
 use mathlib.Core.Bool.{Bool, true, false, cond}
 use mathlib.Core.List.{List, [], _∷_, map}
 use Prim.Native.Nat.{ℕ, zero, suc, _≤_, _<_}
@@ -89,7 +89,8 @@ module _ (is-b : Bool) (old : B2worldManifold) (m : B2manifold) (d : B2manifoldP
       .points ≡ over (map (plane-middle is-b normal plane radius1 radius2) (carried-points m xf2)) (old .points)
   unfolding carried-points counted-points
   middles normal plane =
-      ap₂ (λ (p q : B2vec2). p ∷ q ∷ []) (middle-either is-b normal plane radius1 radius2 (carry (getD (m .points) 0 d)))
+      ap₂ (λ (p q : B2vec2). p ∷ q ∷ [])
+      (middle-either is-b normal plane radius1 radius2 (carry (getD (m .points) 0 d)))
       (chosen-middle (eqb (m .«point_count») 1) _ _
       ∙ ap (cond (eqb (m .«point_count») 1) (getD (old .points) 1 origin))
       (middle-either is-b normal plane radius1 radius2 (carry (getD (m .points) 1 d))))

@@ -1,14 +1,11 @@
--- A world point of a face, what stands at the second place of a world manifold, and an answer in its two parts.
--- Definitions only.
+-- A world point of a face, and what stands at the second place of a world manifold. Definitions only.
 use mathlib.Core.Bool.{false}
-use Prim.Native.Nat.{ℕ}
 use lib.Ieee.{Float}
 use lib.ListN.{getD}
 use Rattle.floats.specs.declared.b2_math.B2vec2.{B2vec2}
 use Rattle.rounding.specs.Literals.{zero32}
 use Rattle.shape_definitions.specs.Outline.{origin}
 use Rattle.contact_definitions.specs.declared.b2_collision.B2worldManifold.{B2worldManifold}
-use Rattle.contact_definitions.specs.declared.b2_collision.WorldAnswer.{WorldAnswer}
 use Rattle.contact_definitions.specs.WorldManifold.{plane-middle, plane-separation}
 use Rattle.world_points.specs.declared.face_points.WorldPoint.{WorldPoint}
 
@@ -21,7 +18,3 @@ at-plane normal plane radius1 radius2 p = record {
 
 abbrev pub second-of : B2worldManifold → WorldPoint
 second-of old = record { middle = getD (old .points) 1 origin; separation = getD (old .separations) 1 zero32 }
-
--- an answer in its two parts
-abbrev pub world-answer : B2worldManifold → ℕ → WorldAnswer
-world-answer world refusal = record { world = world; refusal = refusal }

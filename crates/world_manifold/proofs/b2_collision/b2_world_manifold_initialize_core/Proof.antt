@@ -1,12 +1,12 @@
 -- By the tests in order. Assumes nothing.
-use mathlib.Core.Path.{sym, ap, _∙_}
+use mathlib.Core.Path.{sym}
 use borrow.Author.Tests.{lt-ltb, le-ltb, eq-eqb, ne-eqb}
 use Rattle.contact_definitions.specs.WorldManifold.{b2-world-manifold-initialize}
 use borrow.Author.Needs.{needs}
-use Rattle.world_points.proofs.b2_collision.b2_world_manifold_initialize_core.Statement.{
+use Rattle.world_manifold.proofs.b2_collision.b2_world_manifold_initialize_core.Statement.{
   statement,
 }
-use Rattle.world_points.proofs.b2_collision.b2_world_manifold_initialize_core.Tie as tie
+use Rattle.world_manifold.proofs.b2_collision.b2_world_manifold_initialize_core.Tie as tie
 
 returns : tie.Need-returns
 unfolding b2-world-manifold-initialize

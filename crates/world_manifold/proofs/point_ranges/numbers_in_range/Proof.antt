@@ -1,10 +1,10 @@
 -- All but the second point, then that one. Assumes nothing.
 use lib.ListN.{length-map}
 use borrow.Author.Tests.{not-true, not-false}
-use Rattle.world_points.proofs.Ranges.{numbers-out, one-in, second-decides}
+use Rattle.world_manifold.proofs.Ranges.{numbers-out, one-in, second-decides}
 use borrow.Author.Needs.{needs}
-use Rattle.world_points.proofs.point_ranges.numbers_in_range.Statement.{statement}
-use Rattle.world_points.proofs.point_ranges.numbers_in_range.Tie as tie
+use Rattle.world_manifold.proofs.point_ranges.numbers_in_range.Statement.{statement}
+use Rattle.world_manifold.proofs.point_ranges.numbers_in_range.Tie as tie
 
 element-copy-out-p0 : tie.Need-element-copy-out-p0
 element-copy-out-p0 c = search needs

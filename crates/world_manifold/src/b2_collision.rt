@@ -3,9 +3,7 @@
 ghost use mathlib.Core.Path.{_≡_};
 ghost use Prim.Native.Nat.{_<_, _≤_};
 ghost use Rattle.contact_definitions.specs.WorldManifold.{world-of-kind, b2-world-manifold-initialize};
-ghost use Rattle.world_points.specs.Points.{world-answer};
-use crate::circle_points;
-use crate::face_points;
+ghost use Rattle.world_manifold.specs.Answers.{world-answer};
 use crate::point_ranges;
 use contact_definitions::b2_collision::B2manifold;
 use contact_definitions::b2_collision::B2manifoldType;
@@ -14,6 +12,8 @@ use contact_definitions::b2_collision::WorldAnswer;
 use floats::b2_common::B2_MAX_MANIFOLD_POINTS;
 use floats::b2_math::B2Transform;
 use shape_definitions::refusal;
+use world_points::circle_points;
+use world_points::face_points;
 
 // By the kind of the manifold.
 pub fn world_of_kind(

@@ -1,9 +1,7 @@
 -- By the kind. Assumes nothing.
-use mathlib.Core.Path.{sym, ap, _∙_}
-use Rattle.contact_definitions.specs.WorldManifold.{world-of-kind}
 use borrow.Author.Needs.{needs}
-use Rattle.world_points.proofs.b2_collision.world_of_kind.Statement.{statement}
-use Rattle.world_points.proofs.b2_collision.world_of_kind.Tie as tie
+use Rattle.world_manifold.proofs.b2_collision.world_of_kind.Statement.{statement}
+use Rattle.world_manifold.proofs.b2_collision.world_of_kind.Tie as tie
 
 enum-told : tie.Need-enum-told
 enum-told c = search needs
