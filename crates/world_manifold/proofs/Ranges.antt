@@ -1,7 +1,7 @@
 -- The ranges of a manifold with one or two points and of two radii, from the tests that the code makes: first all but
 -- the second point, then that one. Assumes nothing.
 use mathlib.Core.Path.{_≡_, refl, sym, ap, ap₂, _∙_}
-use mathlib.Core.Bool.{Bool, true, false, _&&_}
+use mathlib.Core.Bool.{Bool, true, false, _&&_, false≢true, and-true}
 use mathlib.Core.List.{List}
 use Prim.Native.Nat.{ℕ, zero, suc, _≤_, _<_}
 use native.Mathlib.Omega.{arith}
@@ -15,9 +15,6 @@ use Rattle.contact_definitions.specs.WorldManifold.{points-in-range, manifold-i
 use Rattle.clipping.proofs.Two.{Two, two, two-of}
 
 -- ---- conjunctions
-never : {P : Type 0} → false ≡ true → P
-never h = let z : _≡_ {A = ℕ} 0 1 = cc in absurd (omega arith)
-
 one-fails : (normal point first a b rest : Bool) → (normal && point && first && a && b) ≡ false
     → false ≡ (normal && point && (first && rest) && a && b)
 one-fails false point first a b rest h = refl
@@ -28,15 +25,11 @@ one-fails true true true a b false h = refl
 
 all-hold : (normal point first a b rest : Bool) → (normal && point && first && a && b) ≡ true
     → rest ≡ (normal && point && (first && rest) && a && b)
-all-hold false point first a b rest h = never h
-all-hold true false first a b rest h = never h
-all-hold true true false a b rest h = never h
+all-hold false point first a b rest h = absurd (false≢true h)
+all-hold true false first a b rest h = absurd (false≢true h)
+all-hold true true false a b rest h = absurd (false≢true h)
 all-hold true true true a b true h = sym h
 all-hold true true true a b false h = refl
-
-and-true : (t : Bool) → t ≡ (t && true)
-and-true true = refl
-and-true false = refl
 
 -- ---- the counted points
 of-one : (count : ℕ) (ps : List B2manifoldPoint) (d : B2manifoldPoint) → length ps ≡ 2 → count ≡ 1
@@ -110,4 +103,4 @@ module _ (m : B2manifold) (d : B2manifoldPoint) (size : length (m .points) ≡ 2
   pub second-decides : (e : B2manifoldPoint) (second : Bool) → most ≡ true → (m .«point_count» ≡ 1 → ⊥)
       → second ≡ contact-point-in-range (getD (m .points) 1 e .«local_point») → second ≡ Asked
   second-decides e second h more second-is =
-      second-is ∙ and-true _ ∙ all-hold normal point first a b _ h ∙ as-found _ (two-counted e more)
+      second-is ∙ sym (and-true _) ∙ all-hold normal point first a b _ h ∙ as-found _ (two-counted e more)
