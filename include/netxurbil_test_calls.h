@@ -30,10 +30,10 @@ enum netxurbil_refusal {
    POLY is 36 words: radius, centroid x y, count, 8 vertices, 8 normals. EDGE is 10 words: radius, flag (1 for
    one-sided, 0 for two-sided), v0, v1, v2, v3. CIRCLE is 3: radius, centre. XF, a placement, is 4: position, sine,
    cosine. MAN is 16: kind (0 circles, 1 face A, 2 face B), count, local normal, local point, then twice: local point,
-   normal impulse, tangent impulse, id. CLIPV is 3: point, id. An id is one word, its bytes index A, index B, type A,
-   type B, highest first. A state is 0 for null, 1 for add, 2 for persist, 3 for remove. Points are x then y. A count
-   may be any word; a kind, flag or state that is none of these makes the request malformed. A refused call answers
-   the record that it was given.
+   normal impulse, tangent impulse, id. CLIPV is 3: point, id. WMAN is 8: normal, two points, two separations. An id
+   is one word, its bytes index A, index B, type A, type B, highest first. A state is 0 for null, 1 for add, 2 for
+   persist, 3 for remove. Points are x then y. A count may be any word; a kind, flag or state that is none of these
+   makes the request malformed. A refused call answers the record that it was given.
 
       1, POLY, n, n points                     the outline builder: refusal, POLY
       2, POLY, hx, hy                          a box: refusal, POLY
@@ -48,6 +48,8 @@ enum netxurbil_refusal {
      11, MAN, EDGE, XF, POLY, XF               wall against outline: refusal, MAN
      12, 2 CLIPV, 2 CLIPV, normal, offset,     a segment clipped to a line, over the first two CLIPV: refusal, count,
          index                                 2 CLIPV; an index counts by its remainder by 256
+     13, WMAN, MAN, XF, radius, XF, radius     world points of a manifold between A and B, over the WMAN: refusal,
+                                               WMAN; no points leave it as it was
      14, 4 states, MAN, MAN                    states of the old and the new manifold's points: refusal, 4 states
      15, x                                     the square root of x: refusal, root
      16, x, y                                  the vector (x, y) made unit: refusal, length, x, y; a length

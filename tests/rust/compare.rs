@@ -84,17 +84,15 @@ fn refusal_name(number: u32) -> String {
 /// One row, until `cases` were asked of the references.
 pub fn run(row: &Row, cases: u64, seed: u64) -> bool {
     let mut random = Random::new(seed);
-    let name = if row.ours.is_some() { row.name.to_string() } else { format!("{}, references only", row.name) };
-    let mut tally = Tally::new(&name);
+    let mut tally = Tally::new(row.name);
     let mut asked = 0;
     // a generator that seldom is in range fails instead of running on
     while asked < cases && tally.cases < 6 * cases {
         let request = (row.generate)(&mut random);
         let (answer, agree, of_references) = expected(row, &request);
         asked += of_references as u64;
-        let ours = row.ours.map(|ours| ours(&request));
-        let right =
-            ours.as_ref().map_or(true, |words| !words.is_empty() && Answer::of(words).agrees(&answer, row.plain));
+        let ours = (row.ours)(&request);
+        let right = !ours.is_empty() && Answer::of(&ours).agrees(&answer, row.plain);
         tally.case(agree && right, || {
             let references = if agree {
                 format!("the references {answer:08x?}")
@@ -105,7 +103,7 @@ pub fn run(row: &Row, cases: u64, seed: u64) -> bool {
         });
         // where nothing else tells the number of a refusal, ours does
         let number =
-            if answer.refusals.len() == 1 { answer.refusals[0] } else { ours.as_ref().map_or(0, |words| words[0]) };
+            if answer.refusals.len() == 1 { answer.refusals[0] } else { ours.first().map_or(0, |refusal| *refusal) };
         tally.met(&refusal_name(number));
         if number == 0 {
             let mut words = vec![0];

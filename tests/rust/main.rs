@@ -37,7 +37,7 @@ fn store(file: &str, cases: u64, seed: u64) {
         return;
     }
     println!("# the Rust and Box2D 2.4.1 agree on it, but for refusals 2, 6, 7 and 9, which are document 01's alone");
-    let rows: Vec<&Row> = TABLE.iter().filter(|row| row.stored == file && row.ours.is_some()).collect();
+    let rows: Vec<&Row> = TABLE.iter().filter(|row| row.stored == file).collect();
     for i in 0..cases {
         let row = rows[i as usize % rows.len()];
         let request = (row.generate)(&mut random);
@@ -64,7 +64,7 @@ fn main() {
     println!("seed {seed}");
     let mut results = vec![malformed::run(cases, seed)];
     for (i, row) in TABLE.iter().enumerate() {
-        if compare::REFERENCES + row.ours.is_some() as usize >= 2 {
+        if compare::REFERENCES > 0 {
             results.push(compare::run(row, cases, seed + 1 + i as u64));
         } else {
             println!("not at hand: what to compare in the row '{}'", row.name);

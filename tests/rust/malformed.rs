@@ -17,9 +17,9 @@ const SPOILS: [&str; 10] = [
     "n that does not fit the length",
 ];
 
-/// The first row of a number. Rows whose entry we do not have yet count as unknown numbers.
+/// The first row of a number.
 fn row_of(entry: u32) -> Option<&'static Row> {
-    TABLE.iter().find(|row| row.entry == entry && row.ours.is_some())
+    TABLE.iter().find(|row| row.entry == entry)
 }
 
 /// The words of the answer to these bytes, where they are a request.

@@ -27,6 +27,5 @@ pub struct Row {
     /// What is counted of a request and its answer, and what of it must be met.
     pub kinds: fn(&[u32], &[u32]) -> Vec<&'static str>,
     pub wanted: &'static [&'static str],
-    /// Ours; without it only the references are compared with each other.
-    pub ours: Option<fn(&[u32]) -> Vec<u32>>,
+    pub ours: fn(&[u32]) -> Vec<u32>,
 }

@@ -8,9 +8,6 @@ use crate::shapes;
 use crate::lent_slice;
 use crate::support::calls;
 
-/// Entries 7 to 12 and 14 (entry 13, the world points, is compared between the references alone).
-const CONTACTS: Option<fn(&[u32]) -> Vec<u32>> = Some(calls);
-
 fn none(_: &[u32]) -> u32 {
     0
 }
@@ -42,7 +39,7 @@ const OUTLINE: Row = Row {
     closed: &[],
     kinds: no_kinds,
     wanted: &[],
-    ours: Some(calls),
+    ours: calls,
 };
 const BOX: Row = Row {
     name: "box",
@@ -98,7 +95,6 @@ const CIRCLES: Row = Row {
     closed: &[(1, 2)],
     kinds: contacts::kinds,
     wanted: &["0 points", "1 point", "circles"],
-    ours: CONTACTS,
     ..BOX
 };
 const ROOT: Row = Row {
@@ -122,7 +118,7 @@ pub const TABLE: &[Row] = &[
     Row {
         name: "outline builder, lent slice",
         generate: shapes::set_any_count,
-        ours: Some(lent_slice::answer),
+        ours: lent_slice::answer,
         ..OUTLINE
     },
     BOX,
@@ -205,7 +201,6 @@ pub const TABLE: &[Row] = &[
         closed: &[(9, 2)],
         kinds: manifolds::world_kinds,
         wanted: &["0 points", "1 point", "2 points", "circles", "circles along x", "face A", "face B"],
-        ours: None,
         ..CIRCLES
     },
     Row {

@@ -16,3 +16,4 @@ pub mod Counts
 pub mod CircleCounts
 pub mod FaceCounts
 pub mod Theorem
+pub mod WorldRefusals

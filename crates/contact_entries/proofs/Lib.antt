@@ -1,2 +1,2 @@
-pub mod WellFormed
+pub mod PairWords
 pub mod Dispatch

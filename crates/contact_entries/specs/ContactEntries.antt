@@ -1,24 +1,21 @@
 -- What the entries of the contact calls answer: the refusal (0 for accepted), and then the complete record after the
 -- call. The answer to a malformed request is no word at all. Definitions only.
-use Prim.Native.Nat.{ℕ, _*_}
-use mathlib.Core.Bool.{Bool, true, cond, _&&_}
+use Prim.Native.Nat.{ℕ}
+use mathlib.Core.Bool.{true, cond, _&&_}
 use mathlib.Core.List.{List, []}
 use lib.Dec.{eqb}
-use lib.ListN.{length}
 use Rattle.contact_definitions.specs.B2CollideCircle.{b2-collide-circles, b2-collide-polygon-and-circle}
 use Rattle.contact_definitions.specs.B2CollidePolygon.{b2-collide-polygons}
 use Rattle.contact_definitions.specs.B2CollideEdge.{b2-collide-edge-and-circle, b2-collide-edge-and-polygon}
 use Rattle.contact_definitions.specs.Clip.{b2-clip-segment-to-line}
 use Rattle.contact_definitions.specs.PointStates.{b2-get-point-states}
 use Rattle.wire_records.specs.Words.{word-at}
+use Rattle.wire_records.specs.Requests.{well-formed}
 use Rattle.wire_records.specs.Records.{float-at, vector-at, polygon-at, edge-at}
 use Rattle.wire_contacts.specs.ContactRecords.{circle-at, transform-at, manifold-at, kind-known, edge-known}
 use Rattle.wire_contacts.specs.ContactRecords.{clip-vertices-at, states-at, states-known}
+use Rattle.world_entries.specs.WorldEntries.{world-points-answer}
 use Rattle.wire_answers.specs.ContactAnswers.{manifold-answer-words, clip-answer-words, states-answer-words}
-
--- the answer to a request of so many words whose kinds, flags and states are known; to another, none
-unfoldable pub well-formed : ℕ → Bool → List ℕ → List ℕ → List ℕ
-well-formed words known request answer = cond (eqb (length request) (4 * words) && known) answer []
 
 -- ---- two shapes
 
@@ -86,5 +83,6 @@ contact-answer entry request =
     (cond (eqb entry 10) (edge-and-circle-answer request)
     (cond (eqb entry 11) (edge-and-polygon-answer request)
     (cond (eqb entry 12) (clip-answer request)
+    (cond (eqb entry 13) (world-points-answer request)
     (cond (eqb entry 14) (point-states-answer request)
-    []))))))
+    [])))))))

@@ -16,6 +16,7 @@ pub fn call(entry: u32, input: &[u8], out: &mut [u8]) -> u32
         10 => pair_entries::edge_and_circle(input, out),
         11 => pair_entries::edge_and_polygon(input, out),
         12 => point_entries::clip(input, out),
+        13 => world_entries::points(input, out),
         14 => point_entries::states(input, out),
         _ => 0,
     }

@@ -24,6 +24,9 @@ edge-and-polygon-requires c κs = search needs
 clip-requires : tie.Need-clip-requires
 clip-requires c κs = search needs
 
+points-requires : tie.Need-points-requires
+points-requires c κs = search needs
+
 states-requires : tie.Need-states-requires
 states-requires c κs = search needs
 
@@ -95,14 +98,24 @@ unfolding contact-answer
 returns-7 c =
     let called = c .before .before in
     let arm = called .before .before in
-    written-as _ _ _ _ _ (answers-as 14 _ _ (arm .match .keys7)) (called .states .ensures)
+    written-as _ _ _ _ _ (answers-as 13 _ _ (arm .match .keys7)) (called .points .ensures)
+
+same-length-8 : tie.Need-same-length-8
+same-length-8 c = search needs
 
 returns-8 : tie.Need-returns-8
+unfolding contact-answer
 returns-8 c =
+    let called = c .before .before in
+    let arm = called .before .before in
+    written-as _ _ _ _ _ (answers-as 14 _ _ (arm .match .keys8)) (called .states .ensures)
+
+returns-9 : tie.Need-returns-9
+returns-9 c =
+    let rest = c .match .rest in
     nothing-written _ _
-    (no-contact _ _
-    (c .match .rest .0 .0 .0 .0 .0 .0 .1) (c .match .rest .0 .0 .0 .0 .0 .1) (c .match .rest .0 .0 .0 .0 .1)
-    (c .match .rest .0 .0 .0 .1) (c .match .rest .0 .0 .1) (c .match .rest .0 .1) (c .match .rest .1))
+    (no-contact _ _ (rest .0 .0 .0 .0 .0 .0 .0 .1) (rest .0 .0 .0 .0 .0 .0 .1) (rest .0 .0 .0 .0 .0 .1)
+    (rest .0 .0 .0 .0 .1) (rest .0 .0 .0 .1) (rest .0 .0 .1) (rest .0 .1) (rest .1))
 
 pub call-spec : {M : Type 1} → statement M
 call-spec =
@@ -114,6 +127,7 @@ call-spec =
     edge-and-circle-requires
     edge-and-polygon-requires
     clip-requires
+    points-requires
     states-requires
     same-length
     returns
@@ -129,4 +143,6 @@ call-spec =
     returns-6
     same-length-7
     returns-7
-    returns-8)
+    same-length-8
+    returns-8
+    returns-9)

@@ -3,8 +3,9 @@ use mathlib.Core.Path.{ap₂}
 use mathlib.Core.Bool.{_&&_}
 use Rattle.contact_definitions.specs.B2CollideEdge.{b2-collide-edge-and-polygon}
 use Rattle.wire_records.proofs.Bytes.{nothing-written, written-as}
+use Rattle.wire_records.proofs.Requests.{other-length, unknown, answered}
 use Rattle.contact_entries.specs.ContactEntries.{edge-and-polygon-answer}
-use Rattle.contact_entries.proofs.WellFormed.{other-length, unknown, answered, pair-words}
+use Rattle.contact_entries.proofs.PairWords.{pair-words}
 use borrow.Author.Needs.{needs}
 use Rattle.contact_entries.proofs.pair_entries.edge_and_polygon.Statement.{statement}
 use Rattle.contact_entries.proofs.pair_entries.edge_and_polygon.Tie as tie

@@ -2,8 +2,8 @@
 use mathlib.Core.Path.{refl}
 use mathlib.Core.Bool.{true}
 use Rattle.wire_records.proofs.Bytes.{nothing-written, written-as}
+use Rattle.wire_records.proofs.Requests.{other-length, answered}
 use Rattle.contact_entries.specs.ContactEntries.{clip-answer}
-use Rattle.contact_entries.proofs.WellFormed.{other-length, answered}
 use borrow.Author.Needs.{needs}
 use Rattle.contact_entries.proofs.point_entries.clip.Statement.{statement}
 use Rattle.contact_entries.proofs.point_entries.clip.Tie as tie

@@ -2,8 +2,8 @@
 use mathlib.Core.Path.{ap₂}
 use mathlib.Core.Bool.{_&&_}
 use Rattle.wire_records.proofs.Bytes.{nothing-written, written-as}
+use Rattle.wire_records.proofs.Requests.{other-length, unknown, answered}
 use Rattle.contact_entries.specs.ContactEntries.{point-states-answer}
-use Rattle.contact_entries.proofs.WellFormed.{other-length, unknown, answered}
 use borrow.Author.Needs.{needs}
 use Rattle.contact_entries.proofs.point_entries.states.Statement.{statement}
 use Rattle.contact_entries.proofs.point_entries.states.Tie as tie

@@ -5,11 +5,7 @@ use mathlib.Core.Bool.{Bool, true, false, not}
 use mathlib.Core.List.{List, []}
 use lib.ListN.{length}
 use borrow.Author.Tests.{eq-eqb, ne-eqb}
-use Rattle.floats.specs.declared.b2_math.B2Transform.{B2Transform}
-use Rattle.contact_definitions.specs.declared.b2_collision.B2manifold.{B2manifold}
-use Rattle.contact_definitions.specs.declared.b2_collision.ManifoldAnswer.{ManifoldAnswer}
-use Rattle.wire_answers.specs.ContactAnswers.{manifold-answer-words}
-use Rattle.contact_entries.specs.ContactEntries.{well-formed}
+use Rattle.wire_records.specs.Requests.{well-formed}
 
 not-true : (b : Bool) → not b ≡ true → b ≡ false
 not-true true e = sym e
@@ -35,12 +31,3 @@ module _ (words : ℕ) (known : Bool) (request answer : List ℕ) where
       → ws ≡ well-formed words known request answer
   unfolding well-formed
   answered test ws size test-is all ws-is = ws-is ∙ simp (eq-eqb _ _ size, sym test-is ∙ not-false test all)
-
--- a call of two shapes, from what was read
-pub pair-words : {A B : Type 0} (call : B2manifold → A → B2Transform → B → B2Transform → ManifoldAnswer)
-    (old old′ : B2manifold) (a a′ : A) (xfa xfa′ : B2Transform) (b b′ : B) (xfb xfb′ : B2Transform)
-    (answer : ManifoldAnswer) → old ≡ old′ → a ≡ a′ → xfa ≡ xfa′ → b ≡ b′ → xfb ≡ xfb′
-    → answer ≡ call old a xfa b xfb
-    → manifold-answer-words answer ≡ manifold-answer-words (call old′ a′ xfa′ b′ xfb′)
-pair-words call old old′ a a′ xfa xfa′ b b′ xfb xfb′ answer old-is a-is xfa-is b-is xfb-is answer-is =
-    simp (answer-is, old-is, a-is, xfa-is, b-is, xfb-is)
