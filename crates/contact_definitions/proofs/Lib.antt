@@ -1,4 +1,5 @@
 pub mod Searches
+pub mod Extremes
 pub mod Clipping
 pub mod Numbers
 pub mod Given
