@@ -4,3 +4,9 @@ pub mod Placing
 pub mod FaceNormal
 pub mod RootBridge
 pub mod FaceDistance
+pub mod PlacedOutline
+pub mod CornerSeparation
+pub mod Distances
+pub mod MaxSeparation
+pub mod Skins
+pub mod Reach

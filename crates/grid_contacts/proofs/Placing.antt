@@ -2,7 +2,7 @@
 -- exact in f32; and so is a corner of outline 1 seen from the frame of outline 2, as b2_find_max_separation sees it.
 -- Assumes nothing.
 use mathlib.Core.Path.{_≡_}
-use Prim.Native.Nat.{ℕ, _+_, _^_}
+use Prim.Native.Nat.{ℕ, _+_, _*_, _^_}
 use native.Mathlib.Omega.{arith}
 use lib.Dec.{T, leb}
 use lib.Ieee.{binary32, add, sub}
@@ -18,7 +18,7 @@ use Rattle.floats.specs.B2Math.{b2-add, b2-sub, b2-mul-rot-by-vec2, b2-mul-t-ro
 use Rattle.floats.specs.B2Math.{b2-mul-t-transform}
 use Rattle.floats.proofs.Vectors.{carry-is}
 use Rattle.grid.specs.Grid.{steps-per-metre, grid-limit, StepsPoint, GridPoint, value-point}
-use Rattle.grid.proofs.Exact.{steps-add, add-is, steps-vec-sub, sub-is, counts}
+use Rattle.grid.proofs.Exact.{steps-add, add-is, steps-vec-sub, sub-is, steps-metres, counts}
 use Rattle.grid.proofs.Limits.{vector-limit}
 use Rattle.grid_contacts.specs.Placement.{QuarterTurn, turned, Turning, GridPlacement, carried}
 use Rattle.grid_contacts.proofs.Turns.{turned-same, turned-abs, turned-multiple, turned-sum, turned-from-to}
@@ -32,6 +32,11 @@ pub record GridVec (n : ℕ) (v : B2vec2) (p : Point) : Type 0 where
 
 pub grid-vec : {n : ℕ} {v : B2vec2} → StepsPoint n v → GridVec n v (value-point v)
 grid-vec {v = v} steps = record { steps = steps; is = vector-refl (value-point v) }
+
+-- sizes in metres
+pub point-metres : {n : ℕ} {v : B2vec2} (h : ℕ) → T (leb n (steps-per-metre * h)) → StepsPoint n v
+    → PointAbs (value-point v) (h * metre)
+point-metres h low steps = (steps-metres h low (steps .0), steps-metres h low (steps .1))
 
 -- ---- sums and differences
 module _ {m n : ℕ} {v w : B2vec2} {p q : Point} (few : T (leb (m + n) (2 ^ 24))) (v-grid : GridVec m v p)
