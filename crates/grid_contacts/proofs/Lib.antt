@@ -10,3 +10,5 @@ pub mod Distances
 pub mod MaxSeparation
 pub mod Skins
 pub mod Reach
+pub mod Segment
+pub mod Crossing
