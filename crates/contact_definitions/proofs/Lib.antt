@@ -1,6 +1,7 @@
 pub mod Searches
 pub mod Extremes
 pub mod Clipping
+pub mod Ends
 pub mod Numbers
 pub mod Given
 pub mod CircleCases

@@ -12,3 +12,4 @@ pub mod Skins
 pub mod Reach
 pub mod Segment
 pub mod Crossing
+pub mod ClippedEnds
