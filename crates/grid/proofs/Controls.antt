@@ -33,25 +33,25 @@ use Rattle.grid.specs.GridOutline.{normal-bound, direction-error, length
 use Rattle.grid.proofs.Theorem.{first-sentence, built-outline, built-in-range}
 
 -- ---- lists by the bit patterns of their coordinates: 0, -0, 1/256, 1/2, 1, 2, 4 and -4
-abbrev at : ℕ → ℕ → B2vec2
+abbrev pub at : ℕ → ℕ → B2vec2
 at x y = vec2 (ofBits binary32 x) (ofBits binary32 y)
 
-abbrev points : List (ℕ × ℕ) → List B2vec2
+abbrev pub points : List (ℕ × ℕ) → List B2vec2
 points l = map (λ b. at (b .0) (b .1)) l
 
-abbrev minus-zero : ℕ
+abbrev pub minus-zero : ℕ
 minus-zero = 0x8000_0000
 
 abbrev step : ℕ
 step = 0x3b80_0000
 
-abbrev half : ℕ
+abbrev pub half : ℕ
 half = 0x3f00_0000
 
-abbrev one : ℕ
+abbrev pub one : ℕ
 one = 0x3f80_0000
 
-abbrev two : ℕ
+abbrev pub two : ℕ
 two = 0x4000_0000
 
 abbrev four : ℕ
@@ -60,7 +60,7 @@ four = 0x4080_0000
 abbrev minus-four : ℕ
 minus-four = 0xc080_0000
 
-abbrev square : List (ℕ × ℕ)
+abbrev pub square : List (ℕ × ℕ)
 square = (0, 0) ∷ (one, 0) ∷ (one, one) ∷ (minus-zero, one) ∷ (half, 0) ∷ (one, minus-zero) ∷ []
 
 abbrev smallest : List (ℕ × ℕ)
@@ -109,13 +109,13 @@ computed old = record {
 }
 
 -- ---- they are on the grid, by a computed test
-abbrev steps-of : ℕ → ℕ
+abbrev pub steps-of : ℕ → ℕ
 steps-of b = 2 ^ 8 * bits-units b / 2 ^ 149
 
-abbrev on-grid : ℕ → Bool
+abbrev pub on-grid : ℕ → Bool
 on-grid b = ltb (bits-field b) 255 && (eqb (2 ^ 8 * bits-units b) (2 ^ 149 * steps-of b) && leb (steps-of b) grid-limit)
 
-grid-number : (b : ℕ) → T (on-grid b) → GridNumber (ofBits binary32 b)
+pub grid-number : (b : ℕ) → T (on-grid b) → GridNumber (ofBits binary32 b)
 grid-number b t =
     let finite = and-yes (ltb (bits-field b) 255)
     (eqb (2 ^ 8 * bits-units b) (2 ^ 149 * steps-of b) && leb (steps-of b) grid-limit) t in
@@ -129,11 +129,11 @@ grid-number b t =
       most = abs-signed (bits-sign b) (steps-of b) grid-limit (leb→le (steps-of b) grid-limit (whole-steps .1));
     }
 
-abbrev all-on-grid : List (ℕ × ℕ) → Bool
+abbrev pub all-on-grid : List (ℕ × ℕ) → Bool
 all-on-grid [] = true
 all-on-grid (b ∷ l) = (on-grid (b .0) && on-grid (b .1)) && all-on-grid l
 
-grid-list : (l : List (ℕ × ℕ)) → T (all-on-grid l) → GridList (points l)
+pub grid-list : (l : List (ℕ × ℕ)) → T (all-on-grid l) → GridList (points l)
 grid-list [] t v m = absurd (List·Memᴰ·not-nil m)
 grid-list (b ∷ l) t v m =
     let both = and-yes (on-grid (b .0) && on-grid (b .1)) (all-on-grid l) t in
@@ -176,7 +176,7 @@ two-different-is old = first-sentence old (points two-different) (grid-list two-
     (computed old .two-different-refused)
 
 -- an outline with the default skin
-abbrev skinned : B2polygonShape
+abbrev pub skinned : B2polygonShape
 skinned = record {
   «m_radius» = b2-polygon-radius;
   «m_centroid» = origin;
@@ -185,7 +185,7 @@ skinned = record {
   «m_count» = 0;
 }
 
-skin-in-range : T (radius-in-range b2-polygon-radius)
+pub skin-in-range : T (radius-in-range b2-polygon-radius)
 unfolding radius-in-range le ofBits
 skin-in-range = tt
 

@@ -3,7 +3,7 @@
 use native.Mathlib.Omega.{arith}
 use lib.Ieee.{Float, binary32, neg, add, sub, mul}
 use Rattle.algebra.specs.Integer.{Z, whole, _⊞_, _⊟_, _⊠_, _⊛_, opp, _≐_}
-use Rattle.algebra.specs.Plane.{Point, SameVector}
+use Rattle.algebra.specs.Plane.{Point}
 use Rattle.algebra.proofs.Integer.{same-trans, multiple-same}
 use Rattle.rounding.specs.Value.{metre, F32, val}
 use Rattle.rounding.proofs.Value.{neg-f32, val-neg}
@@ -14,15 +14,10 @@ use Rattle.floats.specs.declared.b2_math.B2vec2.{B2vec2}
 use Rattle.floats.specs.declared.b2_math.B2Rot.{B2Rot}
 use Rattle.floats.specs.B2Math.{rot, b2-mul-t-rot, b2-mul-rot-by-vec2, b2-mul-t-rot-by-vec2}
 use Rattle.grid.specs.Grid.{value-point}
+use Rattle.grid.proofs.Exact.{ExactVec}
 use Rattle.grid_contacts.specs.Placement.{QuarterTurn, unturned, to-left, about, to-right, sine, cosine, turned}
 use Rattle.grid_contacts.specs.Placement.{Turning}
 use Rattle.grid_contacts.proofs.Turns.{turned-multiple, reversed, after, direction, direction-after}
-
--- v is a vector of finite numbers, and its value is p
-pub record ExactVec (v : B2vec2) (p : Point) : Type 0 where
-  pub x-own : F32 (v .x)
-  pub y-own : F32 (v .y)
-  pub is : SameVector (value-point v) p
 
 -- ---- sums and differences of two numbers of which one is 0
 data OneZero (v w : Z) : Type 0 where

@@ -18,12 +18,12 @@ use Rattle.floats.specs.B2Math.{b2-add, b2-sub, b2-mul-rot-by-vec2, b2-mul-t-ro
 use Rattle.floats.specs.B2Math.{b2-mul-t-transform}
 use Rattle.floats.proofs.Vectors.{carry-is}
 use Rattle.grid.specs.Grid.{steps-per-metre, grid-limit, StepsPoint, GridPoint, value-point}
-use Rattle.grid.proofs.Exact.{steps-add, add-is, steps-vec-sub, sub-is, steps-metres, counts}
+use Rattle.grid.proofs.Exact.{ExactVec, steps-add, add-is, steps-vec-sub, sub-is, steps-metres, counts}
 use Rattle.grid.proofs.Limits.{vector-limit}
 use Rattle.grid_contacts.specs.Placement.{QuarterTurn, turned, Turning, GridPlacement, carried}
 use Rattle.grid_contacts.proofs.Turns.{turned-same, turned-abs, turned-multiple, turned-sum, turned-from-to}
 use Rattle.grid_contacts.proofs.Turns.{reversed, turn-undone, after, turned-after}
-use Rattle.grid_contacts.proofs.ExactTurns.{ExactVec, turn-exact, turn-back-exact, frame-turn-exact}
+use Rattle.grid_contacts.proofs.ExactTurns.{turn-exact, turn-back-exact, frame-turn-exact}
 
 -- v is at most n steps in each coordinate, and its value is p
 pub record GridVec (n : ℕ) (v : B2vec2) (p : Point) : Type 0 where
