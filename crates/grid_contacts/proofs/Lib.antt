@@ -13,3 +13,4 @@ pub mod Reach
 pub mod Segment
 pub mod Crossing
 pub mod ClippedEnds
+pub mod Middle
