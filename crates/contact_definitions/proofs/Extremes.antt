@@ -33,11 +33,6 @@ le-self a = le-of-same a a (same-refl a)
 not-both : (v w : Z) → v ≼ w → w ≺ v → ⊥
 not-both v w h k = omega arith
 
--- a value in the list comes from a place below the count
-from-place : {A : Type 0} (f : ℕ → A) (count : ℕ) {a : A} → List·Memᴰ a (map f (places 0 count))
-    → (i : ℕ) × (i < count) × (a ≡ f i)
-from-place f count m = let h = listed-value f 0 count m in (h .0, omega (arith, h .1), h .2)
-
 abbrev Finite : Best → Type 0
 Finite b = F32 (b .value)
 
@@ -58,7 +53,7 @@ module _ (f : ℕ → Float) (count : ℕ) (finite : (i : ℕ) → i < count →
       r = least f count
 
       listed-f32 : (x : Float) → List·Memᴰ x (map f (places 0 count)) → F32 x
-      listed-f32 x m = let h = from-place f count m in subst F32 (sym (h .2)) (finite (h .0) (h .1))
+      listed-f32 x m = let h = listed-value f count m in subst F32 (sym (h .2)) (finite (h .0) (h .1))
 
       lowest : (i : ℕ) → i < count → val r ≼ val (f i)
       lowest i h =
@@ -73,7 +68,7 @@ module _ (f : ℕ → Float) (count : ℕ) (finite : (i : ℕ) → i < count →
       of-place : (r ≡ b2-max-float) ⊎ List·Memᴰ r (map f (places 0 count)) → Least r
       of-place (inl e) = absurd (not-both (val b2-max-float) (val (f 0))
           (subst (λ (x : Float). val x ≼ val (f 0)) e (lowest 0 some)) (low 0 some))
-      of-place (inr m) = let h = from-place f count m in record {
+      of-place (inr m) = let h = listed-value f count m in record {
         own = listed-f32 r m;
         lowest = lowest;
         place = h .0;
@@ -99,7 +94,7 @@ module _ (f : ℕ → Float) (count : ℕ) (finite : (i : ℕ) → i < count →
       r = first-greatest f count
 
       listed-f32 : (b : Best) → List·Memᴰ b (map (valued f) (places 0 count)) → Finite b
-      listed-f32 b m = let h = from-place (valued f) count m in
+      listed-f32 b m = let h = listed-value (valued f) count m in
           subst Finite (sym (h .2)) (finite (h .0) (h .1))
 
       highest : (i : ℕ) → i < count → val (f i) ≼ val (r .value)
@@ -117,7 +112,7 @@ module _ (f : ℕ → Float) (count : ℕ) (finite : (i : ℕ) → i < count →
       of-place : (r ≡ begun) ⊎ List·Memᴰ r (map (valued f) (places 0 count)) → Greatest r
       of-place (inl e) = absurd (not-both (val (f 0)) (val (neg b2-max-float))
           (subst (λ (b : Best). val (f 0) ≼ val (b .value)) e (highest 0 some)) (high 0 some))
-      of-place (inr m) = let h = from-place (valued f) count m in
+      of-place (inr m) = let h = listed-value (valued f) count m in
           record {
             own = listed-f32 r m;
             highest = highest;
@@ -139,5 +134,5 @@ least-place-in f count some =
 
     of-place : {r : Best} → (r ≡ begun) ⊎ List·Memᴰ r (map (valued f) (places 0 count)) → r .place < count
     of-place (inl e) = subst (λ (i : ℕ). i < count) (ap (λ (b : Best). b .place) (sym e)) some
-    of-place (inr m) = let h = from-place (valued f) count m in
+    of-place (inr m) = let h = listed-value (valued f) count m in
         subst (λ (i : ℕ). i < count) (ap (λ (b : Best). b .place) (sym (h .2))) (h .1)

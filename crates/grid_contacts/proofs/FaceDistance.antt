@@ -1,23 +1,16 @@
 -- A separation that f32 computes against the exact signed distance: the dot product of a face's rounded normal with the
 -- vector from its first corner to a point, both at most 16 m off, is within 2^-16 m of the point's exact signed
 -- distance from the face's line. Assumes nothing.
-use mathlib.Core.Path.{_≡_, ap}
 use Prim.Native.Nat.{ℕ, _+_, _*_, _^_, _≤_}
 use native.Mathlib.Nat.{mul-le-mul-right}
 use native.Mathlib.Omega.{arith}
 use lib.Dec.{T, leb, leb→le}
-use lib.Ieee.{Float}
 use Rattle.algebra.specs.Integer.{Z, whole, _⊞_, _⊟_, _⊠_, _⊛_, opp, _≐_, Abs}
 use Rattle.algebra.specs.Plane.{Point, PointAbs, from-to, dot}
-use Rattle.algebra.proofs.Integer.{same-refl, same-sym, opposite-same}
-use Rattle.algebra.proofs.Magnitude.{abs-widen, abs-same, abs-sum-is, abs-scale, abs-unscale, abs-product}
-use Rattle.rounding.specs.Value.{metre, tick, F32, val}
-use Rattle.rounding.proofs.Value.{metre-pos, metre-square}
-use Rattle.rounding.proofs.Dot.{dot-near}
-use Rattle.floats.specs.declared.b2_math.B2vec2.{B2vec2}
-use Rattle.floats.specs.B2Math.{b2-dot}
-use Rattle.grid.specs.Grid.{value-point}
-use Rattle.grid.specs.GridOutline.{normal-bound, direction-error}
+use Rattle.algebra.proofs.Magnitude.{abs-same, abs-sum-is, abs-scale, abs-unscale, abs-product}
+use Rattle.rounding.specs.Value.{metre, tick}
+use Rattle.rounding.proofs.Value.{metre-pos}
+use Rattle.grid.specs.GridOutline.{direction-error}
 use Rattle.grid_contacts.specs.Lengths.{exactly}
 use Rattle.grid_contacts.specs.Faces.{Face, off-line, squared-length, DistanceAtMost, DistanceAtLeast}
 use Rattle.grid_contacts.proofs.FaceNormal.{UnitOf, outward, FaceNormal}
@@ -83,36 +76,20 @@ off-line-is f c =
     go : (a b c d : Z) → a ⊠ b ⊞ opp c ⊠ d ≐ a ⊠ b ⊟ c ⊠ d
     go a b c d = omega arith
 
--- ---- the f32 dot product s of a normal and a gap between corners
--- such a gap is at most 16 m in a coordinate; s is at most 35 m, and off by four roundings of at most 32 m
+-- ---- the f32 dot product s of a normal and a gap between corners, which is at most 16 m in a coordinate
 abbrev pub gap-metres : ℕ
 gap-metres = 16
 
-abbrev pub separation-size : ℕ
-separation-size = 35 * metre
+abbrev pub separation-metres : ℕ
+separation-metres = 2 * (gap-metres + 1)
 
+-- four roundings of at most 32 m
 abbrev pub dot-ticks : ℕ
-dot-ticks = 128
+dot-ticks = 4 * 2 ^ 5
 
 -- s against the exact distance: 2^-16 m
 abbrev pub distance-error : ℕ
 distance-error = (dot-ticks + against-ticks gap-metres + root-ticks) * tick
-
-pub record DotBounds (s : Float) (v : Z) : Type 0 where
-  pub own : F32 s
-  pub most : Abs (val s) separation-size
-  pub err : Abs (metre ⊛ val s ⊟ v) (dot-ticks * tick * metre)
-
-pub dot-bounds : {n d : B2vec2} → F32 (n .x) → F32 (n .y) → F32 (d .x) → F32 (d .y) → PointAbs (value-point n) normal-bound
-    → PointAbs (value-point d) (gap-metres * metre) → DotBounds (b2-dot n d) (dot (value-point n) (value-point d))
-unfolding b2-dot
-dot-bounds nx ny dx dy n-most d-most =
-    let r = dot-near 5 17 tt tt tt nx ny dx dy normal-bound (gap-metres * metre) (n-most .0) (n-most .1) (d-most .0)
-    (d-most .1) room in
-    record { own = r .own; most = let c = r .cap in omega arith; err = r .err }
-  where
-    room : normal-bound * (gap-metres * metre) ≤ 17 * (metre * metre)
-    room = omega (arith, metre-square)
 
 pub distance-near : (f : Face) (c n : Point) (s : Z) → FaceNormal f n
     → PointAbs (from-to (f .begin) c) (gap-metres * metre)

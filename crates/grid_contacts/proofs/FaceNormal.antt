@@ -4,13 +4,13 @@ use mathlib.Core.Path.{_≡_, subst}
 use Prim.Native.Nat.{ℕ, _+_, _*_, _^_}
 use native.Mathlib.Omega.{arith}
 use Rattle.algebra.specs.Integer.{Z, whole, _⊞_, _⊟_, _⊠_, _⊛_, opp, _≐_, Abs}
-use Rattle.algebra.specs.Plane.{Point, SameVector, PointAbs, from-to}
+use Rattle.algebra.specs.Plane.{Point, SameVector, from-to}
 use Rattle.algebra.specs.Squares.{above}
 use Rattle.algebra.proofs.Integer.{same-refl, difference-same, multiple-same}
 use Rattle.algebra.proofs.Magnitude.{abs-same}
-use Rattle.algebra.proofs.Plane.{vector-refl, vector-sym, vector-trans}
+use Rattle.algebra.proofs.Plane.{vector-refl}
 use Rattle.algebra.proofs.Products.{product-same}
-use Rattle.rounding.specs.Value.{metre, F32, val}
+use Rattle.rounding.specs.Value.{metre, val}
 use Rattle.floats.specs.declared.b2_math.B2vec2.{B2vec2}
 use Rattle.floats.specs.declared.b2_math.B2Transform.{B2Transform}
 use Rattle.grid.specs.Grid.{value-point}
@@ -18,7 +18,7 @@ use Rattle.grid.specs.GridOutline.{normal-bound, direction-error, length-error,
 use Rattle.grid_contacts.specs.Placement.{QuarterTurn, unturned, to-left, about, to-right, turned}
 use Rattle.grid_contacts.specs.Placement.{GridPlacement, carried}
 use Rattle.grid_contacts.specs.Faces.{Face, squared-length}
-use Rattle.grid_contacts.proofs.Turns.{turned-from-to}
+use Rattle.grid_contacts.proofs.NormalVec.{NormalVec}
 
 -- the direction u has the normal n, of f32 length l and squared length t
 abbrev pub UnitOf : Point → Point → ℕ → ℕ → Type 0
@@ -133,10 +133,9 @@ placed-normal g p q n h =
     face-normal (carried-face g p q) (turned (g .turn) (value-point n))
     (unit-same (outward-turned g p q) (vector-refl (turned (g .turn) (value-point n))) (unit-turned (g .turn) (h .unit)))
 
-pub normal-own : (p q n : B2vec2) → EdgeNormal p q n → F32 (n .x) × F32 (n .y)
+pub stored-vec : (p q n : B2vec2) → EdgeNormal p q n → NormalVec n
 unfolding EdgeNormal
-normal-own p q n h = (h .x-own, h .y-own)
-
-pub normal-most : (p q n : B2vec2) → EdgeNormal p q n → PointAbs (value-point n) normal-bound
-unfolding EdgeNormal
-normal-most p q n h = (h .unit .a-most, h .unit .b-most)
+stored-vec p q n h = record {
+  at-x = record { own = h .x-own; most = h .unit .a-most };
+  at-y = record { own = h .y-own; most = h .unit .b-most };
+}

@@ -1,6 +1,7 @@
 pub mod Turns
 pub mod ExactTurns
 pub mod Placing
+pub mod NormalVec
 pub mod FaceNormal
 pub mod RootBridge
 pub mod FaceDistance
@@ -14,3 +15,6 @@ pub mod Segment
 pub mod Crossing
 pub mod ClippedEnds
 pub mod Middle
+pub mod ReferenceFace
+pub mod WorldRoundings
+pub mod WorldSeparation

@@ -2,7 +2,7 @@
 -- no face of that outline has a separation more than 2^-16 m above it. Assumes nothing.
 use mathlib.Core.Path.{_≡_, refl, sym, subst}
 use mathlib.Core.List.{List}
-use Prim.Native.Nat.{ℕ, _*_, _≤_, _<_}
+use Prim.Native.Nat.{ℕ, _+_, _*_, _≤_, _<_}
 use native.Mathlib.Omega.{arith}
 use lib.Dec.{lit≤}
 use lib.ListN.{length}
@@ -12,6 +12,7 @@ use Rattle.algebra.specs.Plane.{Point}
 use Rattle.rounding.specs.Value.{metre, F32, val}
 use Rattle.rounding.proofs.Value.{metre-is, metre-pos, val-neg}
 use Rattle.rounding.proofs.Literals.{bits-val}
+use Rattle.rounding.proofs.Caps.{Capped}
 use Rattle.floats.specs.declared.b2_math.B2Transform.{B2Transform}
 use Rattle.floats.specs.B2Common.{b2-max-float}
 use Rattle.floats.specs.B2Math.{b2-mul-t-transform}
@@ -26,25 +27,26 @@ use Rattle.grid_contacts.specs.Lengths.{Length, exactly}
 use Rattle.grid_contacts.specs.Faces.{face-at, corner-at, EveryFace, DistanceAtLeast, SeparationAtMost}
 use Rattle.grid_contacts.specs.Faces.{SeparationAtLeast}
 use Rattle.grid_contacts.proofs.Distances.{at-most-longer, at-least-shorter}
-use Rattle.grid_contacts.proofs.FaceDistance.{separation-size, distance-error}
+use Rattle.grid_contacts.proofs.FaceDistance.{separation-metres, distance-error}
 use Rattle.grid_contacts.proofs.PlacedOutline.{row-place, outline-place}
 use Rattle.grid_contacts.proofs.CornerSeparation.{Computed, corner-separation, placed-separation}
 
 -- ---- the largest float is above every separation
-max-float-high : whole (2 * separation-size) ≼ val b2-max-float
+max-float-high : whole ((separation-metres + 1) * metre) ≼ val b2-max-float
 max-float-high = rw (bits-val 0x7f7f_ffff tt, metre-is) (lit≤ tt)
 
-below-max : (s : Float) → Abs (val s) separation-size → val s ≺ val b2-max-float
-below-max s most = go (val s) (val b2-max-float) most max-float-high
-  where
-    go : (v w : Z) → Abs v separation-size → whole (2 * separation-size) ≼ w → v ≺ w
-    go v w h k = let p = metre-pos in omega arith
+module _ {s : Float} (capped : Capped s separation-metres) where
+  below-max : val s ≺ val b2-max-float
+  below-max = go (val s) (val b2-max-float) (capped .cap) max-float-high
+    where
+      go : (v w : Z) → Abs v (separation-metres * metre) → whole ((separation-metres + 1) * metre) ≼ w → v ≺ w
+      go v w h k = let p = metre-pos in omega arith
 
-above-min : (s : Float) → Abs (val s) separation-size → val (neg b2-max-float) ≺ val s
-above-min s most = rw val-neg (go (val s) (val b2-max-float) most max-float-high)
-  where
-    go : (v w : Z) → Abs v separation-size → whole (2 * separation-size) ≼ w → opp w ≺ v
-    go v w h k = let p = metre-pos in omega arith
+  above-min : val (neg b2-max-float) ≺ val s
+  above-min = rw val-neg (go (val s) (val b2-max-float) (capped .cap) max-float-high)
+    where
+      go : (v w : Z) → Abs v (separation-metres * metre) → whole ((separation-metres + 1) * metre) ≼ w → opp w ≺ v
+      go v w h k = let p = metre-pos in omega arith
 
 -- a computed separation, less and plus the error of a distance
 abbrev lowered : Float → Length
@@ -55,8 +57,7 @@ raised s = exactly (val s ⊞ whole distance-error)
 
 -- ---- the face found, of the outline `reference`
 pub record MaxFace (reference other : List Point) (r : Best) : Type 0 where
-  pub own : F32 (r .value)
-  pub most : Abs (val (r .value)) separation-size
+  pub capped : Capped (r .value) separation-metres
   pub inside : r .place < length reference
   pub reached : SeparationAtLeast (face-at reference (r .place)) other (lowered (r .value))
   pub every : EveryFace reference (λ f. SeparationAtMost f other (raised (r .value)))
@@ -95,33 +96,32 @@ module _ {xf1 xf2 : B2Transform} (g1 : GridPlacement xf1) (g2 : GridPlacement xf
   at-face = face-separation xf poly1 poly2
 
   finite-at : (i : ℕ) → i < n1 → (j : ℕ) → j < n2 → F32 (at-corner i j)
-  finite-at i i-in j j-in = computed i j i-in j-in .own
+  finite-at i i-in j j-in = computed i j i-in j-in .capped .own
 
   deepest : (i : ℕ) (i-in : i < n1) → Least (at-corner i) n2 (finite-at i i-in) some2 (at-face i)
   unfolding at-face face-separation
   deepest i i-in =
       least-found (at-corner i) n2 (finite-at i i-in) some2
-      (λ j j-in. below-max (at-corner i j) (computed i j i-in j-in .most))
+      (λ j j-in. below-max (computed i j i-in j-in .capped))
 
-  deepest-most : (i : ℕ) → i < n1 → Abs (val (at-face i)) separation-size
-  deepest-most i i-in =
+  deepest-capped : (i : ℕ) → i < n1 → Capped (at-face i) separation-metres
+  deepest-capped i i-in =
       let d = deepest i i-in in
-      subst (λ (s : Float). Abs (val s) separation-size) (sym (d .is)) (computed i (d .place) i-in (d .inside) .most)
+      subst (λ (s : Float). Capped s separation-metres) (sym (d .is)) (computed i (d .place) i-in (d .inside) .capped)
 
   -- ---- the face found
   found : Greatest at-face n1 (λ i i-in. deepest i i-in .own) some1 (b2-find-max-separation poly1 xf1 poly2 xf2)
   unfolding at-face b2-find-max-separation
   found =
       greatest-found at-face n1 (λ i i-in. deepest i i-in .own) some1
-      (λ i i-in. above-min (at-face i) (deepest-most i i-in))
+      (λ i i-in. above-min (deepest-capped i i-in))
 
   pub max-face : MaxFace corners1 corners2 (b2-find-max-separation poly1 xf1 poly2 xf2)
   max-face =
       let r = b2-find-max-separation poly1 xf1 poly2 xf2 in
       record {
-        own = found .own;
-        most = subst (λ (s : Float). Abs (val s) separation-size) (sym (found .is))
-            (deepest-most (r .place) (found .inside));
+        capped = subst (λ (s : Float). Capped s separation-metres) (sym (found .is))
+            (deepest-capped (r .place) (found .inside));
         inside = outline-place g1 poly1 o1 (r .place) (found .inside);
         reached = λ j h. own-face (r .place) (found .inside) j (row-place g2 poly2 o2 j h) (r .value) (found .is);
         every = λ i h. any-face i (row-place g1 poly1 o1 i h) (r .value)

@@ -15,6 +15,7 @@ use Rattle.algebra.proofs.Plane.{PointExpr, point₀, point₁, point₂, from-
 use Rattle.algebra.proofs.Ring.{ring}
 use Rattle.rounding.specs.Value.{metre, F32, val}
 use Rattle.rounding.specs.Literals.{half32}
+use Rattle.rounding.proofs.Caps.{Capped}
 use Rattle.rounding.proofs.Dyadic.{Dyadic, exact-add, exact-mul, dyadic-finer}
 use Rattle.rounding.proofs.Literals.{half-dyadic}
 use Rattle.floats.specs.declared.b2_math.B2vec2.{B2vec2}
@@ -30,7 +31,7 @@ use Rattle.grid_contacts.specs.Faces.{Face, off-line}
 use Rattle.grid_contacts.proofs.Turns.{turned-abs, turned-multiple}
 use Rattle.grid_contacts.proofs.ExactTurns.{turn-exact}
 use Rattle.grid_contacts.proofs.FaceNormal.{outward, carried-face}
-use Rattle.grid_contacts.proofs.Crossing.{corner-size}
+use Rattle.grid_contacts.proofs.Crossing.{corner-metres}
 
 -- m is halfway from p to q
 abbrev pub Halfway : Point → Point → Point → Type 0
@@ -108,7 +109,7 @@ half-sum {x} {y} x-grid y-grid =
 record PlacedHalf (z : Float) (v : Z) : Type 0 where
   own : F32 z
   is : val z ≐ v
-  most : Abs (val z) corner-size
+  most : Abs (val z) (corner-metres * metre)
 
 placed-half : {r o : Float} (c : Z) → Dyadic r c 9 → Abs c vector-limit → GridNumber o
     → PlacedHalf (add binary32 r o) (val r ⊞ val o)
@@ -121,7 +122,7 @@ placed-half {r} {o} c r-is c-most o-grid =
     record {
       own = z .own;
       is = sum v (val r) (val o) c e (z .is) (r-is .is) (o-is .is);
-      most = abs-unscale (2 ^ 9) corner-size v (lit≤ tt)
+      most = abs-unscale (2 ^ 9) (corner-metres * metre) v (lit≤ tt)
           (size v (c ⊞ e) (z .is) (abs-scale metre (vector-limit + vector-limit) (c ⊞ e) most));
     }
   where
@@ -132,25 +133,19 @@ placed-half {r} {o} c r-is c-most o-grid =
     sum z r o c e h k l = omega arith
 
     size : (v c : Z) → 2 ^ 9 ⊛ v ≐ metre ⊛ c → Abs (metre ⊛ c) (metre * (vector-limit + vector-limit))
-        → Abs (2 ^ 9 ⊛ v) (2 ^ 9 * corner-size)
+        → Abs (2 ^ 9 ⊛ v) (2 ^ 9 * (corner-metres * metre))
     size v c e h = omega arith
 
 -- ---- the middle of two grid points, and that middle carried
 abbrev pub middle-of : B2vec2 → B2vec2 → B2vec2
 middle-of p q = b2-scale half32 (b2-add p q)
 
-abbrev pub middle-size : ℕ
-middle-size = 4 * metre
-
-pub record LocalMiddle (m : B2vec2) : Type 0 where
-  pub x-own : F32 (m .x)
-  pub y-own : F32 (m .y)
-  pub most : PointAbs (value-point m) middle-size
+abbrev pub middle-metres : ℕ
+middle-metres = 4
 
 pub record PlacedMiddle (f : Face) (v : B2vec2) : Type 0 where
-  pub x-own : F32 (v .x)
-  pub y-own : F32 (v .y)
-  pub most : PointAbs (value-point v) corner-size
+  pub x-cap : Capped (v .x) corner-metres
+  pub y-cap : Capped (v .y) corner-metres
   pub halfway : Halfway (value-point v) (f .begin) (f .end)
 
 halfway-carried : (turn : QuarterTurn) (r m p q o v : Point) → Halfway m p q → SameVector r (turned turn m)
@@ -182,17 +177,19 @@ module _ {p q : B2vec2} (p-grid : GridPoint p) (q-grid : GridPoint q) where
     abs-sum (p-grid .1 .count) (q-grid .1 .count) grid-limit grid-limit (p-grid .1 .most) (q-grid .1 .most),
   )
 
-  pub local-middle : LocalMiddle m
-  local-middle = record {
-    x-own = half-x .dyadic .own;
-    y-own = half-y .dyadic .own;
-    most = (
-      four (val (m .x)) (k .x) (half-x .dyadic .is) (abs-scale metre vector-limit (k .x) (k-most .0)),
-      four (val (m .y)) (k .y) (half-y .dyadic .is) (abs-scale metre vector-limit (k .y) (k-most .1)),
-    );
-  }
+  pub local-middle : Capped (m .x) middle-metres × Capped (m .y) middle-metres
+  local-middle = (
+    record {
+      own = half-x .dyadic .own;
+      cap = four (val (m .x)) (k .x) (half-x .dyadic .is) (abs-scale metre vector-limit (k .x) (k-most .0));
+    },
+    record {
+      own = half-y .dyadic .own;
+      cap = four (val (m .y)) (k .y) (half-y .dyadic .is) (abs-scale metre vector-limit (k .y) (k-most .1));
+    },
+  )
     where
-      four : (v c : Z) → 2 ^ 9 ⊛ v ≐ metre ⊛ c → Abs (metre ⊛ c) (metre * vector-limit) → Abs v middle-size
+      four : (v c : Z) → 2 ^ 9 ⊛ v ≐ metre ⊛ c → Abs (metre ⊛ c) (metre * vector-limit) → Abs v (middle-metres * metre)
       four v c e h = omega arith
 
   module _ {t : B2Transform} (g : GridPlacement t) where
@@ -213,9 +210,8 @@ module _ {p q : B2vec2} (p-grid : GridPoint p) (q-grid : GridPoint q) where
           is = moved (val (r .y)) (turned (g .turn) (value-point m) .y) (turned-k .y) (r-exact .is .1) (turned-m .1);
         }) (turned-most .1) (g .position .1) in
         record {
-          x-own = x .own;
-          y-own = y .own;
-          most = (x .most, y .most);
+          x-cap = record { own = x .own; cap = x .most };
+          y-cap = record { own = y .own; cap = y .most };
           halfway = halfway-carried (g .turn) (value-point r) (value-point m) (value-point p) (value-point q)
               (value-point (t .p)) (value-point (b2-add r (t .p))) (half-x .twice, half-y .twice) (r-exact .is)
               (x .is, y .is);

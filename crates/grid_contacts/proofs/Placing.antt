@@ -7,10 +7,11 @@ use native.Mathlib.Omega.{arith}
 use lib.Dec.{T, leb}
 use lib.Ieee.{binary32, add, sub}
 use Rattle.algebra.specs.Integer.{Z, _⊞_, _⊟_, _⊛_, _≐_}
-use Rattle.algebra.specs.Plane.{Point, SameVector, PointAbs, sum-of, from-to}
+use Rattle.algebra.specs.Plane.{Point, SameVector, sum-of, from-to}
 use Rattle.algebra.proofs.Integer.{same-trans, sum-same, difference-same, multiple-same}
 use Rattle.algebra.proofs.Plane.{vector-refl, vector-trans}
 use Rattle.rounding.specs.Value.{metre, F32, val}
+use Rattle.rounding.proofs.Caps.{Capped}
 use Rattle.floats.specs.declared.b2_math.B2vec2.{B2vec2}
 use Rattle.floats.specs.declared.b2_math.B2Rot.{B2Rot}
 use Rattle.floats.specs.declared.b2_math.B2Transform.{B2Transform}
@@ -34,9 +35,12 @@ pub grid-vec : {n : ℕ} {v : B2vec2} → StepsPoint n v → GridVec n v (value-
 grid-vec {v = v} steps = record { steps = steps; is = vector-refl (value-point v) }
 
 -- sizes in metres
-pub point-metres : {n : ℕ} {v : B2vec2} (h : ℕ) → T (leb n (steps-per-metre * h)) → StepsPoint n v
-    → PointAbs (value-point v) (h * metre)
-point-metres h low steps = (steps-metres h low (steps .0), steps-metres h low (steps .1))
+pub point-capped : {n : ℕ} {v : B2vec2} (h : ℕ) → T (leb n (steps-per-metre * h)) → StepsPoint n v
+    → Capped (v .x) h × Capped (v .y) h
+point-capped h low steps = (
+  record { own = steps .0 .own; cap = steps-metres h low (steps .0) },
+  record { own = steps .1 .own; cap = steps-metres h low (steps .1) },
+)
 
 -- ---- sums and differences
 module _ {m n : ℕ} {v w : B2vec2} {p q : Point} (few : T (leb (m + n) (2 ^ 24))) (v-grid : GridVec m v p)

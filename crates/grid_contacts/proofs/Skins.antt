@@ -9,13 +9,14 @@ use lib.Ieee.{Float, binary32, add, lt}
 use Rattle.algebra.specs.Integer.{Z, whole, _⊞_, _⊟_, _⊛_, _≐_, _≼_, _≺_, Abs}
 use Rattle.rounding.specs.Value.{metre, tick, F32, val}
 use Rattle.rounding.proofs.Value.{metre-ticks}
-use Rattle.rounding.proofs.Near.{add-near}
+use Rattle.rounding.proofs.Sized.{Sized, sum-sized}
+use Rattle.rounding.proofs.Caps.{Capped}
 use Rattle.rounding.proofs.Dyadic.{Dyadic, exact-add}
 use Rattle.rounding.proofs.Literals.{bits-dyadic}
 use Rattle.rounding.proofs.Comparison.{lt-val, not-lt-val}
 use Rattle.floats.specs.B2Common.{b2-polygon-radius}
 use Rattle.contact_definitions.specs.B2CollidePolygon.{tolerance}
-use Rattle.grid_contacts.proofs.FaceDistance.{separation-size}
+use Rattle.grid_contacts.proofs.FaceDistance.{separation-metres}
 
 -- ---- one skin, 5368709/2^29, and two
 abbrev skin-count : ℕ
@@ -38,7 +39,7 @@ WithinSkins v = 50 ⊛ v ≼ whole metre
 pub record Skins (r : Z) : Type 0 where
   pub at-most : WithinSkins (r ⊞ r)
   pub at-least : whole metre ≼ 50 ⊛ (r ⊞ r) ⊞ whole tick
-  pub small : Abs r metre
+  pub small : Abs r (1 * metre)
 
 pub skins : Skins (val b2-polygon-radius)
 skins = go (val b2-polygon-radius) (skin-is .is)
@@ -49,7 +50,7 @@ skins = go (val b2-polygon-radius) (skin-is .is)
 -- f32's two skins
 pub record TotalSkin (v : Z) : Type 0 where
   pub at-most : WithinSkins v
-  pub small : Abs v metre
+  pub small : Abs v (1 * metre)
 
 pub total-skin : TotalSkin (val two-skins)
 total-skin = go (val two-skins) (two-skins-is .is)
@@ -78,6 +79,7 @@ choice-error = tolerance-bound + 2 ^ 6 * tick
 record Tolerance (v : Z) : Type 0 where
   not-negative : whole 0 ≼ v
   most : Abs v tolerance-bound
+  small : Abs v (1 * metre)
 
 tolerance-is : Dyadic tolerance (whole tolerance-count) 34
 tolerance-is = bits-dyadic 0x3a03_126f tolerance-count 34 tt tt
@@ -86,25 +88,20 @@ tolerance-bounds : Tolerance (val tolerance)
 tolerance-bounds = go (val tolerance) (tolerance-is .is)
   where
     go : (v : Z) → 2 ^ 34 ⊛ v ≐ metre ⊛ whole tolerance-count → Tolerance v
-    go v e = let t = metre-ticks in record { not-negative = omega arith; most = omega arith }
+    go v e = let t = metre-ticks in record { not-negative = omega arith; most = omega arith; small = omega arith }
 
 -- ---- which outline is the reference, of separations a and b
-module _ {a b : Float} (a-f32 : F32 a) (b-f32 : F32 b) (a-most : Abs (val a) separation-size) where
+module _ {a b : Float} (a-cap : Capped a separation-metres) (b-cap : Capped b separation-metres) where
   abbrev sum : Float
   sum = add binary32 a tolerance
 
-  sum-near : F32 sum × Abs (val sum ⊟ (val a ⊞ val tolerance)) (2 ^ 6 * tick)
-  sum-near =
-      let z = add-near 6 (separation-size + metre) tt a-f32 (tolerance-is .own)
-      (go (val a) (val tolerance) a-most (tolerance-bounds .most)) (omega arith) in (z .own, z .err)
-    where
-      go : (a k : Z) → Abs a separation-size → Abs k tolerance-bound → Abs (a ⊞ k) (separation-size + metre)
-      go a k h l = let t = metre-ticks in omega arith
+  sum-near : Sized sum (val a ⊞ val tolerance) 6 (separation-metres + 1)
+  sum-near = sum-sized 6 separation-metres 1 tt tt a-cap (record { own = tolerance-is .own; cap = tolerance-bounds .small })
 
   -- A: b is at most a, the tolerance and a rounding
   pub a-is-reference : T (not (lt sum b)) → val b ≼ val a ⊞ whole choice-error
   a-is-reference t =
-      go (val sum) (val a) (val b) (val tolerance) (not-lt-val (sum-near .0) b-f32 t) (sum-near .1) (tolerance-bounds .most)
+      go (val sum) (val a) (val b) (val tolerance) (not-lt-val (sum-near .capped .own) (b-cap .own) t) (sum-near .err) (tolerance-bounds .most)
     where
       go : (z a b k : Z) → b ≼ z → Abs (z ⊟ (a ⊞ k)) (2 ^ 6 * tick) → Abs k tolerance-bound → b ≼ a ⊞ whole choice-error
       go z a b k h e l = omega arith
@@ -112,7 +109,7 @@ module _ {a b : Float} (a-f32 : F32 a) (b-f32 : F32 b) (a-most : Abs (val a) sep
   -- B: a is below b
   pub b-is-reference : T (lt sum b) → val a ≼ val b ⊞ whole choice-error
   b-is-reference t =
-      go (val sum) (val a) (val b) (val tolerance) (lt-val (sum-near .0) b-f32 t) (sum-near .1)
+      go (val sum) (val a) (val b) (val tolerance) (lt-val (sum-near .capped .own) (b-cap .own) t) (sum-near .err)
       (tolerance-bounds .not-negative)
     where
       go : (z a b k : Z) → z ≺ b → Abs (z ⊟ (a ⊞ k)) (2 ^ 6 * tick) → whole 0 ≼ k → a ≼ b ⊞ whole choice-error
