@@ -18,3 +18,4 @@ pub mod Middle
 pub mod ReferenceFace
 pub mod WorldRoundings
 pub mod WorldSeparation
+pub mod ManifoldPoint
