@@ -19,3 +19,4 @@ pub mod ReferenceFace
 pub mod WorldRoundings
 pub mod WorldSeparation
 pub mod ManifoldPoint
+pub mod FaceManifold

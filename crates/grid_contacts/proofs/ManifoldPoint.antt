@@ -1,8 +1,9 @@
 -- One manifold point: a clipped end, taken into the frame of the other outline and carried back exactly, is within one
 -- rounding of where it was. So its local point is finite, it lies within 1/4096 m of the incident edge, and its world
 -- separation is near its exact signed distance from the reference face. Assumes nothing.
-use mathlib.Core.Path.{_≡_, sym, subst}
+use mathlib.Core.Path.{_≡_, sym, ap, subst}
 use Prim.Native.Nat.{ℕ, _+_, _*_, _^_, _≤_, _<_}
+use native.Mathlib.Nat.{mul-le-mul}
 use native.Mathlib.Omega.{arith}
 use lib.Ieee.{Float, binary32, sub}
 use Rattle.algebra.specs.Integer.{Z, whole, _⊞_, _⊟_, _⊠_, _⊛_, _≐_, _≼_, Abs}
@@ -58,27 +59,22 @@ near-face {k} {f} {c} h = record {
     square : (a : Z) (n : ℕ) → Abs a n → a ⊠ a ≼ whole (n * n)
     square a n h = let m = abs-product a a n n h h .0 in omega arith
 
-    sum : (a b : Z) (m n : ℕ) → a ≼ whole m → b ≼ whole m → (4096 * 4096) * (m + m) ≤ n
-        → (4096 * 4096) ⊛ (a ⊞ b) ≼ whole n
-    sum a b m n h k l = omega arith
+    -- a factor 2 for √2
+    fits : (n m : ℕ) → 8192 * n ≤ m → 4096 * 4096 * (n * n + n * n) ≤ m * m
+    fits n m h = let q : 8192 * n * (8192 * n) ≤ m * m = mul-le-mul h h in omega arith
 
-    room : (k t m : ℕ) → m ≡ 2 ^ 25 * t
-        → (4096 * 4096) * (k * (0 + 3 * (2 ^ 5 * t) + 3 * (2 ^ 5 * t) + 2 ^ 4 * t)
-        * (k * (0 + 3 * (2 ^ 5 * t) + 3 * (2 ^ 5 * t) + 2 ^ 4 * t))
-        + k * (0 + 3 * (2 ^ 5 * t) + 3 * (2 ^ 5 * t) + 2 ^ 4 * t)
-        * (k * (0 + 3 * (2 ^ 5 * t) + 3 * (2 ^ 5 * t) + 2 ^ 4 * t)))
-        ≤ k * k * (m * m)
-    room k t m e = rw e (omega arith)
+    room : (k : ℕ) → 8192 * (k * point-error) ≤ k * metre
+    room k = let e : k * metre ≡ k * (2 ^ 25 * tick) = ap (λ (n : ℕ). k * n) metre-ticks in omega arith
 
-    squared : (k : ℕ) (v : Z) → v ≼ whole (k * k * (metre * metre)) → v ≼ (k * k) ⊛ (whole metre ⊠ whole metre)
-    squared k v h = omega arith
+    joined : (a b : Z) (k n : ℕ) → a ≼ whole n → b ≼ whole n → 4096 * 4096 * (n + n) ≤ k * metre * (k * metre)
+        → (4096 * 4096) ⊛ (a ⊞ b) ≼ (k * k) ⊛ (whole metre ⊠ whole metre)
+    joined a b k n h l r = omega arith
 
     go : (k : ℕ) (w : Point) → PointAbs w (k * point-error)
         → (4096 * 4096) ⊛ dot w w ≼ (k * k) ⊛ (whole metre ⊠ whole metre)
     go k w h =
-        squared k ((4096 * 4096) ⊛ dot w w)
-        (sum (w .x ⊠ w .x) (w .y ⊠ w .y) (k * point-error * (k * point-error)) (k * k * (metre * metre))
-        (square (w .x) (k * point-error) (h .0)) (square (w .y) (k * point-error) (h .1)) (room k tick metre metre-ticks))
+        joined (w .x ⊠ w .x) (w .y ⊠ w .y) k (k * point-error * (k * point-error)) (square (w .x) (k * point-error) (h .0))
+        (square (w .y) (k * point-error) (h .1)) (fits (k * point-error) (k * metre) (room k))
 
 -- ---- the local point of a clipped end v near an edge e, in the frame of a placement
 abbrev pub position-metres : ℕ
