@@ -14,6 +14,7 @@ pub mod StateCases
 pub mod TieCases
 pub mod RefusalCases
 pub mod Controls
+pub mod WorldPoints
 pub mod Counts
 pub mod CircleCounts
 pub mod FaceCounts

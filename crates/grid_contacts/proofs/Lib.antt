@@ -20,3 +20,4 @@ pub mod WorldRoundings
 pub mod WorldSeparation
 pub mod ManifoldPoint
 pub mod FaceManifold
+pub mod MadePoints

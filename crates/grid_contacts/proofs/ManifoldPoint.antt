@@ -11,7 +11,7 @@ use Rattle.algebra.specs.Plane.{Point, SameVector, PointAbs, sum-of, from-to, d
 use Rattle.algebra.proofs.Integer.{same-trans}
 use Rattle.algebra.proofs.Magnitude.{abs-product}
 use Rattle.algebra.proofs.Plane.{vector-refl, vector-sym, vector-trans, point-abs-same, dot-same}
-use Rattle.rounding.specs.Value.{metre, tick, F32, val}
+use Rattle.rounding.specs.Value.{metre, tick, val}
 use Rattle.rounding.proofs.Value.{metre-ticks}
 use Rattle.rounding.proofs.Caps.{Capped}
 use Rattle.rounding.proofs.Sized.{Sized, difference-sized}
@@ -26,7 +26,6 @@ use Rattle.grid.proofs.Exact.{ExactVec}
 use Rattle.grid_contacts.specs.Placement.{GridPlacement, turned, carried}
 use Rattle.grid_contacts.specs.Lengths.{point-tolerance}
 use Rattle.grid_contacts.specs.Faces.{Face, off-line, way-from, NearFace}
-use Rattle.grid_contacts.specs.SecondSentence.{NearDistance}
 use Rattle.grid_contacts.proofs.Turns.{reversed, turned-same, turned-abs, turn-undone}
 use Rattle.grid_contacts.proofs.ExactTurns.{turn-exact, turn-back-exact}
 use Rattle.grid_contacts.proofs.Placing.{point-capped}
@@ -37,7 +36,7 @@ use Rattle.grid_contacts.proofs.Segment.{way, NearSegment, FaceAbs, nea
 use Rattle.grid_contacts.proofs.Crossing.{corner-metres, end-metres, blend-error, VecNear, vec-capped}
 use Rattle.grid_contacts.proofs.Middle.{PlacedMiddle, from-middle}
 use Rattle.grid_contacts.proofs.WorldRoundings.{offset-metres, Offset, offset-near}
-use Rattle.grid_contacts.proofs.WorldSeparation.{Separation, separation-near}
+use Rattle.grid_contacts.proofs.WorldSeparation.{Separated, separation-near}
 
 -- ---- errors: two clips, and the rounding of a difference of at most 16 m
 abbrev pub clip-error : ℕ
@@ -179,23 +178,18 @@ module _ {t : B2Transform} (g : GridPlacement t) {k : ℕ} {e : Face} (e-most : 
     y-offset : Offset (r .y) (t .p .y) (q .y)
     y-offset = offset-near (r-exact .y-own) (g .position .1 .own) (sum-most .1) (middle .y-cap)
 
-    pub record PointSeparation (w : Float) : Type 0 where
-      pub own : F32 w
-      pub near : NearDistance f point (val w)
-
     pub point-separation : {r1 r2 : Float} → r1 ≡ b2-polygon-radius → r2 ≡ b2-polygon-radius
-        → PointSeparation (plane-separation n q r1 r2 (b2-mul-transform-by-vec2 t local))
+        → Separated f point (plane-separation n q r1 r2 (b2-mul-transform-by-vec2 t local))
     point-separation {r1} {r2} r1-is r2-is =
         let u = from-to (value-point q) sum in
         let skin : Capped b2-polygon-radius 1 = record { own = skin-is .own; cap = skins .small } in
-        let s = separation-near f point x-offset y-offset vec N skin skin
+        rw (carry-is t local, r1-is, r2-is) (separation-near f point x-offset y-offset vec N skin skin
         (apart (sum .x) (val (q .x)) (sum-most .0) (middle .x-cap .cap), apart (sum .y) (val (q .y)) (sum-most .1)
         (middle .y-cap .cap))
         (same-trans (dot (outward f) u) (dot (outward f) (from-to (value-point q) point)) (off-line f point)
         (dot-same (outward f) (outward f) u (from-to (value-point q) point) (vector-refl (outward f))
         (without sum point (value-point q) sum-is)) (from-middle f (value-point q) point (middle .halfway)))
-        (skins .at-most) (skins .at-least) in
-        rw (carry-is t local, r1-is, r2-is) (record { own = s .own; near = s .near })
+        (skins .at-most) (skins .at-least))
       where
         apart : (a b : Z) → Abs a (end-metres * metre) → Abs b (corner-metres * metre)
             → Abs (a ⊟ b) (offset-metres * metre)

@@ -134,6 +134,11 @@ near-distance f c w r near r-most r-least = record {
         → LengthLe (exactly w plus both-skins less point-tolerance) (exactly (w ⊞ r ⊟ whole separation-error))
     lowered w r h = let m = metre-ticks in omega arith
 
+-- w is finite, and near the signed distance of c from f's line, less 0.02 m
+pub record Separated (f : Face) (c : Point) (w : Float) : Type 0 where
+  pub own : F32 w
+  pub near : NearDistance f c (val w)
+
 -- ---- the definition of the world points, from the carried point r + o on: n is the normal of f, q the plane point
 module _ (f : Face) (c : Point) {r o q n : B2vec2} {r1 r2 : Float} (x-offset : Offset (r .x) (o .x) (q .x))
     (y-offset : Offset (r .y) (o .y) (q .y)) (vec : NormalVec n) (N : FaceNormal f (value-point n))
@@ -142,13 +147,9 @@ module _ (f : Face) (c : Point) {r o q n : B2vec2} {r1 r2 : Float} (x-offset : O
   abbrev u : Point
   u = from-to (value-point q) (sum-of (value-point r) (value-point o))
 
-  pub record Separation (w : Float) : Type 0 where
-    pub own : F32 w
-    pub near : NearDistance f c (val w)
-
   pub separation-near : PointAbs u (offset-metres * metre) → dot (outward f) u ≐ off-line f c
       → 50 ⊛ (val r1 ⊞ val r2) ≼ whole metre → whole metre ≼ 50 ⊛ (val r1 ⊞ val r2) ⊞ whole tick
-      → Separation (plane-separation n q r1 r2 (b2-add r o))
+      → Separated f c (plane-separation n q r1 r2 (b2-add r o))
   unfolding plane-separation on-other on-face b2-sub b2-add b2-scale separation-error
   separation-near u-most u-is skins-most skins-least =
       let l = N .length in
