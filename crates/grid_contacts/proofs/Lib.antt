@@ -21,3 +21,6 @@ pub mod WorldSeparation
 pub mod ManifoldPoint
 pub mod FaceManifold
 pub mod MadePoints
+pub mod PlacementRange
+pub mod Sentence
+pub mod Theorem
