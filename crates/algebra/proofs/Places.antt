@@ -1,7 +1,8 @@
--- Places of an array: which ones `places` lists, a list as what stands at its places, and the place that a scan from
--- place 0 finds. Assumes nothing.
+-- Places of an array: which ones `places` lists, a list as what stands at its places, the values of a function at them,
+-- and the place that a scan from place 0 finds. Assumes nothing.
 use mathlib.Core.Path.{_≡_, refl, ap, ap₂, _∙_}
 use mathlib.Core.List.{List, [], _∷_, List·Memᴰ, List·Memᴰ·cases-cons, List·Memᴰ·not-nil, map}
+use mathlib.Core.List as L
 use mathlib.Core.Logic.{_⊎_, inl, inr}
 use mathlib.Core.Bool.{Bool}
 use Prim.Native.Nat.{ℕ, zero, suc, _+_, _<_}
@@ -30,6 +31,28 @@ places-map f (a ∷ l) d i at =
 
     moved : (j : ℕ) → suc i + j ≡ i + suc j
     moved j = omega arith
+
+-- ---- the values of a function at the places below n: each is listed, and what is listed is one
+module _ {A : Type 0} (f : ℕ → A) where
+  value-from : (i n j k : ℕ) → j < n → i + j ≡ k → List·Memᴰ (f k) (map f (places i n))
+  value-from i zero j k h e = absurd (omega arith)
+  value-from i (suc n) zero k h e = let first : k ≡ i = omega arith in L.List·Memᴰ·head (ap f first)
+  value-from i (suc n) (suc j) k h e = L.List·Memᴰ·tail (value-from (suc i) n j k (omega arith) (omega arith))
+
+  pub value-listed : (n j : ℕ) → j < n → List·Memᴰ (f j) (map f (places 0 n))
+  value-listed n j h = value-from 0 n j j h (omega arith)
+
+  from-place : (i n : ℕ) {a : A} → List·Memᴰ a (map f (places i n)) → (j : ℕ) × (j < i + n) × (a ≡ f j)
+  from-place i zero m = absurd (List·Memᴰ·not-nil m)
+  from-place i (suc n) {a} m = go (λ k. from-place (suc i) n k) (List·Memᴰ·cases-cons m)
+    where
+      go : (List·Memᴰ a (map f (places (suc i) n)) → (j : ℕ) × (j < suc i + n) × (a ≡ f j))
+          → (a ≡ f i) ⊎ List·Memᴰ a (map f (places (suc i) n)) → (j : ℕ) × (j < i + suc n) × (a ≡ f j)
+      go later (inl e) = (i, omega arith, e)
+      go later (inr k) = let h = later k in (h .0, omega (arith, h .1), h .2)
+
+  pub listed-value : (n : ℕ) {a : A} → List·Memᴰ a (map f (places 0 n)) → (j : ℕ) × (j < n) × (a ≡ f j)
+  listed-value n m = let h = from-place 0 n m in (h .0, omega (arith, h .1), h .2)
 
 -- ---- the n places after 0, and the place that a scan of them finds
 pub later-place : (n j : ℕ) → List·Memᴰ j (places 1 n) → j < suc n

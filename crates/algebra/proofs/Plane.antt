@@ -3,11 +3,13 @@
 -- products respect equality by value, and a squared length is not negative, and 0 of no vector but 0. Assumes
 -- nothing.
 use mathlib.Core.List.{List, [], _∷_}
+use Prim.Native.Nat.{ℕ}
 use native.Mathlib.Omega.{arith}
 use Rattle.algebra.specs.Integer.{Z, whole, _⊞_, _⊠_, opp, _≐_, _≼_}
 use Rattle.algebra.specs.Polynomial.{Expr, var, num, neg, _:+_, _:-_, _:*_}
-use Rattle.algebra.specs.Plane.{Point, SameVector, cross, dot, orient}
-use Rattle.algebra.proofs.Integer.{sum-same, difference-same}
+use Rattle.algebra.specs.Plane.{Point, SameVector, PointAbs, cross, dot, orient}
+use Rattle.algebra.proofs.Integer.{same-refl, same-sym, same-trans, sum-same, difference-same}
+use Rattle.algebra.proofs.Magnitude.{abs-same}
 use Rattle.algebra.proofs.Signs.{sum-not-negative}
 use Rattle.algebra.proofs.Products.{product-same, product-zero, square-not-negative, square-zero}
 use Rattle.algebra.proofs.Ring.{ring}
@@ -99,6 +101,18 @@ pub orient-end : (p q : Point) → orient p q q ≐ whole 0
 orient-end p q = ring (orient-expr point₀ point₁ point₁) (num 0) (coordinates (p ∷ q ∷ [])) tt
 
 -- ---- equal by value
+pub vector-refl : (u : Point) → SameVector u u
+vector-refl u = (same-refl (u .x), same-refl (u .y))
+
+pub vector-sym : (u v : Point) → SameVector u v → SameVector v u
+vector-sym u v h = (same-sym (u .x) (v .x) (h .0), same-sym (u .y) (v .y) (h .1))
+
+pub vector-trans : (u v w : Point) → SameVector u v → SameVector v w → SameVector u w
+vector-trans u v w h k = (same-trans (u .x) (v .x) (w .x) (h .0) (k .0), same-trans (u .y) (v .y) (w .y) (h .1) (k .1))
+
+pub point-abs-same : (u v : Point) (n : ℕ) → SameVector u v → PointAbs u n → PointAbs v n
+point-abs-same u v n h k = (abs-same (u .x) (v .x) n (h .0) (k .0), abs-same (u .y) (v .y) n (h .1) (k .1))
+
 module _ (u u' v v' : Point) (u-same : SameVector u u') (v-same : SameVector v v') where
   pub cross-same : cross u v ≐ cross u' v'
   cross-same =

@@ -1,6 +1,7 @@
--- Points of the plane with whole coordinates, also read as the vectors to them: differences, cross and dot products,
--- and the doubled area of a triangle, above 0 where it is turned counter-clockwise. Definitions only.
-use Rattle.algebra.specs.Integer.{Z, _⊞_, _⊟_, _⊠_, _≐_}
+-- Points of the plane with whole coordinates, also read as the vectors to them: sums, differences, cross and dot
+-- products, and the doubled area of a triangle, above 0 where it is turned counter-clockwise. Definitions only.
+use Prim.Native.Nat.{ℕ}
+use Rattle.algebra.specs.Integer.{Z, _⊞_, _⊟_, _⊠_, _≐_, Abs}
 
 pub record Point : Type 0 where
   pub x : Z
@@ -9,6 +10,13 @@ pub record Point : Type 0 where
 -- equal by value
 abbrev pub SameVector : Point → Point → Type 0
 SameVector u v = (u .x ≐ v .x) × (u .y ≐ v .y)
+
+-- both coordinates are at most n in size
+abbrev pub PointAbs : Point → ℕ → Type 0
+PointAbs p n = Abs (p .x) n × Abs (p .y) n
+
+abbrev pub sum-of : Point → Point → Point
+sum-of u v = record { x = u .x ⊞ v .x; y = u .y ⊞ v .y }
 
 -- the vector from p to q
 abbrev pub from-to : Point → Point → Point

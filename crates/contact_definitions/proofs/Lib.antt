@@ -1,5 +1,7 @@
 pub mod Searches
+pub mod Extremes
 pub mod Clipping
+pub mod Ends
 pub mod Numbers
 pub mod Given
 pub mod CircleCases
@@ -12,6 +14,7 @@ pub mod StateCases
 pub mod TieCases
 pub mod RefusalCases
 pub mod Controls
+pub mod WorldPoints
 pub mod Counts
 pub mod CircleCounts
 pub mod FaceCounts

@@ -17,7 +17,7 @@ use Rattle.algebra.proofs.Magnitude.{abs-signed}
 use Rattle.floats.specs.declared.b2_math.B2vec2.{B2vec2}
 use Rattle.floats.specs.B2Common.{b2-polygon-radius}
 use Rattle.floats.specs.B2Math.{vec2, b2-sub, b2-dot, b2-cross, b2-length-squared, b2-distance-vec2-squared}
-use Rattle.floats.specs.Ranges.{point-in-range, radius-in-range}
+use Rattle.floats.specs.Ranges.{point-in-range}
 use Rattle.rounding.proofs.Literals.{bits-sign, bits-field, bits-units, bits-dyadic}
 use Rattle.hull.specs.Hull.{OnLine, ThreeDifferent}
 use Rattle.shape_definitions.specs.declared.b2_polygon_shape.B2polygonShape.{B2polygonShape}
@@ -30,28 +30,29 @@ use Rattle.grid.specs.Demand3.{ThreeToEight, HullRow, built-corners, ref
 use Rattle.rounding.specs.Value.{metre, tick}
 use Rattle.rounding.proofs.Value.{metre-ticks}
 use Rattle.grid.specs.GridOutline.{normal-bound, direction-error, length-error, GridOutline}
+use Rattle.grid.proofs.ContactRanges.{skin-in-range}
 use Rattle.grid.proofs.Theorem.{first-sentence, built-outline, built-in-range}
 
 -- ---- lists by the bit patterns of their coordinates: 0, -0, 1/256, 1/2, 1, 2, 4 and -4
-abbrev at : ℕ → ℕ → B2vec2
+abbrev pub at : ℕ → ℕ → B2vec2
 at x y = vec2 (ofBits binary32 x) (ofBits binary32 y)
 
-abbrev points : List (ℕ × ℕ) → List B2vec2
+abbrev pub points : List (ℕ × ℕ) → List B2vec2
 points l = map (λ b. at (b .0) (b .1)) l
 
-abbrev minus-zero : ℕ
+abbrev pub minus-zero : ℕ
 minus-zero = 0x8000_0000
 
 abbrev step : ℕ
 step = 0x3b80_0000
 
-abbrev half : ℕ
+abbrev pub half : ℕ
 half = 0x3f00_0000
 
-abbrev one : ℕ
+abbrev pub one : ℕ
 one = 0x3f80_0000
 
-abbrev two : ℕ
+abbrev pub two : ℕ
 two = 0x4000_0000
 
 abbrev four : ℕ
@@ -60,7 +61,7 @@ four = 0x4080_0000
 abbrev minus-four : ℕ
 minus-four = 0xc080_0000
 
-abbrev square : List (ℕ × ℕ)
+abbrev pub square : List (ℕ × ℕ)
 square = (0, 0) ∷ (one, 0) ∷ (one, one) ∷ (minus-zero, one) ∷ (half, 0) ∷ (one, minus-zero) ∷ []
 
 abbrev smallest : List (ℕ × ℕ)
@@ -109,13 +110,13 @@ computed old = record {
 }
 
 -- ---- they are on the grid, by a computed test
-abbrev steps-of : ℕ → ℕ
+abbrev pub steps-of : ℕ → ℕ
 steps-of b = 2 ^ 8 * bits-units b / 2 ^ 149
 
-abbrev on-grid : ℕ → Bool
+abbrev pub on-grid : ℕ → Bool
 on-grid b = ltb (bits-field b) 255 && (eqb (2 ^ 8 * bits-units b) (2 ^ 149 * steps-of b) && leb (steps-of b) grid-limit)
 
-grid-number : (b : ℕ) → T (on-grid b) → GridNumber (ofBits binary32 b)
+pub grid-number : (b : ℕ) → T (on-grid b) → GridNumber (ofBits binary32 b)
 grid-number b t =
     let finite = and-yes (ltb (bits-field b) 255)
     (eqb (2 ^ 8 * bits-units b) (2 ^ 149 * steps-of b) && leb (steps-of b) grid-limit) t in
@@ -129,11 +130,11 @@ grid-number b t =
       most = abs-signed (bits-sign b) (steps-of b) grid-limit (leb→le (steps-of b) grid-limit (whole-steps .1));
     }
 
-abbrev all-on-grid : List (ℕ × ℕ) → Bool
+abbrev pub all-on-grid : List (ℕ × ℕ) → Bool
 all-on-grid [] = true
 all-on-grid (b ∷ l) = (on-grid (b .0) && on-grid (b .1)) && all-on-grid l
 
-grid-list : (l : List (ℕ × ℕ)) → T (all-on-grid l) → GridList (points l)
+pub grid-list : (l : List (ℕ × ℕ)) → T (all-on-grid l) → GridList (points l)
 grid-list [] t v m = absurd (List·Memᴰ·not-nil m)
 grid-list (b ∷ l) t v m =
     let both = and-yes (on-grid (b .0) && on-grid (b .1)) (all-on-grid l) t in
@@ -176,7 +177,7 @@ two-different-is old = first-sentence old (points two-different) (grid-list two-
     (computed old .two-different-refused)
 
 -- an outline with the default skin
-abbrev skinned : B2polygonShape
+abbrev pub skinned : B2polygonShape
 skinned = record {
   «m_radius» = b2-polygon-radius;
   «m_centroid» = origin;
@@ -184,10 +185,6 @@ skinned = record {
   «m_normals» = replicate 8 origin;
   «m_count» = 0;
 }
-
-skin-in-range : T (radius-in-range b2-polygon-radius)
-unfolding radius-in-range le ofBits
-skin-in-range = tt
 
 square-outline : GridOutline (outline-from skinned (points square))
 square-outline = built-outline skinned (points square) (grid-list square tt) (computed skinned .square-accepted)

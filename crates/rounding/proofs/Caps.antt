@@ -5,14 +5,14 @@ use Prim.Native.Nat.{ℕ, _*_, _^_, _≤_, _<_}
 use native.Mathlib.Nat.{le-trans, le-of-eq, lt-of-le-of-lt, mul-one}
 use lib.Dec.{T, leb, leb→le, lit≤}
 use lib.Pow.{pow-pos}
-use lib.Ieee.{Float, binary32, add, mul, div}
-use Rattle.algebra.specs.Integer.{Z, _⊞_, _⊠_, Abs}
+use lib.Ieee.{Float, binary32, add, sub, mul, div}
+use Rattle.algebra.specs.Integer.{Z, _⊞_, _⊟_, _⊠_, Abs}
 use Rattle.algebra.proofs.Magnitude.{abs-product, abs-widen}
 use lib.Ieee.Scale.{overflow}
 use Rattle.rounding.specs.Value.{metre, F32, sign, mag, val}
 use Rattle.rounding.proofs.Value.{metre-is, abs-mag}
 use Rattle.rounding.proofs.Rounding.{rounded}
-use Rattle.rounding.proofs.Operations.{Rounds, abs-turned, add-rounds, mul-rounds, div-rounds}
+use Rattle.rounding.proofs.Operations.{Rounds, abs-turned, add-rounds, sub-rounds, mul-rounds, div-rounds}
 use Rattle.rounding.proofs.Rounds.{rounds-f32, rounds-mag, size-le}
 use Rattle.rounding.proofs.Order.{rounded-mono}
 use Rattle.rounding.proofs.Dyadic.{rounded-dyadic, dyadic-finite}
@@ -43,6 +43,9 @@ rounds-cap h n {z} {num} {den} h-low r num-abs n-low =
 module _ (h : ℕ) {x y : Float} (h-low : T (leb h (2 ^ 24))) (x-f32 : F32 x) (y-f32 : F32 y) where
   pub add-cap : (n : ℕ) → Abs (val x ⊞ val y) n → n ≤ h * metre → Capped (add binary32 x y) h
   add-cap n = rounds-cap h n h-low (add-rounds x-f32 y-f32)
+
+  pub sub-cap : (n : ℕ) → Abs (val x ⊟ val y) n → n ≤ h * metre → Capped (sub binary32 x y) h
+  sub-cap n = rounds-cap h n h-low (sub-rounds x-f32 y-f32)
 
   pub product-cap : (n : ℕ) → Abs (val x ⊠ val y) n → n ≤ h * (metre * metre) → Capped (mul binary32 x y) h
   product-cap n = rounds-cap h n h-low (mul-rounds x-f32 y-f32)

@@ -12,6 +12,7 @@ pub mod Commutes
 pub mod Exact
 pub mod Dyadic
 pub mod Caps
+pub mod Sized
 pub mod Relative
 pub mod Doubling
 pub mod Literals

@@ -11,7 +11,7 @@ use Rattle.algebra.specs.Integer.{Z, whole, _⊟_, _⊠_, _⊛_, Abs}
 use Rattle.algebra.proofs.Magnitude.{abs-unscale, abs-whole}
 use Rattle.rounding.specs.Value.{metre, tick, F32, mag, val}
 use Rattle.rounding.specs.Literals.{one32}
-use Rattle.rounding.proofs.Value.{metre-is, metre-pos, metre-ticks}
+use Rattle.rounding.proofs.Value.{metre-is, metre-pos, metre-square}
 use Rattle.rounding.proofs.Operations.{product-size}
 use Rattle.rounding.proofs.Near.{div-near}
 use Rattle.rounding.proofs.Relative.{div-relative}
@@ -55,7 +55,7 @@ reciprocal j k {l} j-low k-low l-f32 low high =
   where
     in-ticks : (v : Z) → Abs (2 ^ 24 ⊛ (v ⊟ metre ⊛ whole metre)) (metre * metre)
         → Abs (2 ^ 24 ⊛ (v ⊟ whole (metre * metre))) (2 ^ 24 * (2 * tick * metre))
-    in-ticks v h = let e : metre * metre ≡ 2 ^ 25 * tick * metre = ap (λ (n : ℕ). n * metre) metre-ticks in omega arith
+    in-ticks v h = let e = metre-square in omega arith
 
     total : (v w : Z) (n e : ℕ) → Abs (v ⊟ w) e → Abs w n → Abs v (n + e)
     total v w n e h k = omega arith

@@ -1,13 +1,13 @@
--- Multiplying by 0, 1 or -1 and subtracting 0 are exact at every number of the format, -0 included: each exact result
--- is the value of a number at hand. Assumes nothing.
+-- Multiplying by 0, 1 or -1 and adding or subtracting 0 are exact at every number of the format, -0 included: each
+-- exact result is the value of a number at hand. Assumes nothing.
 use native.Mathlib.Omega.{arith}
-use lib.Ieee.{Float, binary32, sub, mul}
-use Rattle.algebra.specs.Integer.{Z, whole, opp, _⊟_, _⊠_, _⊛_, _≐_}
+use lib.Ieee.{Float, binary32, add, sub, mul}
+use Rattle.algebra.specs.Integer.{Z, whole, opp, _⊞_, _⊟_, _⊠_, _⊛_, _≐_}
 use Rattle.algebra.proofs.Integer.{same-refl, same-trans}
 use Rattle.algebra.proofs.Products.{product-same}
 use Rattle.rounding.specs.Value.{metre, F32, val}
 use Rattle.rounding.proofs.Value.{val-neg, neg-f32}
-use Rattle.rounding.proofs.Exact.{Is, sub-exact, mul-exact}
+use Rattle.rounding.proofs.Exact.{Is, add-exact, sub-exact, mul-exact}
 use Rattle.rounding.proofs.Literals.{zero-f32, zero-val}
 
 same : {z : Float} (v w : Z) → v ≐ w → Is z v → Is z w
@@ -32,3 +32,14 @@ module _ {u x : Float} (u-f32 : F32 u) (x-f32 : F32 x) where
 module _ {x y : Float} (x-f32 : F32 x) (y-f32 : F32 y) where
   pub sub-zero-exact : val y ≐ whole 0 → Is (sub binary32 x y) (val x)
   sub-zero-exact e = same (val x ⊟ val y) (val x) (omega arith) (sub-exact x-f32 y-f32 x-f32 (omega arith))
+
+  pub zero-sub-exact : val x ≐ whole 0 → Is (sub binary32 x y) (opp (val y))
+  zero-sub-exact e =
+      same (val x ⊟ val y) (opp (val y)) (omega arith)
+      (sub-exact x-f32 y-f32 (neg-f32 y-f32) (rw val-neg (omega arith)))
+
+  pub add-zero-exact : val y ≐ whole 0 → Is (add binary32 x y) (val x)
+  add-zero-exact e = same (val x ⊞ val y) (val x) (omega arith) (add-exact x-f32 y-f32 x-f32 (omega arith))
+
+  pub zero-add-exact : val x ≐ whole 0 → Is (add binary32 x y) (val y)
+  zero-add-exact e = same (val x ⊞ val y) (val y) (omega arith) (add-exact x-f32 y-f32 y-f32 (omega arith))

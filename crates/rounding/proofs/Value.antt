@@ -32,6 +32,15 @@ pub metre-ticks : metre ≡ 2 ^ 25 * tick
 unfolding metre tick
 metre-ticks = refl
 
+pub metre-square : metre * metre ≡ 2 ^ 25 * tick * metre
+metre-square = ap (λ (n : ℕ). n * metre) metre-ticks
+
+pub tick-pos : 0 < tick
+tick-pos = go metre-pos metre-ticks
+  where
+    go : {m t : ℕ} → 0 < m → m ≡ 2 ^ 25 * t → 0 < t
+    go h e = omega arith
+
 -- as products of powers of two
 pub metre-split : (t : ℕ) → t ≤ 149 → metre ≡ 2 ^ (149 - t) * 2 ^ t
 metre-split t h = metre-is ∙ ap (λ (n : ℕ). 2 ^ n) (sym (back 149 t h)) ∙ pow-add 2 (149 - t) t

@@ -1,0 +1,4 @@
+pub mod Placement
+pub mod Lengths
+pub mod Faces
+pub mod SecondSentence
