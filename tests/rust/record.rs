@@ -2,6 +2,7 @@
 //! bytes against bytes. Built with `--cfg papers` where the Rust is at hand and `--cfg box2d` where Box2D is.
 //! usage: record heats PROGRAM HEATS LENGTH SEED   compares PROGRAM on HEATS heats of about LENGTH lines, fed in pieces
 //!        record export CASES SEED                 compares the export
+//!        record limits PAIRS SEED                 searches for what docs/LIMITS.md says does not happen
 //!        record touches                           the second program on standard input
 //!        record heat LENGTH SEED                  prints a heat
 #![allow(unknown_lints, unexpected_cfgs)]
@@ -10,6 +11,7 @@ mod export;
 #[allow(dead_code)]
 mod generators;
 mod heats;
+mod limits;
 mod pieces;
 #[allow(dead_code)]
 mod ranges;
@@ -65,6 +67,10 @@ fn main() {
             println!("seed {}", number(2));
             export::compare(number(1), number(2))
         }
+        (Some("limits"), 3) => {
+            println!("seed {}", number(2));
+            limits::search(number(1), number(2))
+        }
         (Some("touches"), 1) => {
             let mut input = Vec::new();
             std::io::stdin().read_to_end(&mut input).expect("standard input");
@@ -74,7 +80,7 @@ fn main() {
             let text = heat(&mut Random::new(number(2)), number(1) as usize);
             return std::io::stdout().write_all(&text).expect("standard output");
         }
-        _ => panic!("usage: record heats PROGRAM HEATS LENGTH SEED | export CASES SEED | touches | heat LENGTH SEED"),
+        _ => panic!("usage: record heats PROGRAM HEATS LENGTH SEED | export CASES SEED | limits PAIRS SEED | touches | heat .."),
     };
     println!("{} passed, {} failed", passed as u32, !passed as u32);
     std::process::exit(!passed as i32);
