@@ -1,13 +1,18 @@
-//! A search for what docs/LIMITS.md says of outlines on the grid: pairs that share a point, with no corner flatter than
-//! 1 in 16, are reported in both orders; no reported pair is farther apart than 28.2 mm; circles are reported exactly
-//! where they touch. Coordinates are whole numbers of 1/256 m here, so all but the distance is exact.
+//! A search for what docs/LIMITS.md says of bodies on the grid. Two outlines that share a point, with no corner flatter
+//! than 1 in 16, are reported in both orders; no reported two are farther apart than 28.2 mm. A circle on such an outline
+//! without needles is reported where it touches, and nowhere else, to 1/4096 m. Two circles are reported exactly where
+//! they touch. Coordinates are whole numbers of 1/256 m here, so all but distances are exact.
 use crate::second;
 use crate::support::{Random, Tally};
 
 const FLATTEST: i64 = 16;
+const SHARPEST: i64 = 256;
+/// The skin and 1/4096 m, in units of 1/256 m.
+const SKIN: f64 = 2.56;
+const SLACK: f64 = 1.0 / 16.0;
 /// The square of 28.2 mm in units, a little more than 52.
 const FARTHEST: f64 = 52.1;
-const PAIRS_A_HEAT: usize = 100;
+const CASES_A_HEAT: usize = 100;
 
 type Point = (i64, i64);
 
@@ -39,13 +44,22 @@ fn faces(hull: &[Point]) -> impl Iterator<Item = (Point, Point)> + '_ {
     (0..hull.len()).map(|i| (hull[i], hull[(i + 1) % hull.len()]))
 }
 
-/// No corner turns less than 1 in FLATTEST.
-fn bent(hull: &[Point]) -> bool {
+/// Whether a test holds at each corner, of the cross and the dot product of the faces before and after it.
+fn each_corner(hull: &[Point], test: fn(i64, i64) -> bool) -> bool {
     (0..hull.len()).all(|i| {
         let [p, q, r] = [i, i + 1, i + 2].map(|k| hull[k % hull.len()]);
-        let dot = (q.0 - p.0) * (r.0 - q.0) + (q.1 - p.1) * (r.1 - q.1);
-        FLATTEST * cross(p, q, r) >= dot
+        test(cross(p, q, r), (q.0 - p.0) * (r.0 - q.0) + (q.1 - p.1) * (r.1 - q.1))
     })
+}
+
+/// No corner turns less than 1 in FLATTEST.
+fn bent(hull: &[Point]) -> bool {
+    each_corner(hull, |cross, dot| FLATTEST * cross >= dot)
+}
+
+/// No corner is sharper than 1 in SHARPEST.
+fn blunt(hull: &[Point]) -> bool {
+    each_corner(hull, |cross, dot| SHARPEST * cross >= -dot)
 }
 
 /// Whether a face of the one has all of the other strictly outside.
@@ -61,6 +75,7 @@ fn distance_squared(one: &[Point], other: &[Point]) -> f64 {
         (cx - t * dx).powi(2) + (cy - t * dy).powi(2)
     };
     let corners = |from: &[Point], to: &[Point]| {
+        let to = if to.len() < 3 { &[] } else { to };
         let all = from.iter().flat_map(|c| faces(to).map(move |(p, q)| to_face(*c, p, q)));
         all.fold(f64::INFINITY, f64::min)
     };
@@ -146,6 +161,17 @@ fn circles(random: &mut Random) -> (bool, String) {
     (touch, text + "050001\n")
 }
 
+/// A circle that nearly touches an outline, or is in it: its frame, under the id 2, and the test of id 1 against it.
+/// And how far it is from touching, below 0 where it does; the outline is body B, where it is.
+fn circle_on(random: &mut Random, outline: &[Point]) -> (f64, String) {
+    let (on, radius) = (random.of(outline), random.of(&[0, 1, 20, 200]));
+    let centre = (on.0 + within(random, radius + 4), on.1 + within(random, radius + 4));
+    let inside = faces(outline).all(|(p, q)| cross(p, q, centre) >= 0);
+    let gap = if inside { -1.0 } else { distance_squared(&[centre], outline).sqrt() - SKIN - radius as f64 };
+    let text = frame(&[1, 2], &[metres(centre.0), metres(centre.1), metres(radius)]);
+    (gap, text + "050102\n")
+}
+
 fn points_of(line: &str) -> Option<u8> {
     if line.starts_with("05") {
         line.get(7..8)?.parse().ok()
@@ -154,36 +180,74 @@ fn points_of(line: &str) -> Option<u8> {
     }
 }
 
-pub fn search(pairs: u64, seed: u64) -> bool {
+/// One case: A, B, their frames, how far a circle is from touching B, and whether two circles touch.
+struct Case {
+    a: Vec<Point>,
+    b: Vec<Point>,
+    gap: f64,
+    touch: bool,
+    frames: String,
+}
+
+fn case(random: &mut Random) -> Case {
+    let (a, b, outlines) = pair(random);
+    let (gap, on_outline) = circle_on(random, &b);
+    let (touch, circles) = circles(random);
+    Case { a, b, gap, touch, frames: outlines + &on_outline + &circles }
+}
+
+/// The answers to a case's frames: the first four make the outlines, then come the tests.
+const ANSWERS: usize = 11;
+const THERE: usize = 4;
+const BACK: usize = 5;
+const ON_OUTLINE: usize = 7;
+const CIRCLES: usize = 10;
+
+fn judge(case: &Case, answers: &[&str], agree: bool, tally: &mut Tally) {
+    let (a, b) = (&case.a, &case.b);
+    let circles = points_of(answers[CIRCLES]);
+    tally.case(agree && circles == Some(case.touch as u8), || format!("circles: {answers:?}"));
+    tally.met(if case.touch { "circles touch" } else { "circles apart" });
+    let (Some(there), Some(back)) = (points_of(answers[THERE]), points_of(answers[BACK])) else {
+        return tally.met("not built");
+    };
+    let share = !kept_off(a, b) && !kept_off(b, a);
+    let safe = bent(a) && bent(b);
+    let lost = share && (there == 0 || back == 0);
+    let far = (there > 0 || back > 0) && !share && distance_squared(a, b) > FARTHEST;
+    tally.case(agree && !far && !(lost && safe), || format!("{} {answers:?}", case.frames));
+    let kind = if safe { "no flat corner" } else { "a flat corner" };
+    tally.met(&format!("{kind}, {}", if share { "they share a point" } else { "apart" }));
+    if lost {
+        tally.met(if there + back == 0 { "a flat corner, lost in both orders" } else { "a flat corner, lost" });
+    }
+    if bent(b) && blunt(b) {
+        let reported = points_of(answers[ON_OUTLINE]) == Some(1);
+        let right = case.gap.abs() < SLACK || reported == (case.gap < 0.0);
+        tally.case(agree && right, || format!("a circle at {}: {} {answers:?}", case.gap, case.frames));
+        tally.met(if reported { "circle on an outline" } else { "circle off an outline" });
+    }
+}
+
+pub fn search(cases: u64, seed: u64) -> bool {
     let mut random = Random::new(seed);
     let mut tally = Tally::new("limits");
-    while tally.cases < pairs {
-        let all: Vec<_> = (0..PAIRS_A_HEAT).map(|_| (pair(&mut random), circles(&mut random))).collect();
-        let text: String = all.iter().map(|((_, _, text), (_, circles))| text.clone() + circles).collect();
+    while tally.cases < cases {
+        let all: Vec<Case> = (0..CASES_A_HEAT).map(|_| case(&mut random)).collect();
+        let text: String = all.iter().map(|case| case.frames.as_str()).collect();
         let (output, agree) = second::touches(text.as_bytes());
         let output = String::from_utf8(output).expect("text");
         let lines: Vec<&str> = output.lines().collect();
-        for (((a, b, frames), (touch, _)), answers) in all.iter().zip(lines.chunks(9)) {
-            let circles = points_of(answers[8]);
-            tally.case(agree && circles == Some(*touch as u8), || format!("circles: {answers:?}"));
-            tally.met(if *touch { "circles touch" } else { "circles apart" });
-            let (Some(there), Some(back)) = (points_of(answers[4]), points_of(answers[5])) else {
-                tally.met("not built");
-                continue;
-            };
-            let share = !kept_off(a, b) && !kept_off(b, a);
-            let safe = bent(a) && bent(b);
-            let lost = share && (there == 0 || back == 0);
-            let far = (there > 0 || back > 0) && !share && distance_squared(a, b) > FARTHEST;
-            tally.case(agree && !far && !(lost && safe), || format!("{frames} {answers:?}"));
-            let kind = if safe { "no flat corner" } else { "a flat corner" };
-            tally.met(&format!("{kind}, {}", if share { "they share a point" } else { "apart" }));
-            if lost {
-                tally.met(if there + back == 0 { "a flat corner, lost in both orders" } else { "a flat corner, lost" });
-            }
-        }
+        all.iter().zip(lines.chunks(ANSWERS)).for_each(|(case, answers)| judge(case, answers, agree, &mut tally));
     }
-    let wanted =
-        ["no flat corner, they share a point", "no flat corner, apart", "a flat corner, lost", "circles touch"];
+    let wanted = [
+        "no flat corner, they share a point",
+        "no flat corner, apart",
+        "a flat corner, lost",
+        "circle on an outline",
+        "circle off an outline",
+        "circles touch",
+        "circles apart",
+    ];
     tally.report(&wanted.map(|what| what.to_string()))
 }

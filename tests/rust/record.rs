@@ -2,7 +2,8 @@
 //! bytes against bytes. Built with `--cfg papers` where the Rust is at hand and `--cfg box2d` where Box2D is.
 //! usage: record heats PROGRAM HEATS LENGTH SEED   compares PROGRAM on HEATS heats of about LENGTH lines, fed in pieces
 //!        record export CASES SEED                 compares the export
-//!        record limits PAIRS SEED                 searches for what docs/LIMITS.md says does not happen
+//!        record limits CASES SEED                 searches for what docs/LIMITS.md says does not happen
+//!        record store FOLDER HEATS LENGTH SEED    writes heats and their answers for tests/stored, which both share
 //!        record touches                           the second program on standard input
 //!        record heat LENGTH SEED                  prints a heat
 #![allow(unknown_lints, unexpected_cfgs)]
@@ -49,6 +50,30 @@ fn compare_heats(program: &str, heats: u64, length: usize, seed: u64) -> bool {
     tally.report(&census::wanted())
 }
 
+/// The fixed heats and random ones, the last of them a hundred times as long, each with its answers.
+fn store(folder: &str, heats: usize, length: usize, seed: u64) {
+    let mut random = Random::new(seed);
+    for i in 0..heats {
+        let lines = if i + 1 < heats { length } else { 100 * length };
+        let input = FIXED.get(i).map_or_else(|| short_heat(&mut random, lines), |(_, text)| text.to_vec());
+        let (output, agree) = second::touches(&input);
+        assert!(cfg!(papers) && cfg!(box2d) && agree, "both references are needed, and have to agree");
+        for (end, text) in [("in", input), ("out", output)] {
+            std::fs::write(format!("{folder}/{i:02}.{end}"), text).expect("a folder that can be written to");
+        }
+    }
+}
+
+/// A heat without a line of thousands of characters.
+fn short_heat(random: &mut Random, length: usize) -> Vec<u8> {
+    loop {
+        let text = heat(random, length);
+        if text.split(|c| *c == b'\n').all(|line| line.len() < 2000) || length > 1000 {
+            return text;
+        }
+    }
+}
+
 fn main() {
     std::panic::set_hook(Box::new(|panic| {
         // the Rust's asserts are answers; what goes wrong in the harness is shown
@@ -71,6 +96,7 @@ fn main() {
             println!("seed {}", number(2));
             limits::search(number(1), number(2))
         }
+        (Some("store"), 5) => return store(&words[1], number(2) as usize, number(3) as usize, number(4)),
         (Some("touches"), 1) => {
             let mut input = Vec::new();
             std::io::stdin().read_to_end(&mut input).expect("standard input");
@@ -80,7 +106,9 @@ fn main() {
             let text = heat(&mut Random::new(number(2)), number(1) as usize);
             return std::io::stdout().write_all(&text).expect("standard output");
         }
-        _ => panic!("usage: record heats PROGRAM HEATS LENGTH SEED | export CASES SEED | limits PAIRS SEED | touches | heat .."),
+        _ => panic!(
+            "usage: record heats PROGRAM HEATS LENGTH SEED | export CASES SEED | limits CASES SEED | touches | heat .."
+        ),
     };
     println!("{} passed, {} failed", passed as u32, !passed as u32);
     std::process::exit(!passed as i32);
