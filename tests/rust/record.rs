@@ -8,6 +8,7 @@
 //!        record heat LENGTH SEED                  prints a heat
 #![allow(unknown_lints, unexpected_cfgs)]
 mod census;
+mod damage;
 mod export;
 #[allow(dead_code)]
 mod generators;
@@ -16,6 +17,7 @@ mod limits;
 mod pieces;
 #[allow(dead_code)]
 mod ranges;
+mod robots;
 mod second;
 #[allow(dead_code)]
 mod support;
