@@ -1,7 +1,8 @@
 //! The touch record's speed: frames a second of our program, of the second program over the Rust and of the one over
 //! Box2D 2.4.1, on one heat sent over and over, and ns a call of the export. usage: record OURS BOX2D HEAT [ROUNDS]
-//! Programs are run as they are used, standard input from a file, standard output to another. Each figure is the best of
-//! ROUNDS; the contestants take turns. `record touches` is the second program over the Rust.
+//! Programs are run as they are used, from a file to a file, and must print the same; then ROUNDS times to nowhere, in
+//! turns. A figure is the least processor time of them, the system's for it included. `record touches` is the second
+//! program over the Rust.
 #![allow(unknown_lints, unexpected_cfgs)]
 #[allow(dead_code)]
 #[path = "../tests/rust/ranges.rs"]
@@ -17,15 +18,24 @@ use std::time::Instant;
 extern "C" {
     fn netxurbil_test(frames: *const u8, frames_length: usize, out: *mut u8, out_length: usize) -> u32;
     fn box2d_export(frames: *const u8, frames_length: usize, out: *mut u8, out_length: usize) -> u32;
+    fn getrusage(who: i32, usage: *mut [i64; 18]) -> i32;
 }
 
 /// About so many frames are sent.
 const FRAMES: usize = 500_000;
 const CALLS: usize = 20_000;
 
-/// Seconds of one run of a program, and what it printed.
+/// Seconds of processor time that programs which were run have taken so far.
+fn spent() -> f64 {
+    const CHILDREN: i32 = -1;
+    let mut usage = [0; 18];
+    assert!(unsafe { getrusage(CHILDREN, &mut usage) } == 0);
+    (usage[0] + usage[2]) as f64 + (usage[1] + usage[3]) as f64 / 1e6
+}
+
+/// Seconds of one run of a program.
 fn run(program: &[&str], input: &str, output: &str) -> f64 {
-    let start = Instant::now();
+    let start = spent();
     let status = Command::new(program[0])
         .args(&program[1..])
         .stdin(File::open(input).expect("the input"))
@@ -33,7 +43,7 @@ fn run(program: &[&str], input: &str, output: &str) -> f64 {
         .status()
         .expect("a program");
     assert!(status.success(), "{program:?} ended badly");
-    start.elapsed().as_secs_f64()
+    spent() - start
 }
 
 fn programs(ours: &str, box2d: &str, heat: &str, rounds: usize) {
@@ -48,14 +58,15 @@ fn programs(ours: &str, box2d: &str, heat: &str, rounds: usize) {
     let me = std::env::current_exe().expect("this program");
     let contestants: [(&str, Vec<&str>); 3] =
         [("ours", vec![ours]), ("Rust", vec![me.to_str().expect("a path"), "touches"]), ("Box2D", vec![box2d])];
-    let mut best = [f64::INFINITY; 3];
-    for _ in 0..rounds {
-        for (i, (_, program)) in contestants.iter().enumerate() {
-            best[i] = best[i].min(run(program, &input, &output[i]));
-        }
-    }
+    contestants.iter().zip(&output).for_each(|((_, program), output)| drop(run(program, &input, output)));
     let bytes = output.each_ref().map(|path| std::fs::read(path).expect("an output"));
     assert!(bytes[0] == bytes[1] && bytes[0] == bytes[2], "the programs do not print the same");
+    let mut best = [f64::INFINITY; 3];
+    for _ in 0..rounds {
+        for (least, (_, program)) in best.iter_mut().zip(&contestants) {
+            *least = least.min(run(program, &input, "/dev/null"));
+        }
+    }
     std::fs::remove_dir_all(&folder).expect("the folder");
     println!("{heat}, {times} times: {} frames", frames * times);
     for ((name, _), seconds) in contestants.iter().zip(best) {
