@@ -58,7 +58,9 @@ fn programs(ours: &str, box2d: &str, heat: &str, rounds: usize) {
     let me = std::env::current_exe().expect("this program");
     let contestants: [(&str, Vec<&str>); 3] =
         [("ours", vec![ours]), ("Rust", vec![me.to_str().expect("a path"), "touches"]), ("Box2D", vec![box2d])];
-    contestants.iter().zip(&output).for_each(|((_, program), output)| drop(run(program, &input, output)));
+    contestants.iter().zip(&output).for_each(|((_, program), output)| {
+        run(program, &input, output);
+    });
     let bytes = output.each_ref().map(|path| std::fs::read(path).expect("an output"));
     assert!(bytes[0] == bytes[1] && bytes[0] == bytes[2], "the programs do not print the same");
     let mut best = [f64::INFINITY; 3];
