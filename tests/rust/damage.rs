@@ -15,6 +15,13 @@ impl Heat<'_> {
         let (far, radius) = (self.random.of(&[0.0, 0.0, 1000.0]), self.random.of(&[0.0, 1.0]));
         self.frame(&floats(&[1, 1], &[v1[0] + from[0], v1[1] + from[1] + far, radius]));
         self.frame(&[5, 0, 1]);
+        // a contact before and after a test that may be refused
+        for _ in 0..self.random.below(6) {
+            let mut tiny = |most: u64| (self.random.below(2 * most + 1) as f32 - most as f32) * step;
+            let at = [tiny(4), tiny(4)];
+            self.frame(&floats(&[4, 1], &[at[0], at[1], 0.0, 1.0]));
+            self.frame(&[5, 0, 1]);
+        }
         self.bodies[0] = None;
         self.bodies[1] = None;
     }
@@ -61,6 +68,12 @@ impl Heat<'_> {
         };
         self.frame(&frame);
         if matches!(frame[0], 1..=3) && (id as usize) < IDS {
+            // a refused shape leaves the old one, its contacts and its counts
+            for _ in 0..3 {
+                let other = self.id() as u8;
+                self.frame(&[5, id, other]);
+                self.frame(&[5, other, id]);
+            }
             self.bodies[id as usize] = None;
         }
     }
@@ -68,7 +81,7 @@ impl Heat<'_> {
     /// A line that is no frame, or hardly one: damaged digits, wrong lengths, unknown kinds, other bytes, none at all.
     pub fn damaged(&mut self) {
         let body = body(self.random, 1.0);
-        let id = self.id() as u8;
+        let id = if self.random.once_in(4) { 8 } else { self.id() as u8 };
         let random = &mut *self.random;
         let good = random.of(&[&shape_frame(id, &body), &place_frame(id, &body), &vec![5, id, 1]]).to_vec();
         let mut line = hex(&good);
@@ -100,7 +113,7 @@ impl Heat<'_> {
             _ => line = vec![random.next() as u8 | 1; if random.once_in(8) { 100_000 } else { 5000 }],
         }
         self.line(&line);
-        if matches!(good[0], 1..=3) {
+        if matches!(good[0], 1..=3) && (id as usize) < IDS {
             self.bodies[id as usize] = None;
         }
     }
