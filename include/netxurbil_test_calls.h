@@ -1,26 +1,8 @@
-/* The C entry points for tests (crates/test_calls). A slice of bytes is a pointer and a length. */
+/* The C entry points for tests (crates/test_calls). A slice of bytes is a pointer and a length; refusals are those of
+   netxurbil.h. */
 #ifndef NETXURBIL_TEST_CALLS_H
 #define NETXURBIL_TEST_CALLS_H
-#include <stddef.h>
-#include <stdint.h>
-
-/* The refusals. 10 to 13 are given by no entry yet. */
-enum netxurbil_refusal {
-    NETXURBIL_ACCEPTED = 0,
-    NETXURBIL_WRONG_NUMBER_OF_POINTS = 1, /* an outline without 3 to 8 points */
-    NETXURBIL_SHAPE_OUT_OF_RANGE = 2,     /* a shape's number is none, beyond its limit, or a negative radius */
-    NETXURBIL_TOO_FEW_AFTER_WELDING = 3,  /* fewer than three points stay after welding */
-    NETXURBIL_WALK_NOT_CLOSED = 4,        /* the walk is not back after eight corners, or with fewer than three */
-    NETXURBIL_EDGE_OR_AREA_TOO_SMALL = 5, /* an edge or the area is too small */
-    NETXURBIL_PLACEMENT_OUT_OF_RANGE = 6, /* a placement, or a box's sine or cosine, is out of range */
-    NETXURBIL_COUNT_OUT_OF_RANGE = 7,     /* a record's count is out of range */
-    NETXURBIL_WALL_TOO_SHORT = 8,         /* wall against circle: the wall's squared length is not above 0 */
-    NETXURBIL_CONTACT_OUT_OF_RANGE = 9,   /* a clip's or world points' number out of range; too short an output */
-    NETXURBIL_MALFORMED_FRAME = 10,       /* a line of the record is no frame */
-    NETXURBIL_UNKNOWN_ID = 11,            /* an id above 7 */
-    NETXURBIL_NO_SHAPE = 12,              /* no shape under the id */
-    NETXURBIL_PAIR_NOT_LISTED = 13        /* a pair of shapes that is not tested */
-};
+#include "netxurbil.h"
 
 /* Runs the entry that the request's first word names. All words are four bytes, highest first; a float is its bits.
    Returns the number of words written to the front of out: the refusal (0 for accepted), then the complete record

@@ -18,37 +18,35 @@ extern "C" void __assert_fail(const char *text, const char *, unsigned line, con
     longjmp(back, 1);
 }
 
-namespace {
-
 // Document 01's number for an assert of b2PolygonShape::Set. Both "degenerate" asserts read `false`: the first in the
 // file is the one after welding, so the lower line is 3 and the higher one 4.
-unsigned lower_false = ~0u;
-uint32_t refusal() {
+static unsigned lower_false = ~0u;
+uint32_t set_refusal() {
     if (std::strstr(assertion, "count")) return 1;
     if (std::strncmp(assertion, "m <", 3) == 0) return 4; // the walk that does not come back
     if (std::strcmp(assertion, "false") == 0) return assertion_line <= lower_false ? 3 : 4;
     return 5;
 }
 
-// Learns the line of the assert after welding: three points at one place.
-void learn() {
+// From here to the end asserts are refusals. The first time it learns the line of the assert after welding: three
+// points at one place.
+void refusals_begin() {
     static bool learnt = false;
+    asserting = true;
     if (learnt) return;
     learnt = true;
     b2Vec2 same[3] = {b2Vec2(0, 0), b2Vec2(0, 0), b2Vec2(0, 0)};
     b2PolygonShape p;
-    asserting = true;
     if (setjmp(back) == 0) p.Set(same, 3);
     lower_false = assertion_line;
 }
 
-} // namespace
+void refusals_end() { asserting = false; }
 
 extern "C" size_t box2d_answer(const uint32_t *request, uint32_t *out) {
-    learn();
+    refusals_begin();
     Reader in{request};
     Writer to{out + 1};
-    asserting = true;
     out[0] = 0;
     switch (in.word()) {
     case 1: {
@@ -61,7 +59,7 @@ extern "C" size_t box2d_answer(const uint32_t *request, uint32_t *out) {
         if (setjmp(back) == 0) {
             p.Set(points, n);
         } else {
-            out[0] = refusal();
+            out[0] = set_refusal();
             Reader again{request + 1};
             p = again.polygon();
         }
@@ -112,7 +110,7 @@ extern "C" size_t box2d_answer(const uint32_t *request, uint32_t *out) {
     default:
         if (!contact_answer(in, to, out)) return 0;
     }
-    asserting = false;
+    refusals_end();
     return (size_t)(to.at - out);
 }
 

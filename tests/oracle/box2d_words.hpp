@@ -8,6 +8,12 @@
 extern jmp_buf back;          // where an assert of the library goes
 extern const char *assertion; // its text
 
+// Between these two an assert of the library comes back instead of ending the program. The number of the last one, of
+// the outline builder.
+void refusals_begin();
+void refusals_end();
+uint32_t set_refusal();
+
 struct Reader {
     const uint32_t *at;
     uint32_t word() { return *at++; }

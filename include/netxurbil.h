@@ -1,0 +1,59 @@
+/* The contact engine for a C match server: one call that tests two robots (crate record; rt staticlib record). */
+#ifndef NETXURBIL_H
+#define NETXURBIL_H
+#include <stddef.h>
+#include <stdint.h>
+
+#ifdef __cplusplus
+extern "C" {
+#endif
+
+/* Why a call, or a frame of the touch record, was turned down. */
+enum netxurbil_refusal {
+    NETXURBIL_ACCEPTED = 0,
+    NETXURBIL_WRONG_NUMBER_OF_POINTS = 1, /* an outline without 3 to 8 points */
+    NETXURBIL_SHAPE_OUT_OF_RANGE = 2,     /* a shape's number is none, beyond its limit, or a negative radius */
+    NETXURBIL_TOO_FEW_AFTER_WELDING = 3,  /* fewer than three points stay after welding */
+    NETXURBIL_WALK_NOT_CLOSED = 4,        /* the walk is not back after eight corners, or with fewer than three */
+    NETXURBIL_EDGE_OR_AREA_TOO_SMALL = 5, /* an edge or the area is too small */
+    NETXURBIL_PLACEMENT_OUT_OF_RANGE = 6, /* a placement, or a box's sine or cosine, is out of range */
+    NETXURBIL_COUNT_OUT_OF_RANGE = 7,     /* a record's count is out of range; no frame gives it */
+    NETXURBIL_WALL_TOO_SHORT = 8,         /* wall against circle: the wall's squared length is not above 0 */
+    NETXURBIL_CONTACT_OUT_OF_RANGE = 9,   /* an output under 45 bytes; of clips and world points, a number's range */
+    NETXURBIL_MALFORMED_FRAME = 10,       /* what was sent is no frame, or not the frames that are asked for */
+    NETXURBIL_UNKNOWN_ID = 11,            /* an id above 7 */
+    NETXURBIL_NO_SHAPE = 12,              /* no shape under the id */
+    NETXURBIL_PAIR_NOT_LISTED = 13        /* a pair of shapes that is not tested */
+};
+
+/* The room that an output needs: the longest answer, a test with two points. */
+#define NETXURBIL_OUTPUT 45
+/* What is added to a refusal's number when netxurbil_test returns it. */
+#define NETXURBIL_REFUSED 256
+
+/* Tests two outlines. `frames` holds four frames of the touch record, joined, as bytes (not as hexadecimal text):
+
+       02 00 count points    the outline of robot 0: its number of points, then x and y of each
+       04 00 x y sine cosine where it is
+       02 01 count points    the outline of robot 1
+       04 01 x y sine cosine where it is
+
+   A number is the four bytes of an f32, highest first. The bytes of the answer to `05 00 01` by a program that has read
+   just these frames go to the front of `out`; the rest of it keeps its bytes:
+
+       05 00 01, the number of points (0 to 2), the kind (0 where there is no point, 1 for a face of robot 0, 2 for one of
+       robot 1), the states of two old points (0) and of two new ones (1 where there is a point), the number of touches
+       (4 bytes); with points: the normal's x and y, from robot 0 to robot 1, then x, y and separation of each point,
+       below 0 where they overlap
+
+   Returns the number of bytes written: 13, 33 or 45 with 0, 1 or 2 points; or 256 plus a refusal, and then `out` is
+   untouched: 9 for an output under 45 bytes, tried first; 10 where `frames` is anything but these four; else 1 to 6.
+
+   The caller owes two slices, of n and of m bytes, that may be read and written and do not overlap. Nothing outside
+   them is read or written, whatever bytes they hold; nothing is kept between calls, so threads may call at once. */
+uint32_t netxurbil_test(const uint8_t *frames, size_t n, uint8_t *out, size_t m);
+
+#ifdef __cplusplus
+}
+#endif
+#endif

@@ -1,0 +1,116 @@
+//! What the heats of a run had in them, counted from inputs and the right outputs.
+use crate::support::Tally;
+
+const KINDS: [&str; 4] = ["", "circle", "outline", "wall"];
+const STATES: [&str; 4] = ["null", "add", "persist", "remove"];
+
+fn lines(text: &[u8]) -> Vec<&[u8]> {
+    let mut lines: Vec<&[u8]> = text.split(|c| *c == b'\n').collect();
+    if lines.last().map_or(false, |rest| rest.is_empty()) {
+        lines.pop();
+    }
+    lines
+}
+
+fn byte(line: &[u8], i: usize) -> usize {
+    let digits = line.get(2 * i..2 * i + 2).and_then(|two| std::str::from_utf8(two).ok());
+    digits.and_then(|two| usize::from_str_radix(two, 16).ok()).unwrap_or(0)
+}
+
+/// The first line in which two outputs differ, with its frame.
+pub fn difference(input: &[u8], wanted: &[u8], got: &[u8]) -> String {
+    let (frames, wanted, got) = (lines(input), lines(wanted), lines(got));
+    let text = |list: &[&[u8]], i: usize| {
+        list.get(i).map_or("no line".into(), |line| String::from_utf8_lossy(&line[..line.len().min(200)]).into_owned())
+    };
+    match (0..wanted.len().max(got.len())).find(|i| wanted.get(*i) != got.get(*i)) {
+        Some(i) => format!("line {}: {:?} gives {}, not {}", i + 1, text(&frames, i), text(&got, i), text(&wanted, i)),
+        None => "lines are the same".to_string(),
+    }
+}
+
+#[derive(Default)]
+pub struct Census;
+
+impl Census {
+    pub fn add(&mut self, input: &[u8], output: &[u8], tally: &mut Tally) {
+        let mut shapes = [0; 8];
+        for (line, answer) in lines(input).iter().zip(lines(output)) {
+            damage(line, tally);
+            match byte(answer, 0) {
+                0 => {
+                    tally.met("accepted");
+                    if byte(line, 0) <= 3 {
+                        shapes[byte(line, 1)] = byte(line, 0);
+                    }
+                }
+                5 => {
+                    let pair = [1, 2].map(|i| KINDS[shapes[byte(line, i)]]).join("-");
+                    tally.met(&format!("{pair} {}", ["apart", "1 point", "2 points"][byte(answer, 3)]));
+                    (5..9).for_each(|i| tally.met(STATES[byte(answer, i)]));
+                    let before = (5..7).map(|i| byte(answer, i)).any(|state| state > 0);
+                    if before && byte(answer, 3) == 0 {
+                        tally.met("parted");
+                    }
+                    if [9, 10, 11].iter().any(|i| byte(answer, *i) > 0) || byte(answer, 12) > 20 {
+                        tally.met("more than 20 touches");
+                    }
+                }
+                _ => tally.met(&format!("refusal {}", byte(answer, 1))),
+            }
+        }
+        if input.last().map_or(false, |c| *c != b'\n') {
+            tally.met("no line feed at the end");
+        }
+    }
+}
+
+/// Counts a line by what is odd about it.
+fn damage(line: &[u8], tally: &mut Tally) {
+    let has = |test: fn(&u8) -> bool| line.iter().any(test);
+    let odd: [(&str, bool); 9] = [
+        ("empty line", line.is_empty()),
+        ("CR", has(|c| *c == b'\r')),
+        ("NUL", has(|c| *c == 0)),
+        ("byte from 80 on", has(|c| *c >= 0x80)),
+        ("upper case", has(|c| c.is_ascii_uppercase())),
+        ("134 digits", line.len() == 134 && line.iter().all(|c| c.is_ascii_hexdigit())),
+        ("135 digits", line.len() == 135 && line.iter().all(|c| c.is_ascii_hexdigit())),
+        ("5000 characters", line.len() >= 5000),
+        ("100000 characters", line.len() >= 100_000),
+    ];
+    odd.iter().filter(|(_, met)| *met).for_each(|(name, _)| tally.met(name));
+}
+
+/// What a run has to meet.
+pub fn wanted() -> Vec<String> {
+    let pairs =
+        [("circle-circle", 1), ("outline-circle", 1), ("outline-outline", 2), ("wall-circle", 1), ("wall-outline", 2)];
+    let mut list: Vec<String> = Vec::new();
+    for (pair, most) in pairs {
+        let counts = ["apart", "1 point", "2 points"];
+        list.extend(counts[..=most].iter().map(|count| format!("{pair} {count}")));
+    }
+    list.extend([1, 2, 3, 4, 5, 6, 8, 10, 11, 12, 13].iter().map(|refusal| format!("refusal {refusal}")));
+    let others = [
+        "accepted",
+        "null",
+        "add",
+        "persist",
+        "remove",
+        "parted",
+        "more than 20 touches",
+        "empty line",
+        "CR",
+        "NUL",
+        "byte from 80 on",
+        "upper case",
+        "134 digits",
+        "135 digits",
+        "5000 characters",
+        "100000 characters",
+        "no line feed at the end",
+    ];
+    list.extend(others.iter().map(|what| what.to_string()));
+    list
+}

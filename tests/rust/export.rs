@@ -1,0 +1,133 @@
+//! Our export beside the second programs': good and damaged frames, outputs of 0 to 64 bytes. Both slices end or begin
+//! at pages that cannot be read or written.
+use crate::heats::export_frames;
+use crate::second;
+use crate::support::{Random, Tally};
+
+extern "C" {
+    fn netxurbil_test(frames: *const u8, frames_length: usize, out: *mut u8, out_length: usize) -> u32;
+    fn mmap(at: *mut u8, length: usize, rights: i32, flags: i32, file: i32, offset: i64) -> *mut u8;
+    fn mprotect(at: *mut u8, length: usize, rights: i32) -> i32;
+}
+
+const PAGE: usize = 4096;
+
+/// A page between two that end the program when they are touched.
+struct Guarded(*mut u8);
+
+impl Guarded {
+    fn new() -> Guarded {
+        const READ_WRITE: i32 = 3;
+        const PRIVATE_ANONYMOUS: i32 = 0x22;
+        unsafe {
+            let at = mmap(std::ptr::null_mut(), 3 * PAGE, 0, PRIVATE_ANONYMOUS, -1, 0);
+            assert!(at as isize > 0 && mprotect(at.add(PAGE), PAGE, READ_WRITE) == 0);
+            Guarded(at.add(PAGE))
+        }
+    }
+
+    /// So many bytes of the page, at its end or at its beginning; the rest of the page is around them.
+    fn place(&self, length: usize, at_end: bool) -> usize {
+        if at_end {
+            PAGE - length
+        } else {
+            0
+        }
+    }
+
+    fn page(&mut self) -> &mut [u8] {
+        unsafe { std::slice::from_raw_parts_mut(self.0, PAGE) }
+    }
+}
+
+const DAMAGES: [&str; 9] = [
+    "whole",
+    "cut short",
+    "a byte too many",
+    "an id changed",
+    "a kind changed",
+    "a count changed",
+    "frames in another order",
+    "a number changed",
+    "any bytes",
+];
+
+/// The bytes of an input and what is done to them.
+fn input(random: &mut Random) -> (Vec<u8>, &'static str) {
+    let mut frames = export_frames(random);
+    let damage = if random.once_in(2) { 0 } else { random.below(DAMAGES.len() as u64) as usize };
+    let which = random.below(4) as usize;
+    match damage {
+        3 => frames[which][1] = random.of(&[0, 1, 2, 7, 8, 255]),
+        4 => frames[which][0] = random.of(&[0, 1, 2, 3, 4, 5, 255]),
+        5 => frames[2 * (which / 2)][2] = random.of(&[0, 1, 2, 3, 7, 8, 9, 255]),
+        6 => frames.swap(which, random.below(4) as usize),
+        7 => {
+            let head = 3 - which % 2;
+            let frame = &mut frames[which];
+            let place = head + 4 * random.below((frame.len() - head) as u64 / 4) as usize;
+            let any = f32::from_bits(random.next() as u32);
+            let bad = random.of(&[f32::NAN, f32::INFINITY, 1048576.0, 1048576.1, -1.5, 1.0, 0.0, any]);
+            frame[place..place + 4].copy_from_slice(&bad.to_bits().to_be_bytes());
+        }
+        _ => {}
+    }
+    // fewer points, with the length that fits
+    if random.once_in(12) {
+        let (count, frame) = (random.below(3) as usize, &mut frames[2 * (which / 2)]);
+        frame.truncate(3 + 8 * count);
+        frame[2] = count as u8;
+    }
+    let mut bytes = frames.concat();
+    match damage {
+        1 => bytes.truncate(random.below(bytes.len() as u64) as usize),
+        2 => bytes.extend((0..1 + random.below(20)).map(|_| random.next() as u8)),
+        8 => bytes = (0..random.below(200)).map(|_| random.next() as u8).collect(),
+        _ => {}
+    }
+    (bytes, DAMAGES[damage])
+}
+
+/// An outline whose centroid is beyond the range, placed, and a triangle.
+const BAD_CENTROID: &str = "020004490a1fa5492cfc44c89c4a18c8c3bc7749282b0749529ceac81ff02fc8484e51\
+    04000000000000000000000000003f80000002010300000000000000003f80000000000000000000003f800000\
+    04010000000000000000000000003f800000";
+
+fn bytes_of(hex: &str) -> Vec<u8> {
+    (0..hex.len() / 2).map(|i| u8::from_str_radix(&hex[2 * i..2 * i + 2], 16).expect("digits")).collect()
+}
+
+pub fn compare(cases: u64, seed: u64) -> bool {
+    let mut random = Random::new(seed);
+    let mut tally = Tally::new("export");
+    let (mut frames_page, mut out_page) = (Guarded::new(), Guarded::new());
+    for i in 0..cases {
+        let (bytes, damage) = if i == 0 { (bytes_of(BAD_CENTROID), "bad centroid") } else { input(&mut random) };
+        let room = if random.below(3) > 0 { 45 + random.below(20) as usize } else { random.below(65) as usize };
+        let frames_at = frames_page.place(bytes.len(), random.once_in(2));
+        let out_at = out_page.place(room, random.once_in(2));
+        frames_page.page()[frames_at..frames_at + bytes.len()].copy_from_slice(&bytes);
+        // what is around the output changes from case to case
+        let filler = random.next() as u8;
+        out_page.page().fill(filler);
+        let number = unsafe { netxurbil_test(frames_page.0.add(frames_at), bytes.len(), out_page.0.add(out_at), room) };
+        let (wanted, left, agree) = second::export(&bytes, &vec![filler; room]);
+        let page = out_page.page();
+        let kept = page[..out_at].iter().chain(&page[out_at + room..]).all(|b| *b == filler);
+        let right = agree && number == wanted && page[out_at..out_at + room] == left[..] && kept;
+        let same = frames_page.page()[frames_at..frames_at + bytes.len()] == bytes[..];
+        tally.case(right && same, || {
+            let said = format!("{number}, not {wanted}, or another output");
+            format!("{bytes:02x?} with room for {room}: {said}{}", if agree { "" } else { "; no agreement" })
+        });
+        tally.met(damage);
+        tally.met(&match wanted {
+            256.. => format!("refusal {}", wanted - 256),
+            length => format!("{length} bytes"),
+        });
+    }
+    let mut wanted: Vec<String> = DAMAGES.iter().map(|damage| damage.to_string()).collect();
+    wanted.extend([1, 2, 3, 4, 5, 6, 9, 10].iter().map(|refusal| format!("refusal {refusal}")));
+    wanted.extend([13, 33, 45].iter().map(|length| format!("{length} bytes")));
+    tally.report(&wanted)
+}

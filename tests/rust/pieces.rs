@@ -1,0 +1,64 @@
+//! A program fed through a pipe, in pieces that it cannot foresee: each is written when the last one has been read.
+use crate::support::Random;
+use std::io::{Read, Write};
+use std::os::fd::AsRawFd;
+use std::process::{Command, Stdio};
+
+const FIONREAD: u64 = 0x541b;
+extern "C" {
+    fn ioctl(descriptor: i32, request: u64, count: *mut i32) -> i32;
+}
+
+/// The sizes of the pieces of an input: the whole, single characters, about a line, or any up to 64 KiB.
+fn split(length: usize, random: &mut Random) -> Vec<usize> {
+    let largest = match random.below(12) {
+        0 if length < 4000 => 1,
+        1 | 2 => 64,
+        3 | 4 => 300,
+        5 | 6 => 8192,
+        7 => 65536,
+        _ => return vec![length],
+    };
+    let largest = largest.max(length / 400);
+    let mut sizes = Vec::new();
+    let mut left = length;
+    while left > 0 {
+        let size = 1 + random.below(largest.min(left) as u64) as usize;
+        sizes.push(size);
+        left -= size;
+    }
+    sizes
+}
+
+/// What the program prints for the input, and whether it took all of it and ended with status 0.
+pub fn run(program: &str, input: &[u8], random: &mut Random) -> (Vec<u8>, bool) {
+    let sizes = split(input.len(), random);
+    let mut child = Command::new(program)
+        .stdin(Stdio::piped())
+        .stdout(Stdio::piped())
+        .spawn()
+        .unwrap_or_else(|error| panic!("{program}: {error}"));
+    let mut pipe = child.stdin.take().expect("its standard input");
+    let mut output = Vec::new();
+    let taken = std::thread::scope(|scope| {
+        let writer = scope.spawn(move || {
+            let mut rest = input;
+            for size in sizes {
+                let (piece, after) = rest.split_at(size);
+                if pipe.write_all(piece).is_err() {
+                    return false;
+                }
+                rest = after;
+                let mut unread = 1;
+                while unsafe { ioctl(pipe.as_raw_fd(), FIONREAD, &mut unread) } == 0 && unread > 0 && !rest.is_empty() {
+                    std::thread::yield_now();
+                }
+            }
+            true
+        });
+        let read = child.stdout.take().expect("its standard output").read_to_end(&mut output).is_ok();
+        writer.join().unwrap_or(false) && read
+    });
+    let status = child.wait().expect("its status");
+    (output, taken && status.success())
+}

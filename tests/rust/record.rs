@@ -1,0 +1,117 @@
+//! The touch record: our program and our export beside second programs over the unmodified Rust and over Box2D 2.4.1,
+//! bytes against bytes. Built with `--cfg papers` where the Rust is at hand and `--cfg box2d` where Box2D is.
+//! usage: record heats PROGRAM HEATS LENGTH SEED   compares PROGRAM on HEATS heats of about LENGTH lines, fed in pieces
+//!        record export CASES SEED                 compares the export
+//!        record limits CASES SEED                 searches for what docs/LIMITS.md says does not happen
+//!        record store FOLDER HEATS LENGTH SEED    writes heats and their answers for tests/stored, which both share
+//!        record touches                           the second program on standard input
+//!        record heat LENGTH SEED                  prints a heat
+#![allow(unknown_lints, unexpected_cfgs)]
+mod census;
+mod damage;
+mod export;
+#[allow(dead_code)]
+mod generators;
+mod heats;
+mod limits;
+mod pieces;
+#[allow(dead_code)]
+mod ranges;
+mod robots;
+mod second;
+#[allow(dead_code)]
+mod support;
+#[cfg(papers)]
+mod touches;
+use heats::{heat, FIXED};
+use std::io::{Read, Write};
+use support::{Random, Tally};
+
+/// Our program on heats, each in a process of its own: the fixed ones, then random ones, a tenth of them ten times as
+/// long and a few of them 300 times.
+fn compare_heats(program: &str, heats: u64, length: usize, seed: u64) -> bool {
+    let mut tally = Tally::new("heats");
+    let mut census = census::Census::default();
+    for i in 0..FIXED.len() as u64 + heats {
+        let mut random = Random::new(seed.wrapping_mul(1 << 32).wrapping_add(i));
+        let fixed = FIXED.get(i as usize);
+        let longer = [1, 10, 300][(i % 10 == 0) as usize + (i % 2500 == 100) as usize];
+        let lines = 1 + random.below(2 * (length * longer) as u64) as usize;
+        let input = fixed.map_or_else(|| heat(&mut random, lines), |(_, text)| text.to_vec());
+        let (wanted, agree) = second::touches(&input);
+        let (ours, ended) = pieces::run(program, &input, &mut random);
+        tally.case(agree && ended && ours == wanted, || {
+            let name =
+                fixed.map_or_else(|| format!("'record heat {lines}' from seed {seed}, heat {i}"), |f| f.0.into());
+            let first = census::difference(&input, &wanted, &ours);
+            let references = if agree { "" } else { "the references do not agree; " };
+            format!("{name}: {references}{}{first}", if ended { "" } else { "the program ended badly; " })
+        });
+        census.add(&input, &wanted, &mut tally);
+    }
+    tally.report(&census::wanted())
+}
+
+/// The fixed heats and random ones, the last of them a hundred times as long, each with its answers.
+fn store(folder: &str, heats: usize, length: usize, seed: u64) {
+    let mut random = Random::new(seed);
+    for i in 0..heats {
+        let lines = if i + 1 < heats { length } else { 100 * length };
+        let input = FIXED.get(i).map_or_else(|| short_heat(&mut random, lines), |(_, text)| text.to_vec());
+        let (output, agree) = second::touches(&input);
+        assert!(cfg!(papers) && cfg!(box2d) && agree, "both references are needed, and have to agree");
+        for (end, text) in [("in", input), ("out", output)] {
+            std::fs::write(format!("{folder}/{i:02}.{end}"), text).expect("a folder that can be written to");
+        }
+    }
+}
+
+/// A heat without a line of thousands of characters.
+fn short_heat(random: &mut Random, length: usize) -> Vec<u8> {
+    loop {
+        let text = heat(random, length);
+        if text.split(|c| *c == b'\n').all(|line| line.len() < 2000) || length > 1000 {
+            return text;
+        }
+    }
+}
+
+fn main() {
+    std::panic::set_hook(Box::new(|panic| {
+        // the Rust's asserts are answers; what goes wrong in the harness is shown
+        if panic.location().map_or(true, |place| place.file().contains("tests/rust")) {
+            eprintln!("{panic}");
+        }
+    }));
+    let words: Vec<String> = std::env::args().skip(1).collect();
+    let number = |i: usize| words[i].parse::<u64>().unwrap_or_else(|_| panic!("{:?} is no number", words[i]));
+    let passed = match (words.first().map(|w| w.as_str()), words.len()) {
+        (Some("heats"), 5) => {
+            println!("seed {}", number(4));
+            compare_heats(&words[1], number(2), number(3) as usize, number(4))
+        }
+        (Some("export"), 3) => {
+            println!("seed {}", number(2));
+            export::compare(number(1), number(2))
+        }
+        (Some("limits"), 3) => {
+            println!("seed {}", number(2));
+            limits::search(number(1), number(2))
+        }
+        (Some("store"), 5) => return store(&words[1], number(2) as usize, number(3) as usize, number(4)),
+        (Some("touches"), 1) => {
+            let mut input = Vec::new();
+            std::io::stdin().read_to_end(&mut input).expect("standard input");
+            return std::io::stdout().write_all(&second::touches(&input).0).expect("standard output");
+        }
+        (Some("heat"), 3) => {
+            let text = heat(&mut Random::new(number(2)), number(1) as usize);
+            return std::io::stdout().write_all(&text).expect("standard output");
+        }
+        _ => panic!(
+            "usage: record heats PROGRAM HEATS LENGTH SEED | export CASES SEED | limits CASES SEED | touches | heat .."
+        ),
+    };
+    println!("{} passed, {} failed", passed as u32, !passed as u32);
+    std::process::exit(!passed as i32);
+}

@@ -1,0 +1,52 @@
+//! What the second programs at hand say, and whether they agree.
+#[cfg(papers)]
+use crate::touches;
+
+#[cfg(box2d)]
+extern "C" {
+    // tests/oracle/box2d_touches.cpp; the output has room for 91 characters a line
+    fn box2d_touches(input: *const u8, length: usize, out: *mut u8) -> usize;
+    fn box2d_export(frames: *const u8, length: usize, out: *mut u8, out_length: usize) -> u32;
+}
+
+const LONGEST_ANSWER: usize = 91;
+
+/// The whole output for an input, and whether both programs give it.
+pub fn touches(input: &[u8]) -> (Vec<u8>, bool) {
+    let mut answers: Vec<Vec<u8>> = Vec::new();
+    #[cfg(papers)]
+    answers.push(touches::touches(input));
+    #[cfg(box2d)]
+    {
+        let lines = 1 + input.iter().filter(|c| **c == b'\n').count();
+        let mut out = vec![0; LONGEST_ANSWER * lines];
+        let length = unsafe { box2d_touches(input.as_ptr(), input.len(), out.as_mut_ptr()) };
+        out.truncate(length);
+        answers.push(out);
+    }
+    let _ = (input, LONGEST_ANSWER);
+    let last = answers.pop().expect("a reference");
+    let agree = answers.iter().all(|answer| *answer == last);
+    (last, agree)
+}
+
+/// What the export returns and leaves in its output, and whether both programs say so.
+pub fn export(frames: &[u8], old: &[u8]) -> (u32, Vec<u8>, bool) {
+    let mut answers: Vec<(u32, Vec<u8>)> = Vec::new();
+    #[cfg(papers)]
+    {
+        let mut out = old.to_vec();
+        let number = touches::export(frames, &mut out);
+        answers.push((number, out));
+    }
+    #[cfg(box2d)]
+    {
+        let mut out = old.to_vec();
+        let number = unsafe { box2d_export(frames.as_ptr(), frames.len(), out.as_mut_ptr(), out.len()) };
+        answers.push((number, out));
+    }
+    let _ = (frames, old);
+    let last = answers.pop().expect("a reference");
+    let agree = answers.iter().all(|answer| *answer == last);
+    (last.0, last.1, agree)
+}
