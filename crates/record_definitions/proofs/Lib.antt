@@ -20,3 +20,4 @@ pub mod Controls
 pub mod OutlineHeats
 pub mod WallHeats
 pub mod ExportCases
+pub mod MarkedCases
