@@ -40,7 +40,8 @@ use Rattle.contact_definitions.specs.B2CollideCircle.{farther, circles-manifold
 use Rattle.contact_definitions.specs.B2CollideCircle.{circle-at-corner, circle-at-face, circle-at-best}
 use Rattle.contact_definitions.specs.B2CollideCircle.{polygon-circle-manifold, b2-collide-polygon-and-circle}
 use Rattle.contact_definitions.specs.B2CollidePolygon.{outline-face, b2-find-incident-edge, outline-manifold}
-use Rattle.contact_definitions.specs.B2CollidePolygon.{manifold-on, polygons-axis, polygons-manifold, b2-collide-polygons}
+use Rattle.contact_definitions.specs.B2CollidePolygon.{manifold-on, polygons-axis, polygons-manifold}
+use Rattle.contact_definitions.specs.B2CollidePolygon.{b2-collide-polygons}
 use Rattle.contact_definitions.specs.EdgeAxis.{right-of, edge-polygon-axis}
 use Rattle.contact_definitions.specs.EdgeReference.{face-between, most-against, outline-edge, wall-manifold, wall-edge}
 use Rattle.contact_definitions.specs.EdgeReference.{placed-face, face-manifold, edge-manifold-on}
