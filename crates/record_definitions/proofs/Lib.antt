@@ -9,7 +9,9 @@ pub mod Pairs
 pub mod States
 pub mod Counting
 pub mod Lengths
+pub mod TwoPlaces
 pub mod Sound
+pub mod SoundKept
 pub mod BuiltCounts
 pub mod SoundTests
 pub mod Again

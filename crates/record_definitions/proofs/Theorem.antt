@@ -5,7 +5,7 @@
 use Prim.Native.Nat.{ℕ, _+_, _≤_, _<_, min}
 use mathlib.Core.Path.{_≡_, refl, sym, _∙_, ap}
 use mathlib.Core.Bool.{cond}
-use mathlib.Core.List.{List}
+use mathlib.Core.List.{List, [], _∷_}
 use lib.Dec.{eqb}
 use lib.ListN.{length, getD}
 use Rattle.lines.specs.Fields.{byte-at}
@@ -22,7 +22,7 @@ use Rattle.record_definitions.specs.declared.world.World.{World}
 use Rattle.record_definitions.specs.declared.touch.Touch.{Touch}
 use Rattle.record_definitions.specs.declared.frame.Answer.the-variants.{Accepted, Refused, Tested}
 use Rattle.record_definitions.specs.declared.frame.Said.{Said}
-use Rattle.record_definitions.specs.World.{blank-body, fresh-pair, fresh-world, body-at, pair-at}
+use Rattle.record_definitions.specs.World.{pair-place, blank-body, fresh-pair, fresh-world, body-at, pair-at}
 use Rattle.record_definitions.specs.Touch.{meet, added, largest-count, touches-after, states-of, tested}
 use Rattle.record_definitions.specs.Frame.{largest-id, change}
 use Rattle.record_definitions.specs.Answer.{touch-bytes, said-bytes, said-line, longest-answer, longest-line}
@@ -39,10 +39,13 @@ use Rattle.record_definitions.proofs.Pairs.{test-keeps-bodies, test-kee
 use Rattle.record_definitions.proofs.States.{states-are-box2ds, first-state, second-state, no-first-state}
 use Rattle.record_definitions.proofs.States.{no-second-state}
 use Rattle.record_definitions.proofs.Counting.{states-printed, touches-printed, count-printed, ids-kept}
-use Rattle.record_definitions.proofs.Counting.{touches-kept, first-printed, second-printed}
+use Rattle.record_definitions.proofs.Counting.{touches-kept, first-printed, second-printed, contact-taken}
+use Rattle.record_definitions.proofs.Counting.{met-few}
+use Rattle.record_definitions.proofs.TwoPlaces.{met-two}
 use Rattle.record_definitions.proofs.Again.{change-again, counts-no-more}
 use Rattle.record_definitions.proofs.Lengths.{touch-size, said-within, line-within}
-use Rattle.record_definitions.proofs.Sound.{Sound, fresh-sound, frame-keeps-sound}
+use Rattle.record_definitions.proofs.Sound.{Sound}
+use Rattle.record_definitions.proofs.SoundKept.{fresh-sound, frame-keeps-sound}
 use Rattle.record_definitions.proofs.SoundTests.{NotOfHost, test-frame-fine}
 
 -- ---- however the reads split the input, what is printed is `touches` of it
@@ -55,12 +58,18 @@ pub refused-changes-nothing : (w : World) (line : List ℕ) (n : ℕ) → said-o
     → after-line w line ≡ w
 refused-changes-nothing w line n is = after-refused w (frame-of line) n is
 
--- ---- worlds that lines can reach: eight bodies, 64 pairs, each body as its frames left it
-pub lines-keep-sound : (w : World) (line : List ℕ) → Sound w → Sound (after-line w line)
-lines-keep-sound w line sound = frame-keeps-sound w (frame-of line) sound
+-- ---- every world that lines reach is sound: eight bodies and 64 pairs, each as accepted frames left it
+abbrev pub after-lines : World → List (List ℕ) → World
+after-lines w [] = w
+after-lines w (line ∷ lines) = after-lines (after-line w line) lines
 
-pub fresh-world-sound : Sound fresh-world
-fresh-world-sound = fresh-sound
+lines-keep-sound : (w : World) (lines : List (List ℕ)) → Sound w → Sound (after-lines w lines)
+lines-keep-sound w [] sound = sound
+lines-keep-sound w (line ∷ lines) sound =
+    lines-keep-sound (after-line w line) lines (frame-keeps-sound w (frame-of line) sound)
+
+pub reached-worlds-sound : (lines : List (List ℕ)) → Sound (after-lines fresh-world lines)
+reached-worlds-sound lines = lines-keep-sound fresh-world lines fresh-sound
 
 -- ---- a frame that defines a shape, accepted: the pairs of its id are fresh, in both orders, and no other changes
 module _ (w : World) (frame : List ℕ) (new : NewShape (byte-at frame 0))
@@ -175,6 +184,20 @@ module _ (w : World) (frame : List ℕ) (t : Touch) (is : said-of-frame w frame 
             ∙ no-second-state old (ids-of contact) (contact .«point_count») (count-of contact) few,
       )
 
+  -- the states are those of b2_get_point_states on the pair's last contact, a default manifold at first, and this one
+  pub states-as-box2d : (given : PointStates) (sound : Sound w)
+      → b2-get-point-states given (sound .each-pair (pair-place a b) .last) contact
+      ≡ record { states = t .states; refusal = accepted }
+  unfolding states-of
+  states-as-box2d given sound =
+      let met = contact-taken (body-at w a) (body-at w b) a b (pair-at w a b) (test-seen w frame t is .not-refused) in
+      let pair = sound .each-pair (pair-place a b) in
+      states-are-box2ds given (pair .last) contact (pair .two-places)
+      (met-two (body-at w a) (body-at w b) met .two) (pair .few)
+      (met-few (body-at w a) (body-at w b) met .at-most-two)
+      ∙ ap (λ (states : PointStates). record { states = states; refusal = accepted })
+      (rw (← pair .ids-are) (sym states-so))
+
   -- sent again at once, the test answers again and counts nothing more
   again : Touch
   again = tested a b (body-at w a) (body-at w b) (pair-at (after-frame w frame) a b) .touch
@@ -200,14 +223,6 @@ module _ (w : World) (frame : List ℕ) (t : Touch) (is : said-of-frame w frame 
   pub repeated-test-counts-nothing : length (w .pairs) ≡ 64
       → (u : Touch) × (said-of-frame (after-frame w frame) frame .answer ≡ Tested u) × (u .touches ≡ t .touches)
   repeated-test-counts-nothing size = (again, answers-again, counts-no-more-again size)
-
--- ---- the states of a test are those of b2_get_point_states on the last contact's manifold and this one's
-pub states-as-box2d : (given : PointStates) (pair : Pair) (old new : B2manifold) → pair .ids ≡ ids-of old
-    → length (old .points) ≡ 2 → length (new .points) ≡ 2 → old .«point_count» ≤ 2 → new .«point_count» ≤ 2
-    → b2-get-point-states given old new ≡ record { states = states-of pair new; refusal = accepted }
-unfolding states-of
-states-as-box2d given pair old new is old-size new-size old-few new-few =
-    rw is (states-are-box2ds given old new old-size new-size old-few new-few)
 
 -- ---- an answer's bytes: 1, 2, or by the number of points 13, 33 or 45; never more than the longest answer
 pub result-bytes : (t : Touch) → length (touch-bytes t) ≡ cond (eqb (t .count) 0) 13 (cond (eqb (t .count) 1) 33 45)

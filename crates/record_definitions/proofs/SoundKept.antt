@@ -1,0 +1,215 @@
+-- A fresh world is sound, and every frame keeps it so. Assumes nothing.
+use Prim.Native.Nat.{ℕ, zero, suc, _≤_}
+use mathlib.Core.Path.{_≡_, refl, _∙_}
+use mathlib.Core.Bool.{Bool, true, false, not}
+use mathlib.Core.List.{List, [], _∷_}
+use native.Mathlib.Omega.{arith}
+use lib.Dec.{eqb, ltb}
+use lib.ListN.{length, getD, set, replicate, length-set}
+use borrow.Author.Tests.{eqb-true, not-false}
+use Rattle.floats.specs.Ranges.{transform-in-range}
+use Rattle.lines.specs.Fields.{byte-at, points-at, placement-at}
+use Rattle.shape_definitions.specs.Circle.{circle-in-range}
+use Rattle.shape_definitions.specs.Polygon.{b2-polygon-shape-set}
+use Rattle.shape_definitions.specs.Refusal.{accepted}
+use Rattle.contact_definitions.proofs.Counts.{either}
+use Rattle.record_definitions.specs.declared.world.Body.{Body}
+use Rattle.record_definitions.specs.declared.world.Pair.{Pair}
+use Rattle.record_definitions.specs.declared.world.World.{World}
+use Rattle.record_definitions.specs.declared.frame.Change.{Change}
+use Rattle.record_definitions.specs.World.{fresh-pair, forget-below}
+use Rattle.record_definitions.specs.World.{no-body, blank-outline}
+use Rattle.record_definitions.specs.World.{blank-body}
+use Rattle.record_definitions.specs.World.{fresh-world, body-at, pair-at}
+use Rattle.record_definitions.specs.Frame.{well-formed, largest-id, circle-at, circle-change, outline-change}
+use Rattle.record_definitions.specs.Frame.{wall-at, wall-change, place-change, test-refusal, test-change}
+use Rattle.record_definitions.specs.Frame.{change-of-kind, change}
+use Rattle.record_definitions.specs.Touch.{tested}
+use Rattle.record_definitions.specs.Step.{first-place, second-place, pairs-after, changed, change-in, after-frame}
+use Rattle.record_definitions.proofs.Changes.{by-choice}
+use Rattle.record_definitions.proofs.Feeding.{length-forget}
+use Rattle.contact_definitions.specs.declared.b2_collision.PointStates.{PointStates}
+use Rattle.record_definitions.specs.Touch.{meet, largest-count, touches-after, tested-as}
+use Rattle.record_definitions.specs.World.{pair-place, forget}
+use Rattle.record_definitions.proofs.Counting.{contact-taken, met-few}
+use Rattle.record_definitions.proofs.TwoPlaces.{met-two}
+use Rattle.record_definitions.proofs.Sound.{SoundBody, SoundPair, Sound, fresh-pair-sound, blank-sound}
+use Rattle.record_definitions.proofs.Sound.{circle-sound, outline-sound, wall-sound, placed-sound}
+use Rattle.record_definitions.proofs.Sound.{wall-at-in-range}
+
+-- ---- a frame keeps the body that it names sound
+module _ (a b : Body) (pair : Pair) (bytes : List ℕ) (sound : SoundBody a) where
+  abbrev Kept : Change → Type 0
+  Kept c = SoundBody (c .body)
+
+  circle-kept : Kept (circle-change a pair bytes)
+  unfolding circle-change
+  circle-kept =
+      by-choice Kept (circle-in-range (circle-at bytes)) _ _ (circle-sound bytes) (λ out. sound)
+
+  outline-kept : Kept (outline-change a pair bytes)
+  unfolding outline-change
+  outline-kept =
+      let points = points-at bytes 3 (byte-at bytes 2) in
+      let built = b2-polygon-shape-set blank-outline points in
+      by-choice Kept (eqb (built .refusal) accepted) _ _
+      (λ taken. outline-sound (built .shape)
+      (record { points = points; taken = eqb-true (built .refusal) accepted taken; is = refl }))
+      (λ not-taken. sound)
+
+  wall-kept : Kept (wall-change a pair bytes)
+  unfolding wall-change
+  wall-kept =
+      by-choice Kept (eqb (wall-at bytes .refusal) accepted) _ _
+      (λ taken. wall-sound (wall-at bytes .shape)
+      (wall-at-in-range bytes (eqb-true (wall-at bytes .refusal) accepted taken)))
+      (λ not-taken. sound)
+
+  place-kept : Kept (place-change a pair bytes)
+  unfolding place-change
+  place-kept =
+      either Kept (eqb (a .kind) no-body) _ _ sound
+      (by-choice Kept (not (transform-in-range (placement-at bytes 2))) _ _ (λ out. sound)
+      (λ inside. placed-sound a bytes sound (not-false (transform-in-range (placement-at bytes 2)) inside)))
+
+  test-kept : (ida idb : ℕ) → Kept (test-change ida idb a b pair)
+  unfolding test-change
+  test-kept ida idb =
+      either Kept (eqb (test-refusal ida idb (a .kind) (b .kind)) accepted) _ _
+      (either Kept (eqb (tested ida idb a b pair .refusal) accepted) _ _ sound sound) sound
+
+  kind-kept : (kind : ℕ) → Kept (change-of-kind kind a b pair bytes)
+  unfolding change-of-kind
+  kind-kept kind =
+      either Kept (eqb kind 1) _ _ circle-kept
+      (either Kept (eqb kind 2) _ _ outline-kept
+      (either Kept (eqb kind 3) _ _ wall-kept
+      (either Kept (eqb kind 4) _ _ place-kept (test-kept (byte-at bytes 1) (byte-at bytes 2)))))
+
+  change-kept : Kept (change a b pair bytes)
+  unfolding change
+  change-kept =
+      either Kept (not (well-formed bytes)) _ _ sound
+      (either Kept (ltb largest-id (byte-at bytes 1)) _ _ sound (kind-kept (byte-at bytes 0)))
+
+-- ---- and the pair
+module _ (a b : Body) (pair : Pair) (bytes : List ℕ) (sound : SoundPair pair) where
+  abbrev PairKept : Change → Type 0
+  PairKept c = SoundPair (c .pair)
+
+  held-after : (touches : ℕ) (states : PointStates) → touches-after touches states ≤ largest-count
+  unfolding touches-after
+  held-after touches states = omega arith
+
+  tested-pair : (ida idb : ℕ) → tested ida idb a b pair .refusal ≡ accepted → SoundPair (tested ida idb a b pair .pair)
+  unfolding tested tested-as
+  tested-pair ida idb taken =
+      let met = contact-taken a b ida idb pair taken in
+      record {
+        last = meet a b .manifold;
+        two-places = met-two a b met .two;
+        few = met-few a b met .at-most-two;
+        ids-are = refl;
+        held = held-after _ _;
+      }
+
+  test-pair-kept : (ida idb : ℕ) → PairKept (test-change ida idb a b pair)
+  unfolding test-change
+  test-pair-kept ida idb =
+      let t = tested ida idb a b pair in
+      either PairKept (eqb (test-refusal ida idb (a .kind) (b .kind)) accepted) _ _
+      (by-choice PairKept (eqb (t .refusal) accepted) _ _
+      (λ taken. tested-pair ida idb (eqb-true (t .refusal) accepted taken)) (λ not-taken. sound))
+      sound
+
+  kind-pair-kept : (kind : ℕ) → PairKept (change-of-kind kind a b pair bytes)
+  unfolding change-of-kind circle-change outline-change wall-change place-change
+  kind-pair-kept kind =
+      let built = b2-polygon-shape-set blank-outline (points-at bytes 3 (byte-at bytes 2)) in
+      either PairKept (eqb kind 1) _ _ (either PairKept (circle-in-range (circle-at bytes)) _ _ sound sound)
+      (either PairKept (eqb kind 2) _ _ (either PairKept (eqb (built .refusal) accepted) _ _ sound sound)
+      (either PairKept (eqb kind 3) _ _ (either PairKept (eqb (wall-at bytes .refusal) accepted) _ _ sound sound)
+      (either PairKept (eqb kind 4) _ _
+      (either PairKept (eqb (a .kind) no-body) _ _ sound
+      (either PairKept (not (transform-in-range (placement-at bytes 2))) _ _ sound sound))
+      (test-pair-kept (byte-at bytes 1) (byte-at bytes 2)))))
+
+  change-pair-kept : PairKept (change a b pair bytes)
+  unfolding change
+  change-pair-kept =
+      either PairKept (not (well-formed bytes)) _ _ sound
+      (either PairKept (ltb largest-id (byte-at bytes 1)) _ _ sound (kind-pair-kept (byte-at bytes 0)))
+
+-- ---- and the world
+module _ {A : Type 0} (Good : A → Type 0) (default : A) where
+  stored : (l : List A) (i : ℕ) (a : A) → Good a → ((k : ℕ) → Good (getD l k default))
+      → (k : ℕ) → Good (getD (set l i a) k default)
+  stored [] i a new old k = old k
+  stored (x ∷ l) zero a new old zero = new
+  stored (x ∷ l) zero a new old (suc k) = old (suc k)
+  stored (x ∷ l) (suc i) a new old zero = old zero
+  stored (x ∷ l) (suc i) a new old (suc k) = stored l i a new (λ j. old (suc j)) k
+
+  all-alike : Good default → (n k : ℕ) → Good (getD (replicate n default) k default)
+  all-alike good zero k = good
+  all-alike good (suc n) zero = good
+  all-alike good (suc n) (suc k) = all-alike good n k
+
+PairsSound : List Pair → Type 0
+PairsSound pairs = (k : ℕ) → SoundPair (getD pairs k fresh-pair)
+
+forgotten-sound : (id : ℕ) (pairs : List Pair) (n : ℕ) → PairsSound pairs → PairsSound (forget-below id pairs n)
+unfolding forget-below PairsSound
+forgotten-sound id pairs zero sound = sound
+forgotten-sound id pairs (suc n) sound =
+    let earlier = forget-below id pairs n in
+    stored SoundPair fresh-pair (set earlier (pair-place id n) fresh-pair) (pair-place n id) fresh-pair fresh-pair-sound
+    (stored SoundPair fresh-pair earlier (pair-place id n) fresh-pair fresh-pair-sound
+    (forgotten-sound id pairs n sound))
+
+pairs-kept : (t : Bool) (pairs : List Pair) (a b : ℕ) (pair : Pair) → SoundPair pair → PairsSound pairs
+    → PairsSound (pairs-after t pairs a b pair)
+unfolding PairsSound
+pairs-kept true pairs a b pair new sound = forgotten-sound a pairs 8 sound
+pairs-kept false pairs a b pair new sound = stored SoundPair fresh-pair pairs (pair-place a b) pair new sound
+
+pairs-length : (t : Bool) (pairs : List Pair) (a b : ℕ) (pair : Pair)
+    → length (pairs-after t pairs a b pair) ≡ length pairs
+pairs-length true pairs a b pair = length-forget a pairs 8
+pairs-length false pairs a b pair = length-set pairs _ pair
+
+body-kept : (w : World) (bytes : List ℕ) → Sound w → SoundBody (change-in w bytes .body)
+unfolding change-in
+body-kept w bytes sound =
+    let a = first-place bytes in
+    let b = second-place bytes in
+    change-kept (body-at w a) (body-at w b) (pair-at w a b) bytes (sound .each a)
+
+pair-kept : (w : World) (bytes : List ℕ) → Sound w → SoundPair (change-in w bytes .pair)
+unfolding change-in
+pair-kept w bytes sound =
+    let a = first-place bytes in
+    let b = second-place bytes in
+    change-pair-kept (body-at w a) (body-at w b) (pair-at w a b) bytes (sound .each-pair (pair-place a b))
+
+pub frame-keeps-sound : (w : World) (bytes : List ℕ) → Sound w → Sound (after-frame w bytes)
+unfolding after-frame changed PairsSound
+frame-keeps-sound w bytes sound =
+    let a = first-place bytes in
+    let b = second-place bytes in
+    let c = change-in w bytes in
+    record {
+      bodies-size = length-set (w .bodies) a (c .body) ∙ sound .bodies-size;
+      pairs-size = pairs-length (c .forget) (w .pairs) a b (c .pair) ∙ sound .pairs-size;
+      each = stored SoundBody blank-body (w .bodies) a (c .body) (body-kept w bytes sound) (sound .each);
+      each-pair = pairs-kept (c .forget) (w .pairs) a b (c .pair) (pair-kept w bytes sound) (sound .each-pair);
+    }
+
+pub fresh-sound : Sound fresh-world
+unfolding fresh-world
+fresh-sound = record {
+  bodies-size = refl;
+  pairs-size = refl;
+  each = all-alike SoundBody blank-body blank-sound 8;
+  each-pair = all-alike SoundPair fresh-pair fresh-pair-sound 64;
+}
