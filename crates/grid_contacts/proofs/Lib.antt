@@ -24,3 +24,5 @@ pub mod MadePoints
 pub mod PlacementRange
 pub mod Sentence
 pub mod Theorem
+pub mod Witnesses
+pub mod Applied

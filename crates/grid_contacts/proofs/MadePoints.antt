@@ -96,8 +96,7 @@ module _ {xf1 xf2 : B2Transform} (g1 : GridPlacement xf1) (g2 : GridPlacement xf
       let i = incident g1 g2 poly1 poly2 o1 o2 edge edge-in in
       let i-in = incident-in g1 g2 poly1 poly2 o1 o2 edge edge-in in
       let near = near-face (point-near g2 (incident-most g1 g2 poly1 poly2 o1 o2 edge edge-in) (end .near)) in
-      subst (λ (v : B2vec2). NearBoundary point-tolerance corners2 (carried g2 (value-point v))) (sym (end .is))
-      (
+      subst (λ (v : B2vec2). NearBoundary point-tolerance corners2 (carried g2 (value-point v))) (sym (end .is)) (
         i,
         outline-place g2 poly2 o2 i i-in,
         subst (λ (f : Face). NearFace point-tolerance (carried g2 (value-point (local-of (end .v)))) f)

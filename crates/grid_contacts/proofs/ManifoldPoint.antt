@@ -133,8 +133,7 @@ module _ {t : B2Transform} (g : GridPlacement t) {k : ℕ} {e : Face} (e-most : 
   -- ---- within a rounding of v, so near the edge
   pub point-near : NearSegment point-error k e point
   point-near =
-      near-moved point (2 ^ 4 * tick)
-      (
+      near-moved point (2 ^ 4 * tick) (
         close (turned (g .turn) (value-point local) .x) (val (d .x)) (val (v .x)) (val (t .p .x)) (turned-local .0)
             (x-sized .err),
         close (turned (g .turn) (value-point local) .y) (val (d .y)) (val (v .y)) (val (t .p .y)) (turned-local .1)
@@ -147,53 +146,55 @@ module _ {t : B2Transform} (g : GridPlacement t) {k : ℕ} {e : Face} (e-most : 
 
   -- ---- its world separation from the reference face f, whose world normal is n and plane point q
   module _ (f : Face) {n q : B2vec2} (vec : NormalVec n) (N : FaceNormal f (value-point n)) (middle : PlacedMiddle f q)
-      where
-    abbrev r : B2vec2
-    r = b2-mul-rot-by-vec2 (t .q) local
+    where
+      abbrev r : B2vec2
+      r = b2-mul-rot-by-vec2 (t .q) local
 
-    r-exact : ExactVec r (turned (g .turn) (value-point local))
-    r-exact = turn-exact (g .turning) (local-exact .x-own) (local-exact .y-own)
+      r-exact : ExactVec r (turned (g .turn) (value-point local))
+      r-exact = turn-exact (g .turning) (local-exact .x-own) (local-exact .y-own)
 
-    -- the carried point before its rounding
-    abbrev sum : Point
-    sum = sum-of (value-point r) (value-point (t .p))
+      -- the carried point before its rounding
+      abbrev sum : Point
+      sum = sum-of (value-point r) (value-point (t .p))
 
-    sum-is : SameVector sum point
-    sum-is = added (value-point r) (turned (g .turn) (value-point local)) (value-point (t .p)) (r-exact .is)
-      where
-        added : (a b o : Point) → SameVector a b → SameVector (sum-of a o) (sum-of b o)
-        added a b o h = (omega arith, omega arith)
+      sum-is : SameVector sum point
+      sum-is = added (value-point r) (turned (g .turn) (value-point local)) (value-point (t .p)) (r-exact .is)
+        where
+          added : (a b o : Point) → SameVector a b → SameVector (sum-of a o) (sum-of b o)
+          added a b o h = (omega arith, omega arith)
 
-    sum-most : PointAbs sum (end-metres * metre)
-    sum-most =
-        let s = near-size (corner-metres * metre) e-most point-near in
-        (nine (sum .x) (point .x) (sum-is .0) (s .0), nine (sum .y) (point .y) (sum-is .1) (s .1))
-      where
-        nine : (a b : Z) → a ≐ b → Abs b (corner-metres * metre + point-error) → Abs a (end-metres * metre)
-        nine a b e h = omega (arith, metre-ticks)
+      sum-most : PointAbs sum (end-metres * metre)
+      sum-most =
+          let s = near-size (corner-metres * metre) e-most point-near in
+          (nine (sum .x) (point .x) (sum-is .0) (s .0), nine (sum .y) (point .y) (sum-is .1) (s .1))
+        where
+          nine : (a b : Z) → a ≐ b → Abs b (corner-metres * metre + point-error) → Abs a (end-metres * metre)
+          nine a b e h = omega (arith, metre-ticks)
 
-    x-offset : Offset (r .x) (t .p .x) (q .x)
-    x-offset = offset-near (r-exact .x-own) (g .position .0 .own) (sum-most .0) (middle .x-cap)
+      x-offset : Offset (r .x) (t .p .x) (q .x)
+      x-offset = offset-near (r-exact .x-own) (g .position .0 .own) (sum-most .0) (middle .x-cap)
 
-    y-offset : Offset (r .y) (t .p .y) (q .y)
-    y-offset = offset-near (r-exact .y-own) (g .position .1 .own) (sum-most .1) (middle .y-cap)
+      y-offset : Offset (r .y) (t .p .y) (q .y)
+      y-offset = offset-near (r-exact .y-own) (g .position .1 .own) (sum-most .1) (middle .y-cap)
 
-    pub point-separation : {r1 r2 : Float} → r1 ≡ b2-polygon-radius → r2 ≡ b2-polygon-radius
-        → Separated f point (plane-separation n q r1 r2 (b2-mul-transform-by-vec2 t local))
-    point-separation {r1} {r2} r1-is r2-is =
-        let u = from-to (value-point q) sum in
-        let skin : Capped b2-polygon-radius 1 = record { own = skin-is .own; cap = skins .small } in
-        rw (carry-is t local, r1-is, r2-is) (separation-near f point x-offset y-offset vec N skin skin
-        (apart (sum .x) (val (q .x)) (sum-most .0) (middle .x-cap .cap), apart (sum .y) (val (q .y)) (sum-most .1)
-        (middle .y-cap .cap))
-        (same-trans (dot (outward f) u) (dot (outward f) (from-to (value-point q) point)) (off-line f point)
-        (dot-same (outward f) (outward f) u (from-to (value-point q) point) (vector-refl (outward f))
-        (without sum point (value-point q) sum-is)) (from-middle f (value-point q) point (middle .halfway)))
-        (skins .at-most) (skins .at-least))
-      where
-        apart : (a b : Z) → Abs a (end-metres * metre) → Abs b (corner-metres * metre)
-            → Abs (a ⊟ b) (offset-metres * metre)
-        apart a b h k = omega arith
+      pub point-separation : {r1 r2 : Float} → r1 ≡ b2-polygon-radius → r2 ≡ b2-polygon-radius
+          → Separated f point (plane-separation n q r1 r2 (b2-mul-transform-by-vec2 t local))
+      point-separation {r1} {r2} r1-is r2-is =
+          let u = from-to (value-point q) sum in
+          let skin : Capped b2-polygon-radius 1 = record { own = skin-is .own; cap = skins .small } in
+          rw (carry-is t local, r1-is, r2-is) (separation-near f point x-offset y-offset vec N skin skin (
+            apart (sum .x) (val (q .x)) (sum-most .0) (middle .x-cap .cap),
+            apart (sum .y) (val (q .y)) (sum-most .1)
+                (middle .y-cap .cap),
+          )
+          (same-trans (dot (outward f) u) (dot (outward f) (from-to (value-point q) point)) (off-line f point)
+          (dot-same (outward f) (outward f) u (from-to (value-point q) point) (vector-refl (outward f))
+          (without sum point (value-point q) sum-is)) (from-middle f (value-point q) point (middle .halfway)))
+          (skins .at-most) (skins .at-least))
+        where
+          apart : (a b : Z) → Abs a (end-metres * metre) → Abs b (corner-metres * metre)
+              → Abs (a ⊟ b) (offset-metres * metre)
+          apart a b h k = omega arith
 
-        without : (a b q : Point) → SameVector a b → SameVector (from-to q a) (from-to q b)
-        without a b q h = (omega arith, omega arith)
+          without : (a b q : Point) → SameVector a b → SameVector (from-to q a) (from-to q b)
+          without a b q h = (omega arith, omega arith)
