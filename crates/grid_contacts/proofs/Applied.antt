@@ -19,7 +19,8 @@ use Rattle.floats.specs.declared.b2_math.B2Transform.{B2Transform}
 use Rattle.floats.specs.B2Math.{b2-sub, b2-dot, b2-cross, b2-length-squared, b2-distance-vec2-squared}
 use Rattle.floats.specs.Ranges.{point-in-range}
 use Rattle.shape_definitions.specs.declared.b2_polygon_shape.B2polygonShape.{B2polygonShape}
-use Rattle.shape_definitions.specs.Outline.{too-near, welded, comes-before, start, closer, next, row, edges, long-enough}
+use Rattle.shape_definitions.specs.Outline.{too-near, welded, comes-before, start, closer, next, row, edges}
+use Rattle.shape_definitions.specs.Outline.{long-enough}
 use Rattle.shape_definitions.specs.Outline.{fan}
 use Rattle.shape_definitions.specs.Polygon.{outline-of-corners, outline-of-welded, b2-polygon-shape-set}
 use Rattle.contact_definitions.specs.declared.b2_collision.B2manifold.{B2manifold}
@@ -30,7 +31,8 @@ use Rattle.grid_contacts.specs.Placement.{GridPlacement, placed-corners}
 use Rattle.grid_contacts.specs.Lengths.{Length, _plus_, both-skins, point-tolerance}
 use Rattle.grid_contacts.specs.Faces.{Face, corner-at, face-at, off-line, squared-length, DistanceAbove}
 use Rattle.grid_contacts.specs.SecondSentence.{KeepsOff, Reported, SecondSentenceOf}
-use Rattle.grid_contacts.proofs.Witnesses.{triangle, square-outline, triangle-outline, here, off, answer, touches}
+use Rattle.grid_contacts.proofs.Witnesses.{triangle, square-outline, triangle-outline, here, off, answer}
+use Rattle.grid_contacts.proofs.Witnesses.{touches}
 use Rattle.grid_contacts.proofs.Witnesses.{here-placed, beside-placed, left-placed, about-placed, right-placed}
 use Rattle.grid_contacts.proofs.Witnesses.{off-placed, grid-placed}
 use Rattle.grid_contacts.proofs.Theorem.{second-sentence}
@@ -47,7 +49,8 @@ module _ (old : B2manifold) (old-world : B2worldManifold) where
   squares : {xf : B2Transform} (placed : GridPlacement xf)
       → SecondSentenceOf square-outline square-outline here-placed placed old old-world
   squares placed =
-      second-sentence skinned skinned refl refl (points square) (points square) (grid-list square tt) (grid-list square tt)
+      second-sentence skinned skinned refl refl (points square) (points square) (grid-list square tt)
+      (grid-list square tt)
       (computed skinned .square-accepted) (computed skinned .square-accepted) here-placed placed old old-world
 
   two-squares : {xf : B2Transform} (placed : GridPlacement xf)
@@ -71,7 +74,8 @@ module _ (old : B2manifold) (old-world : B2worldManifold) where
   square-and-triangle : SecondSentenceOf square-outline triangle-outline here-placed here-placed old old-world
   square-and-triangle =
       second-sentence skinned skinned refl refl (points square) (points triangle) (grid-list square tt)
-      (grid-list triangle tt) (computed skinned .square-accepted) (touches old .triangle-accepted) here-placed here-placed
+      (grid-list triangle tt) (computed skinned .square-accepted) (touches old .triangle-accepted) here-placed
+      here-placed
       old old-world
 
   reported-triangle : ReportedOf square-outline triangle-outline here-placed here-placed
@@ -108,7 +112,8 @@ far-corner j far =
 
 kept-off : KeepsOff near-corners far-corners
 unfolding b2-polygon-shape-set outline-of-welded outline-of-corners welded start next row edges long-enough fan too-near
-    comes-before closer point-in-range b2-sub b2-dot b2-cross b2-length-squared b2-distance-vec2-squared le lt eq neg add
+    comes-before closer point-in-range b2-sub b2-dot b2-cross b2-length-squared b2-distance-vec2-squared le lt eq neg
+    add
     sub mul ofBits metre val here-placed off-placed grid-placed
 kept-off = (0, lit< tt, each)
   where

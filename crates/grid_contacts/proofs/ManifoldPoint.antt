@@ -5,7 +5,7 @@ use mathlib.Core.Path.{_≡_, sym, ap, subst}
 use Prim.Native.Nat.{ℕ, _+_, _*_, _^_, _≤_, _<_}
 use native.Mathlib.Nat.{mul-le-mul}
 use native.Mathlib.Omega.{arith}
-use lib.Ieee.{Float, binary32, sub}
+use lib.Ieee.{Float}
 use Rattle.algebra.specs.Integer.{Z, whole, _⊞_, _⊟_, _⊠_, _⊛_, _≐_, _≼_, Abs}
 use Rattle.algebra.specs.Plane.{Point, SameVector, PointAbs, sum-of, from-to, dot}
 use Rattle.algebra.proofs.Integer.{same-trans}
@@ -19,6 +19,7 @@ use Rattle.floats.specs.declared.b2_math.B2vec2.{B2vec2}
 use Rattle.floats.specs.declared.b2_math.B2Transform.{B2Transform}
 use Rattle.floats.specs.B2Common.{b2-polygon-radius}
 use Rattle.floats.specs.B2Math.{b2-sub, b2-mul-rot-by-vec2, b2-mul-transform-by-vec2, b2-mul-t-transform-by-vec2}
+use Rattle.floats.proofs.Constants.{skin-is}
 use Rattle.floats.proofs.Vectors.{carry-is}
 use Rattle.contact_definitions.specs.WorldManifold.{plane-separation}
 use Rattle.grid.specs.Grid.{value-point}
@@ -31,7 +32,7 @@ use Rattle.grid_contacts.proofs.ExactTurns.{turn-exact, turn-back-exact
 use Rattle.grid_contacts.proofs.Placing.{point-capped}
 use Rattle.grid_contacts.proofs.NormalVec.{NormalVec}
 use Rattle.grid_contacts.proofs.FaceNormal.{outward, FaceNormal}
-use Rattle.grid_contacts.proofs.Skins.{skin-is, skins}
+use Rattle.grid_contacts.proofs.Skins.{skins}
 use Rattle.grid_contacts.proofs.Segment.{way, NearSegment, FaceAbs, near-size, near-moved}
 use Rattle.grid_contacts.proofs.Crossing.{corner-metres, end-metres, blend-error, VecNear, vec-capped}
 use Rattle.grid_contacts.proofs.Middle.{PlacedMiddle, from-middle}
@@ -72,7 +73,8 @@ near-face {k} {f} {c} h = record {
     go : (k : ℕ) (w : Point) → PointAbs w (k * point-error)
         → (4096 * 4096) ⊛ dot w w ≼ (k * k) ⊛ (whole metre ⊠ whole metre)
     go k w h =
-        joined (w .x ⊠ w .x) (w .y ⊠ w .y) k (k * point-error * (k * point-error)) (square (w .x) (k * point-error) (h .0))
+        joined (w .x ⊠ w .x) (w .y ⊠ w .y) k (k * point-error * (k * point-error))
+        (square (w .x) (k * point-error) (h .0))
         (square (w .y) (k * point-error) (h .1)) (fits (k * point-error) (k * metre) (room k))
 
 -- ---- the local point of a clipped end v near an edge e, in the frame of a placement
@@ -145,56 +147,56 @@ module _ {t : B2Transform} (g : GridPlacement t) {k : ℕ} {e : Face} (e-most : 
       close r d v o e h = omega arith
 
   -- ---- its world separation from the reference face f, whose world normal is n and plane point q
-  module _ (f : Face) {n q : B2vec2} (vec : NormalVec n) (N : FaceNormal f (value-point n)) (middle : PlacedMiddle f q)
-    where
-      abbrev r : B2vec2
-      r = b2-mul-rot-by-vec2 (t .q) local
+  module _ (f : Face) {n q : B2vec2} (vec : NormalVec n) (N : FaceNormal f (value-point n))
+      (middle : PlacedMiddle f q) where
+    abbrev r : B2vec2
+    r = b2-mul-rot-by-vec2 (t .q) local
 
-      r-exact : ExactVec r (turned (g .turn) (value-point local))
-      r-exact = turn-exact (g .turning) (local-exact .x-own) (local-exact .y-own)
+    r-exact : ExactVec r (turned (g .turn) (value-point local))
+    r-exact = turn-exact (g .turning) (local-exact .x-own) (local-exact .y-own)
 
-      -- the carried point before its rounding
-      abbrev sum : Point
-      sum = sum-of (value-point r) (value-point (t .p))
+    -- the carried point before its rounding
+    abbrev sum : Point
+    sum = sum-of (value-point r) (value-point (t .p))
 
-      sum-is : SameVector sum point
-      sum-is = added (value-point r) (turned (g .turn) (value-point local)) (value-point (t .p)) (r-exact .is)
-        where
-          added : (a b o : Point) → SameVector a b → SameVector (sum-of a o) (sum-of b o)
-          added a b o h = (omega arith, omega arith)
+    sum-is : SameVector sum point
+    sum-is = added (value-point r) (turned (g .turn) (value-point local)) (value-point (t .p)) (r-exact .is)
+      where
+        added : (a b o : Point) → SameVector a b → SameVector (sum-of a o) (sum-of b o)
+        added a b o h = (omega arith, omega arith)
 
-      sum-most : PointAbs sum (end-metres * metre)
-      sum-most =
-          let s = near-size (corner-metres * metre) e-most point-near in
-          (nine (sum .x) (point .x) (sum-is .0) (s .0), nine (sum .y) (point .y) (sum-is .1) (s .1))
-        where
-          nine : (a b : Z) → a ≐ b → Abs b (corner-metres * metre + point-error) → Abs a (end-metres * metre)
-          nine a b e h = omega (arith, metre-ticks)
+    sum-most : PointAbs sum (end-metres * metre)
+    sum-most =
+        let s = near-size (corner-metres * metre) e-most point-near in
+        (nine (sum .x) (point .x) (sum-is .0) (s .0), nine (sum .y) (point .y) (sum-is .1) (s .1))
+      where
+        nine : (a b : Z) → a ≐ b → Abs b (corner-metres * metre + point-error) → Abs a (end-metres * metre)
+        nine a b e h = omega (arith, metre-ticks)
 
-      x-offset : Offset (r .x) (t .p .x) (q .x)
-      x-offset = offset-near (r-exact .x-own) (g .position .0 .own) (sum-most .0) (middle .x-cap)
+    x-offset : Offset (r .x) (t .p .x) (q .x)
+    x-offset = offset-near (r-exact .x-own) (g .position .0 .own) (sum-most .0) (middle .x-cap)
 
-      y-offset : Offset (r .y) (t .p .y) (q .y)
-      y-offset = offset-near (r-exact .y-own) (g .position .1 .own) (sum-most .1) (middle .y-cap)
+    y-offset : Offset (r .y) (t .p .y) (q .y)
+    y-offset = offset-near (r-exact .y-own) (g .position .1 .own) (sum-most .1) (middle .y-cap)
 
-      pub point-separation : {r1 r2 : Float} → r1 ≡ b2-polygon-radius → r2 ≡ b2-polygon-radius
-          → Separated f point (plane-separation n q r1 r2 (b2-mul-transform-by-vec2 t local))
-      point-separation {r1} {r2} r1-is r2-is =
-          let u = from-to (value-point q) sum in
-          let skin : Capped b2-polygon-radius 1 = record { own = skin-is .own; cap = skins .small } in
-          rw (carry-is t local, r1-is, r2-is) (separation-near f point x-offset y-offset vec N skin skin (
-            apart (sum .x) (val (q .x)) (sum-most .0) (middle .x-cap .cap),
-            apart (sum .y) (val (q .y)) (sum-most .1)
-                (middle .y-cap .cap),
-          )
-          (same-trans (dot (outward f) u) (dot (outward f) (from-to (value-point q) point)) (off-line f point)
-          (dot-same (outward f) (outward f) u (from-to (value-point q) point) (vector-refl (outward f))
-          (without sum point (value-point q) sum-is)) (from-middle f (value-point q) point (middle .halfway)))
-          (skins .at-most) (skins .at-least))
-        where
-          apart : (a b : Z) → Abs a (end-metres * metre) → Abs b (corner-metres * metre)
-              → Abs (a ⊟ b) (offset-metres * metre)
-          apart a b h k = omega arith
+    pub point-separation : {r1 r2 : Float} → r1 ≡ b2-polygon-radius → r2 ≡ b2-polygon-radius
+        → Separated f point (plane-separation n q r1 r2 (b2-mul-transform-by-vec2 t local))
+    point-separation {r1} {r2} r1-is r2-is =
+        let u = from-to (value-point q) sum in
+        let skin : Capped b2-polygon-radius 1 = record { own = skin-is .own; cap = skins .small } in
+        rw (carry-is t local, r1-is, r2-is) (separation-near f point x-offset y-offset vec N skin skin (
+          apart (sum .x) (val (q .x)) (sum-most .0) (middle .x-cap .cap),
+          apart (sum .y) (val (q .y)) (sum-most .1)
+              (middle .y-cap .cap),
+        )
+        (same-trans (dot (outward f) u) (dot (outward f) (from-to (value-point q) point)) (off-line f point)
+        (dot-same (outward f) (outward f) u (from-to (value-point q) point) (vector-refl (outward f))
+        (without sum point (value-point q) sum-is)) (from-middle f (value-point q) point (middle .halfway)))
+        (skins .at-most) (skins .at-least))
+      where
+        apart : (a b : Z) → Abs a (end-metres * metre) → Abs b (corner-metres * metre)
+            → Abs (a ⊟ b) (offset-metres * metre)
+        apart a b h k = omega arith
 
-          without : (a b q : Point) → SameVector a b → SameVector (from-to q a) (from-to q b)
-          without a b q h = (omega arith, omega arith)
+        without : (a b q : Point) → SameVector a b → SameVector (from-to q a) (from-to q b)
+        without a b q h = (omega arith, omega arith)

@@ -14,8 +14,8 @@ use Rattle.rounding.specs.Value.{val}
 use Rattle.floats.specs.declared.b2_math.B2Transform.{B2Transform}
 use Rattle.floats.specs.B2Common.{b2-polygon-radius}
 use Rattle.floats.specs.Ranges.{radius-in-range}
+use Rattle.floats.proofs.Constants.{skin-in-range}
 use Rattle.shape_definitions.specs.declared.b2_polygon_shape.B2polygonShape.{B2polygonShape}
-use Rattle.shape_definitions.specs.Refusal.{accepted}
 use Rattle.shape_definitions.specs.Outline.{point-at}
 use Rattle.contact_definitions.specs.declared.axis.Best.{Best}
 use Rattle.contact_definitions.specs.declared.axis.Axis.{Axis}
@@ -37,7 +37,7 @@ use Rattle.contact_definitions.specs.WorldManifold.{b2-world-manifold-initializ
 use Rattle.contact_definitions.proofs.WorldPoints.{no-points-answer, points-answer}
 use Rattle.contact_definitions.proofs.Theorem.{polygons-count-and-kind}
 use Rattle.grid.specs.GridOutline.{GridOutline}
-use Rattle.grid.proofs.ContactRanges.{skin-in-range, Taken, grid-taken, polygons-accepted}
+use Rattle.grid.proofs.ContactRanges.{Taken, grid-taken, polygons-accepted}
 use Rattle.grid_contacts.specs.Placement.{GridPlacement, placed-corners}
 use Rattle.grid_contacts.specs.Faces.{face-at}
 use Rattle.grid_contacts.specs.SecondSentence.{KeepsOff, NearLargest, Touching, Reported, by-face-a, by-face-b}
@@ -47,7 +47,7 @@ use Rattle.grid_contacts.proofs.MaxSeparation.{MaxFace, max-face}
 use Rattle.grid_contacts.proofs.Skins.{two-skins, WithinSkins, in-reach, choice-error, a-is-reference}
 use Rattle.grid_contacts.proofs.Skins.{b-is-reference}
 use Rattle.grid_contacts.proofs.Reach.{not-kept-off, near-largest}
-use Rattle.grid_contacts.proofs.FaceManifold.{Made, Outcome, unchanged, made, incident-face, face-outcome}
+use Rattle.grid_contacts.proofs.FaceManifold.{Outcome, unchanged, made, incident-face, face-outcome}
 use Rattle.grid_contacts.proofs.MadePoints.{made-touching, made-in-range}
 use Rattle.grid_contacts.proofs.PlacementRange.{placement-in-range}
 
@@ -152,17 +152,20 @@ module _ (A B : B2polygonShape) {xfA xfB : B2Transform} (gA : GridPlacement xfA)
       go : (s t u : Bool) → (T (not s) → WithinSkins (val (a .value))) → (T (not t) → WithinSkins (val (b .value)))
           → (T (not u) → val (b .value) ≼ val (a .value) ⊞ whole choice-error)
           → (T u → val (a .value) ≼ val (b .value) ⊞ whole choice-error)
-          → Way (manifold-on (cond s (Apart (a .value)) (cond t (Apart (b .value)) (cond u axis-b axis-a))) old two-skins A
+          → Way
+          (manifold-on (cond s (Apart (a .value)) (cond t (Apart (b .value)) (cond u axis-b axis-a))) old two-skins A
           xfA B xfB)
       go true t u of-a of-b a-first b-first = no-points none
       go false true u of-a of-b a-first b-first = no-points none
       go false false true of-a of-b a-first b-first =
           way-b (record { of-a = of-a tt; of-b = of-b tt })
-          (found gB gA B A oB oA skinB skinA EFaceB true (row-place gB B oB (b .place) (found-b .inside)) old swapped-id none
+          (found gB gA B A oB oA skinB skinA EFaceB true (row-place gB B oB (b .place) (found-b .inside)) old swapped-id
+          none
           (near-largest found-b found-a (b-first tt)))
       go false false false of-a of-b a-first b-first =
           way-a (record { of-a = of-a tt; of-b = of-b tt })
-          (found gA gB A B oA oB skinA skinB EFaceA false (row-place gA A oA (a .place) (found-a .inside)) old (λ id. id) none
+          (found gA gB A B oA oB skinA skinB EFaceA false (row-place gA A oA (a .place) (found-a .inside)) old
+          (λ id. id) none
           (near-largest found-a found-b (a-first tt)))
 
   -- ---- what the calls answer
@@ -187,13 +190,16 @@ module _ (A B : B2polygonShape) {xfA xfB : B2Transform} (gA : GridPlacement xfA)
     }
 
     -- the kind is k, and the points touch
-    some-answered : (k : B2manifoldType) → 0 < m .«point_count» → InReach → m .«manifold_type» ≡ k → T (manifold-in-range m)
+    some-answered : (k : B2manifoldType) → 0 < m .«point_count» → InReach → m .«manifold_type» ≡ k
+        → T (manifold-in-range m)
         → Reported cornersA cornersB gA gB m (world-of-kind k old-world m xfA (A .«m_radius») xfB (B .«m_radius»))
         → Answered old-world (manifold-accepted m)
     some-answered k some reach kind-is in-range reported =
-        let world = points-answer old-world m xfA (A .«m_radius») xfB (B .«m_radius») few some in-range (radius-in skinA)
+        let world =
+        points-answer old-world m xfA (A .«m_radius») xfB (B .«m_radius») few some in-range (radius-in skinA)
         (radius-in skinB) (placement-in-range gA) (placement-in-range gB)
-        ∙ ap (λ (t : B2manifoldType). world-accepted (world-of-kind t old-world m xfA (A .«m_radius») xfB (B .«m_radius»)))
+        ∙ ap
+        (λ (t : B2manifoldType). world-accepted (world-of-kind t old-world m xfA (A .«m_radius») xfB (B .«m_radius»)))
         kind-is in
         record {
           contact-accepted = refl;
@@ -226,15 +232,18 @@ module _ (A B : B2polygonShape) {xfA xfB : B2Transform} (gA : GridPlacement xfA)
   taken-b = grid-taken B oB (oB .in-range (radius-in skinB))
 
   contact-is : (old : B2manifold)
-      → b2-collide-polygons old A xfA B xfB ≡ manifold-accepted (polygons-manifold (with-count old 0) two-skins A xfA B xfB)
+      → b2-collide-polygons old A xfA B xfB ≡ manifold-accepted
+      (polygons-manifold (with-count old 0) two-skins A xfA B xfB)
   contact-is old =
       polygons-accepted old xfA xfB (placement-in-range gA) (placement-in-range gB) A B taken-a taken-b
-      ∙ ap (λ (total : Float). manifold-accepted (polygons-manifold (with-count old 0) total A xfA B xfB)) (rw (skinA, skinB))
+      ∙ ap (λ (total : Float). manifold-accepted (polygons-manifold (with-count old 0) total A xfA B xfB))
+      (rw (skinA, skinB))
 
   pub outlines-sentence : (old : B2manifold) (old-world : B2worldManifold) → SecondSentenceOf A B gA gB old old-world
   unfolding with-count
   outlines-sentence old old-world =
       let m = polygons-manifold (with-count old 0) two-skins A xfA B xfB in
       let few : m .«point_count» ≤ 2 = subst (λ (c : ManifoldAnswer). c .manifold .«point_count» ≤ 2) (contact-is old)
-      (polygons-count-and-kind old xfA xfB A B (ap (λ (c : ManifoldAnswer). c .refusal) (contact-is old)) .at-most-two) in
+      (polygons-count-and-kind old xfA xfB A B (ap (λ (c : ManifoldAnswer). c .refusal) (contact-is old)) .at-most-two)
+      in
       subst (Answered old-world) (sym (contact-is old)) (answered old-world m few (way-out (with-count old 0) refl))

@@ -1,6 +1,7 @@
--- Witnesses for the second sentence, computed by antt from the definitions, for every old manifold: two unit squares that
--- overlap, the second unturned and turned by each quarter (two points, face A), a square and a triangle (one point, face
--- B), and the placements of these and of two squares 1 m apart, on the grid with zeros of both signs. Assumes nothing.
+-- Witnesses for the second sentence, computed by antt from the definitions, for every old manifold: two unit squares
+-- that overlap, the second unturned and turned by each quarter (two points, face A), a square and a triangle (one
+-- point, face B), and the placements of these and of two squares 1 m apart, on the grid with zeros of both signs.
+-- Assumes nothing.
 use mathlib.Core.Path.{_≡_, refl}
 use mathlib.Core.List.{List, [], _∷_}
 use mathlib.Core.Bool.{Bool, _&&_}
@@ -21,7 +22,8 @@ use Rattle.floats.specs.B2Math.{b2-mul-rot-by-vec2, b2-mul-t-rot-by-vec2, b2-mu
 use Rattle.floats.specs.B2Math.{b2-mul-t-transform-by-vec2, b2-mul-t-transform}
 use Rattle.floats.specs.Ranges.{point-in-range, radius-in-range, rotation-in-range, transform-in-range, normal-in-range}
 use Rattle.shape_definitions.specs.declared.b2_polygon_shape.B2polygonShape.{B2polygonShape}
-use Rattle.shape_definitions.specs.Outline.{too-near, welded, comes-before, start, closer, next, row, edges, long-enough}
+use Rattle.shape_definitions.specs.Outline.{too-near, welded, comes-before, start, closer, next, row, edges}
+use Rattle.shape_definitions.specs.Outline.{long-enough}
 use Rattle.shape_definitions.specs.Outline.{fan}
 use Rattle.shape_definitions.specs.Polygon.{outline-of-corners, outline-of-welded, b2-polygon-shape-set}
 use Rattle.shape_definitions.specs.Validate.{polygon-in-range}
@@ -32,8 +34,10 @@ use Rattle.contact_definitions.specs.Clip.{clip-distance, crossing, clipped-by,
 use Rattle.contact_definitions.specs.Manifold.{swapped-id, with-local-point, with-count, with-kind}
 use Rattle.contact_definitions.specs.ReferenceFace.{clipped-to-sides, only, points-from, with-points, manifold-of-ends}
 use Rattle.contact_definitions.specs.B2CollidePolygon.{face-separation, b2-find-max-separation, axis-of, polygons-axis}
-use Rattle.contact_definitions.specs.B2CollidePolygon.{incident-place, incident-end, b2-find-incident-edge, local-tangent}
-use Rattle.contact_definitions.specs.B2CollidePolygon.{face-middle, face-along, outline-face, within-skins, outline-point}
+use Rattle.contact_definitions.specs.B2CollidePolygon.{incident-place, incident-end, b2-find-incident-edge}
+use Rattle.contact_definitions.specs.B2CollidePolygon.{local-tangent}
+use Rattle.contact_definitions.specs.B2CollidePolygon.{face-middle, face-along, outline-face, within-skins}
+use Rattle.contact_definitions.specs.B2CollidePolygon.{outline-point}
 use Rattle.contact_definitions.specs.B2CollidePolygon.{outline-manifold, polygons-manifold, b2-collide-polygons}
 use Rattle.grid.specs.Demand3.{refusal-of, outline-from}
 use Rattle.grid.proofs.Controls.{at, points, minus-zero, half, one, two, square, on-grid, grid-number, skinned}
@@ -57,7 +61,8 @@ number b k t =
     let both = and-yes (ltb (bits-field b) 255) (signed (bits-sign b) (bits-units b) ≐? 2 ^ 149 ⊛ k) t in
     record {
       own = bits-f32 b (both .0);
-      is = rw (bits-val b (both .0), metre-is) (same-of-test (signed (bits-sign b) (bits-units b)) (2 ^ 149 ⊛ k) (both .1));
+      is = rw (bits-val b (both .0), metre-is)
+          (same-of-test (signed (bits-sign b) (bits-units b)) (2 ^ 149 ⊛ k) (both .1));
     }
 
 abbrev is-turn : QuarterTurn → ℕ → ℕ → Bool
@@ -95,7 +100,8 @@ three-halves = 0x3fc0_0000
 abbrev minus-one : ℕ
 minus-one = 0xbf80_0000
 
--- A stands at the origin; B beside it, by each turn, so that the two overlap by half; and B 1 m off. Zeros of both signs
+-- A stands at the origin; B beside it, by each turn, so that the two overlap by half; and B 1 m off. Zeros of both
+-- signs
 abbrev pub here : B2Transform
 here = placed 0 minus-zero 0 one
 
@@ -130,14 +136,17 @@ pub record Touches (old : B2manifold) : Type 0 where
 
 pub touches : (old : B2manifold) → Touches old
 unfolding b2-polygon-shape-set outline-of-welded outline-of-corners welded start next row edges long-enough fan
-    too-near comes-before closer b2-cross b2-distance-vec2-squared root-digits whole-root rounded-root sqrt b2-sqrt b2-add
+    too-near comes-before closer b2-cross b2-distance-vec2-squared root-digits whole-root rounded-root sqrt b2-sqrt
+    b2-add
     b2-sub b2-neg b2-scale b2-dot b2-cross-vec-by-scalar b2-length-squared b2-length b2-normalize b2-mul-t-rot
     b2-mul-rot-by-vec2 b2-mul-t-rot-by-vec2 b2-mul-transform-by-vec2 b2-mul-t-transform-by-vec2 b2-mul-t-transform
     point-in-range radius-in-range rotation-in-range transform-in-range normal-in-range polygon-in-range least
-    first-greatest first-least swapped-id with-local-point with-count with-kind clip-distance crossing clipped-by clipped
+    first-greatest first-least swapped-id with-local-point with-count with-kind clip-distance crossing clipped-by
+    clipped
     clipped-to-sides only points-from with-points manifold-of-ends face-separation b2-find-max-separation axis-of
     polygons-axis incident-place incident-end b2-find-incident-edge local-tangent face-middle face-along outline-face
-    within-skins outline-point outline-manifold polygons-manifold b2-collide-polygons neg add sub mul div le lt eq ofBits
+    within-skins outline-point outline-manifold polygons-manifold b2-collide-polygons neg add sub mul div le lt eq
+    ofBits
 touches old = record {
   triangle-accepted = refl;
   two-points = refl;
