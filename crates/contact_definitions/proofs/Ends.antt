@@ -1,6 +1,6 @@
 -- Where the ends and points of a manifold come from: a clip leaves an end of the segment, or the crossing where the
 -- distances have opposite signs; a test keeps some of them; and each point is made of one. Assumes nothing.
-use mathlib.Core.Path.{_≡_, refl, sym, ap, _∙_, subst}
+use mathlib.Core.Path.{_≡_, refl}
 use mathlib.Core.Bool.{Bool, true, false, cond}
 use mathlib.Core.List.{List, [], _∷_, List·Memᴰ, List·Memᴰ·cases-cons, List·Memᴰ·not-nil}
 use mathlib.Core.List as L
@@ -31,7 +31,8 @@ module _ (end0 end1 : B2clipVertex) (distance0 distance1 : Float) (index : ℕ) 
   pub data Left (x : B2clipVertex) : Type 0 where
     first-end : x ≡ end0 → Left x
     second-end : x ≡ end1 → Left x
-    crossed : T (lt (mul binary32 distance0 distance1) zero32) → x ≡ crossing end0 end1 distance0 distance1 index → Left x
+    crossed : T (lt (mul binary32 distance0 distance1) zero32) → x ≡ crossing end0 end1 distance0 distance1 index
+        → Left x
 
   pub clip-leaves : (x : B2clipVertex) → List·Memᴰ x (clipped-by end0 end1 distance0 distance1 index) → Left x
   unfolding clipped-by
@@ -56,7 +57,8 @@ module _ (end0 end1 : B2clipVertex) (distance0 distance1 : Float) (index : ℕ) 
       first (inr k) = second (kept (le distance1 zero32) x end1 last k)
 
 -- ---- the ends that pass a test
-pub only-some : (test : B2clipVertex → Bool) (ends : List B2clipVertex) (x : B2clipVertex) → List·Memᴰ x (only test ends)
+pub only-some : (test : B2clipVertex → Bool) (ends : List B2clipVertex) (x : B2clipVertex)
+    → List·Memᴰ x (only test ends)
     → List·Memᴰ x ends
 unfolding only
 only-some test [] x m = m
@@ -80,7 +82,8 @@ pub record MadeOf (made : B2manifoldPoint → B2clipVertex → B2manifoldPoint) 
   pub listed : List·Memᴰ end ends
   pub is : p ≡ made old end
 
-pub point-made : (made : B2manifoldPoint → B2clipVertex → B2manifoldPoint) (m : B2manifold) (d : B2manifoldPoint) (i : ℕ)
+pub point-made : (made : B2manifoldPoint → B2clipVertex
+    → B2manifoldPoint) (m : B2manifold) (d : B2manifoldPoint) (i : ℕ)
     (ends : List B2clipVertex) (k : ℕ) → k < length (points-from made m i ends)
     → MadeOf made ends (getD (points-from made m i ends) k d)
 unfolding points-from

@@ -2,13 +2,11 @@
 -- below the largest float; the first greatest one with its place, where all are above that float negated; and the place
 -- of the first least is a place. Each search is a scan (algebra's Scan). Assumes nothing.
 use mathlib.Core.Path.{_≡_, refl, sym, ap, subst}
-use mathlib.Core.Bool.{not}
 use mathlib.Core.List.{List·Memᴰ, List·Memᴰ·cases-cons, map}
 use mathlib.Core.Logic.{_⊎_, inl, inr}
-use Prim.Native.Nat.{ℕ, _≤_, _<_}
+use Prim.Native.Nat.{ℕ, _<_}
 use native.Mathlib.Omega.{arith}
-use lib.Dec.{T}
-use lib.Ieee.{Float, neg, lt}
+use lib.Ieee.{Float, neg}
 use Rattle.algebra.specs.Integer.{Z, _≼_, _≺_}
 use Rattle.algebra.specs.Loops.{places}
 use Rattle.algebra.proofs.Integer.{le-of-same, same-refl}
@@ -17,14 +15,11 @@ use Rattle.algebra.proofs.Scan.{scan-mem, scan-best}
 use Rattle.rounding.specs.Value.{F32, val}
 use Rattle.rounding.proofs.Value.{neg-f32}
 use Rattle.rounding.proofs.Comparison.{lt-val, not-lt-val}
-use Rattle.rounding.proofs.Literals.{bits-f32}
 use Rattle.floats.specs.B2Common.{b2-max-float}
+use Rattle.floats.proofs.Constants.{max-float-f32}
 use Rattle.contact_definitions.specs.declared.axis.Best.{Best}
 use Rattle.contact_definitions.specs.Searches.{below-value, least, valued, is-greater, is-less, first-greatest}
 use Rattle.contact_definitions.specs.Searches.{first-least}
-
-pub max-float-f32 : F32 b2-max-float
-max-float-f32 = bits-f32 0x7f7f_ffff tt
 
 le-self : (a : Z) → a ≼ a
 le-self a = le-of-same a a (same-refl a)
@@ -60,7 +55,8 @@ module _ (f : ℕ → Float) (count : ℕ) (finite : (i : ℕ) → i < count →
           scan-best below-value F32 (λ x y. val x ≼ val y) (λ x. le-self (val x))
           (λ x y x-f32 y-f32 t. not-lt-val y-f32 x-f32 t)
           (λ x y z x-f32 y-f32 z-f32 t k. below-too (val y) (val x) (val z) (lt-val y-f32 x-f32 t) k)
-          (map f (places 0 count)) b2-max-float (f i) max-float-f32 listed-f32 (finite i h) (inr (value-listed f count i h))
+          (map f (places 0 count)) b2-max-float (f i) max-float-f32 listed-f32 (finite i h)
+          (inr (value-listed f count i h))
         where
           below-too : (a b c : Z) → a ≺ b → b ≼ c → a ≼ c
           below-too a b c h k = omega arith

@@ -23,7 +23,8 @@ use Rattle.contact_definitions.specs.declared.b2_collision.B2manifold.{B
 use Rattle.contact_definitions.specs.declared.b2_collision.B2manifoldPoint.{B2manifoldPoint}
 use Rattle.contact_definitions.specs.declared.b2_collision.B2worldManifold.{B2worldManifold}
 use Rattle.contact_definitions.specs.Manifold.{default-point, manifold-point, counted-points}
-use Rattle.contact_definitions.specs.WorldManifold.{plane-separation, carried-points, world-of-face, world-of-kind}
+use Rattle.contact_definitions.specs.WorldManifold.{plane-separation, carried-points, world-of-face}
+use Rattle.contact_definitions.specs.WorldManifold.{world-of-kind}
 use Rattle.contact_definitions.specs.WorldManifold.{points-in-range, manifold-in-range, world-accepted}
 use Rattle.contact_definitions.specs.WorldManifold.{b2-world-manifold-initialize}
 
@@ -83,7 +84,8 @@ module _ (old : B2worldManifold) (m : B2manifold) (xfA : B2Transform) (radiusA :
       simp (le-ltb 2 (m .«point_count») few, eq-eqb (m .«point_count») 0 none)
 
   pub points-answer : m .«point_count» ≤ 2 → 0 < m .«point_count» → T (manifold-in-range m)
-      → T (radius-in-range radiusA) → T (radius-in-range radiusB) → T (transform-in-range xfA) → T (transform-in-range xfB)
+      → T (radius-in-range radiusA) → T (radius-in-range radiusB) → T (transform-in-range xfA)
+      → T (transform-in-range xfB)
       → b2-world-manifold-initialize old m xfA radiusA xfB radiusB
       ≡ world-accepted (world-of-kind (m .«manifold_type») old m xfA radiusA xfB radiusB)
   unfolding b2-world-manifold-initialize

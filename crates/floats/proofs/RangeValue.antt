@@ -3,20 +3,23 @@
 -- 2^30 m. Assumes nothing.
 use mathlib.Core.Path.{_≡_, sym, ap, _∙_}
 use Prim.Native.Nat.{ℕ, _*_, _^_}
+use native.Mathlib.Nat.{mul-le-mul-right}
 use native.Mathlib.Omega.{arith}
 use mathlib.Core.Bool.{Bool, true, false, not}
-use lib.Dec.{T, ltb, eqb, eqb→eq}
+use lib.Dec.{T, ltb, leb, eqb, leb→le, eqb→eq}
 use lib.Ieee.{Float, nan, inf, fin, binary32, neg, le, fits, ofBits}
 use lib.Ieee.Bits.{is-false}
 use lib.Ieee.Fits.{and-i, and-l, and-r}
 use lib.Ieee.Scale.{finite}
 use Rattle.algebra.specs.Integer.{Z, whole, signed, opp, _≼_, Abs}
+use Rattle.algebra.proofs.Magnitude.{abs-widen}
 use Rattle.rounding.specs.Value.{metre, F32, mag, val}
 use Rattle.floats.specs.declared.b2_math.B2vec2.{B2vec2}
 use Rattle.rounding.specs.Literals.{zero32, one32}
 use Rattle.floats.specs.Ranges.{within, vec2-within, normal-limit, local-normal-limit, shape-limit, contact-limit}
 use Rattle.floats.specs.Ranges.{radius-in-range}
 use Rattle.rounding.proofs.Value.{metre-is, abs-mag, val-neg, neg-f32, AsFin, as-fin, f32-as-fin}
+use Rattle.rounding.proofs.Caps.{Capped}
 use Rattle.rounding.proofs.Comparison.{le-val, val-le}
 use Rattle.rounding.proofs.Literals.{bits-sign, bits-field, bits-units, bits-f32, bits-mag, bits-val, zero-f32}
 use Rattle.rounding.proofs.Literals.{zero-val}
@@ -118,6 +121,14 @@ pub vec2-limit : {limit : Float} {v : B2vec2} {h : ℕ} → Limit limit h → F3
     → Abs (val (v .x)) (h * metre) → Abs (val (v .y)) (h * metre) → T (vec2-within limit v)
 vec2-limit {limit} {v} l x-f32 y-f32 x-abs y-abs =
     and-i (within limit (v .x)) (within limit (v .y)) (value-limit l x-f32 x-abs) (value-limit l y-f32 y-abs)
+
+-- a vector of at most h m, where the limit is no less
+pub capped-vec2 : {limit : Float} {v : B2vec2} {most : ℕ} (h : ℕ) → Limit limit most → T (leb h most)
+    → Capped (v .x) h → Capped (v .y) h → T (vec2-within limit v)
+capped-vec2 {limit} {v} {most} h l low x-cap y-cap =
+    let wider = mul-le-mul-right metre (leb→le h most low) in
+    vec2-limit l (x-cap .own) (y-cap .own) (abs-widen (val (v .x)) (h * metre) (most * metre) (x-cap .cap) wider)
+    (abs-widen (val (v .y)) (h * metre) (most * metre) (y-cap .cap) wider)
 
 -- ---- a radius: from 0, either zero, to 2^20 m
 pub record Radius (r : Float) : Type 0 where

@@ -3,13 +3,12 @@
 use mathlib.Core.Path.{_≡_}
 use mathlib.Core.Bool.{true, false}
 use lib.Dec.{T}
-use lib.Ieee.{binary32, add, le, ofBits}
+use lib.Ieee.{binary32, add}
 use lib.Ieee.Bits.{is-true}
 use borrow.Author.Tests.{le-ltb}
 use Rattle.floats.specs.declared.b2_math.B2Transform.{B2Transform}
-use Rattle.floats.specs.B2Common.{b2-polygon-radius}
 use Rattle.floats.specs.B2Math.{b2-mul-t-transform}
-use Rattle.floats.specs.Ranges.{radius-in-range, transform-in-range}
+use Rattle.floats.specs.Ranges.{transform-in-range}
 use Rattle.shape_definitions.specs.declared.b2_edge_shape.B2edgeShape.{B2edgeShape}
 use Rattle.shape_definitions.specs.declared.b2_polygon_shape.B2polygonShape.{B2polygonShape}
 use Rattle.shape_definitions.specs.Edge.{edge-in-range}
@@ -19,11 +18,6 @@ use Rattle.contact_definitions.specs.Manifold.{with-count, manifold-accepted, m
 use Rattle.contact_definitions.specs.B2CollidePolygon.{polygons-manifold, b2-collide-polygons}
 use Rattle.contact_definitions.specs.B2CollideEdge.{edge-polygon-manifold, b2-collide-edge-and-polygon}
 use Rattle.grid.specs.GridOutline.{GridOutline}
-
--- the default skin is a radius in range
-pub skin-in-range : T (radius-in-range b2-polygon-radius)
-unfolding radius-in-range le ofBits
-skin-in-range = tt
 
 -- an outline that contact calls take: what a built grid outline is, where its radius is in range
 pub record Taken (shape : B2polygonShape) : Type 0 where

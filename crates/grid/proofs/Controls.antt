@@ -18,6 +18,7 @@ use Rattle.floats.specs.declared.b2_math.B2vec2.{B2vec2}
 use Rattle.floats.specs.B2Common.{b2-polygon-radius}
 use Rattle.floats.specs.B2Math.{vec2, b2-sub, b2-dot, b2-cross, b2-length-squared, b2-distance-vec2-squared}
 use Rattle.floats.specs.Ranges.{point-in-range}
+use Rattle.floats.proofs.Constants.{skin-in-range}
 use Rattle.rounding.proofs.Literals.{bits-sign, bits-field, bits-units, bits-dyadic}
 use Rattle.hull.specs.Hull.{OnLine, ThreeDifferent}
 use Rattle.shape_definitions.specs.declared.b2_polygon_shape.B2polygonShape.{B2polygonShape}
@@ -30,7 +31,6 @@ use Rattle.grid.specs.Demand3.{ThreeToEight, HullRow, built-corners, ref
 use Rattle.rounding.specs.Value.{metre, tick}
 use Rattle.rounding.proofs.Value.{metre-ticks}
 use Rattle.grid.specs.GridOutline.{normal-bound, direction-error, length-error, GridOutline}
-use Rattle.grid.proofs.ContactRanges.{skin-in-range}
 use Rattle.grid.proofs.Theorem.{first-sentence, built-outline, built-in-range}
 
 -- ---- lists by the bit patterns of their coordinates: 0, -0, 1/256, 1/2, 1, 2, 4 and -4

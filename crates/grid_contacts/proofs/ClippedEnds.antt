@@ -14,7 +14,7 @@ use Rattle.algebra.specs.Integer.{whole, _≺_}
 use Rattle.rounding.specs.Value.{metre, F32, val}
 use Rattle.rounding.specs.Literals.{zero32}
 use Rattle.rounding.proofs.Value.{metre-pos}
-use Rattle.rounding.proofs.Caps.{Capped}
+use Rattle.rounding.proofs.Caps.{Capped, neg-cap}
 use Rattle.rounding.proofs.Sized.{sum-sized, difference-sized, product-sized}
 use Rattle.rounding.proofs.Bounds.{sub-below, sub-above}
 use Rattle.rounding.proofs.Literals.{zero-f32, zero-val}
@@ -27,9 +27,10 @@ use Rattle.contact_definitions.specs.declared.b2_collision.B2clipVertex.{B2clip
 use Rattle.contact_definitions.specs.Clip.{clip-distance, crossing, clipped}
 use Rattle.contact_definitions.proofs.Ends.{Left, first-end, second-end, crossed, clip-leaves}
 use Rattle.grid_contacts.specs.Faces.{Face}
-use Rattle.grid_contacts.proofs.NormalVec.{NormalVec, opposite-cap, opposite-vec, normal-dot, dot-capped}
+use Rattle.grid_contacts.proofs.NormalVec.{NormalVec, opposite-vec, normal-dot, dot-capped}
 use Rattle.grid_contacts.proofs.Segment.{FaceAbs, near-finer}
-use Rattle.grid_contacts.proofs.Crossing.{corner-metres, end-metres, blend-error, VecNear, vec-capped, crossing-near}
+use Rattle.grid_contacts.proofs.Crossing.{corner-metres, end-metres, blend-error, VecNear, vec-capped}
+use Rattle.grid_contacts.proofs.Crossing.{crossing-near}
 
 -- ---- sizes in metres: the offset of a line, and an end's distance from it
 abbrev offset-metres : ℕ
@@ -51,11 +52,13 @@ crossing-fraction {a} {b} a-cap b-cap t =
     go own (inl h) =
         let p = h .0 in
         let n = h .1 in
-        let l = sub-above (a-cap .own) (b-cap .own) (a-cap .own) own (omega arith) in inl (omega arith, (l, omega arith))
+        let l =
+        sub-above (a-cap .own) (b-cap .own) (a-cap .own) own (omega arith) in inl (omega arith, (l, omega arith))
     go own (inr h) =
         let p = h .0 in
         let n = h .1 in
-        let l = sub-below (a-cap .own) (b-cap .own) (a-cap .own) own (omega arith) in inr (omega arith, (l, omega arith))
+        let l =
+        sub-below (a-cap .own) (b-cap .own) (a-cap .own) own (omega arith) in inr (omega arith, (l, omega arith))
 
 -- ---- a line to clip to
 pub record ClipLine (normal : B2vec2) (offset : Float) : Type 0 where
@@ -74,7 +77,8 @@ distance-capped line end x-cap y-cap =
 abbrev pub EachNear : ℕ → ℕ → Face → List B2clipVertex → Type 0
 EachNear e k f ends = (end : B2clipVertex) → List·Memᴰ end ends → VecNear e k f (end .v)
 
-module _ {e k : ℕ} {f : Face} (f-most : FaceAbs f (corner-metres * metre)) (low : e ≤ metre) {normal : B2vec2} {offset : Float}
+module _ {e k : ℕ} {f : Face} (f-most : FaceAbs f (corner-metres * metre)) (low : e ≤ metre) {normal : B2vec2}
+    {offset : Float}
     (line : ClipLine normal offset) (index : ℕ) where
   -- an end of the segment, at the finer scale
   finer : (v : B2vec2) → VecNear e k f v → VecNear (e + blend-error) (metre * k) f v
@@ -131,5 +135,5 @@ module _ {tangent v : B2vec2} {total : Float} (vec : NormalVec tangent) (x-cap :
   pub begin-side : ClipLine (b2-neg tangent) (add binary32 (neg (b2-dot tangent v)) total)
   begin-side = record {
     vec = opposite-vec vec;
-    offset-cap = sum-sized 5 (2 * (corner-metres + 1)) 1 tt tt (opposite-cap along) total-cap .capped;
+    offset-cap = sum-sized 5 (2 * (corner-metres + 1)) 1 tt tt (neg-cap along) total-cap .capped;
   }

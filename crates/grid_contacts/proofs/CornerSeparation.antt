@@ -1,7 +1,6 @@
 -- One corner of outline 2 under one face of outline 1, as b2_find_max_separation computes its separation in frame 2:
 -- finite, at most 34 m, and within 2^-16 m of the corner's exact signed distance from the placed face's line. Assumes
 -- nothing.
-use mathlib.Core.Path.{_≡_}
 use Prim.Native.Nat.{ℕ, _*_, _<_}
 use native.Mathlib.Omega.{arith}
 use lib.Ieee.{Float}
@@ -41,8 +40,8 @@ corner-separation xf poly1 poly2 i j =
     (b2-sub (point-at (poly2 .«m_vertices») j) (b2-mul-transform-by-vec2 xf (point-at (poly1 .«m_vertices») i)))
 
 module _ {xf1 xf2 : B2Transform} (g1 : GridPlacement xf1) (g2 : GridPlacement xf2) (poly1 poly2 : B2polygonShape)
-    (o1 : GridOutline poly1) (o2 : GridOutline poly2) (i j : ℕ) (i-in : i < poly1 .«m_count») (j-in : j < poly2 .«m_count»)
-    where
+    (o1 : GridOutline poly1) (o2 : GridOutline poly2) (i j : ℕ) (i-in : i < poly1 .«m_count»)
+    (j-in : j < poly2 .«m_count») where
   abbrev xf : B2Transform
   xf = b2-mul-t-transform xf2 xf1
 
@@ -84,7 +83,8 @@ module _ {xf1 xf2 : B2Transform} (g1 : GridPlacement xf1) (g2 : GridPlacement xf
       (turned-same (g2 .turn) (value-point d) (gap g1 g2 p v) (d-exact .is)) (gap-turned g1 g2 p v) in
       let dots = same-trans (dot (value-point n) (value-point d)) (dot turned-n turned-d) (dot world-normal world-gap)
       (turned-dot (g2 .turn) (value-point n) (value-point d))
-      (dot-same turned-n world-normal turned-d world-gap (frame-vector g1 g2 (m-vec .at-x .own) (m-vec .at-y .own)) gap-is)
+      (dot-same turned-n world-normal turned-d world-gap (frame-vector g1 g2 (m-vec .at-x .own) (m-vec .at-y .own))
+      gap-is)
       in
       record {
         capped = dot-capped s;
@@ -92,7 +92,8 @@ module _ {xf1 xf2 : B2Transform} (g1 : GridPlacement xf1) (g2 : GridPlacement xf
             (placed-normal g1 p q m (o1 .normal i i-in))
             (point-abs-same turned-d world-gap (gap-metres * metre) gap-is
             (turned-abs (g2 .turn) (value-point d) (gap-metres * metre) (d-cap .0 .cap, d-cap .1 .cap)))
-            (moved (val (b2-dot n d)) (dot (value-point n) (value-point d)) (dot world-normal world-gap) dots (s .err));
+            (moved (val (b2-dot n d)) (dot (value-point n) (value-point d)) (dot world-normal world-gap) dots
+            (s .err));
       }
     where
       moved : (s a b : Z) → a ≐ b → Abs (metre ⊛ s ⊟ a) (dot-ticks * tick * metre)

@@ -139,7 +139,8 @@ back-same to-left v w = omega arith
 back-same about v w = omega arith
 back-same to-right v w = omega arith
 
-module _ {q : B2Rot} {turn : QuarterTurn} (t : Turning q turn) {v : B2vec2} (x-own : F32 (v .x)) (y-own : F32 (v .y)) where
+module _ {q : B2Rot} {turn : QuarterTurn} (t : Turning q turn) {v : B2vec2} (x-own : F32 (v .x))
+    (y-own : F32 (v .y)) where
   pub turn-exact : ExactVec (b2-mul-rot-by-vec2 q v) (turned turn (value-point v))
   unfolding b2-mul-rot-by-vec2
   turn-exact =

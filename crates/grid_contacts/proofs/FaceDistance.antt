@@ -26,7 +26,8 @@ pub within-of-length : (f : Face) (c n : Point) (s : Z) (k : ℕ) (N : FaceNorma
     → Abs (off-line f c) (root-reach (N .length)) → Abs (N .length ⊛ s ⊟ off-line f c) (k * (tick * N .length))
     → DistanceWithin f c s ((k + root-ticks) * tick)
 within-of-length f c n s k N most near = record {
-  at-most = root-at-most (off-line f c) s (N .length) (squared-length f) k (N .unit .root) (N .unit .positive) most near;
+  at-most = root-at-most (off-line f c) s (N .length) (squared-length f) k (N .unit .root) (N .unit .positive) most
+      near;
   at-least = root-at-least (off-line f c) s (N .length) (squared-length f) k (N .unit .root) (N .unit .positive) most
       near;
 }
@@ -39,7 +40,8 @@ module _ {u n : Point} {l t : ℕ} (U : UnitOf u n l t) (w : Point) (m : ℕ) (w
   -- l times n·w is a metre times u·w, by N1
   pub normal-against : Abs (l ⊛ dot n w ⊟ metre ⊛ dot u w) (against-ticks m * (tick * l) * metre)
   normal-against =
-      joined (n .x ⊠ w .x) (n .y ⊠ w .y) (u .x ⊠ w .x) (u .y ⊠ w .y) (product (n .x) (u .x) (w .x) (U .a-near) (w-most .0))
+      joined (n .x ⊠ w .x) (n .y ⊠ w .y) (u .x ⊠ w .x) (u .y ⊠ w .y)
+      (product (n .x) (u .x) (w .x) (U .a-near) (w-most .0))
       (product (n .y) (u .y) (w .y) (U .b-near) (w-most .1))
     where
       product : (a v p : Z) → Abs (l ⊛ a ⊟ metre ⊛ v) (direction-error l) → Abs p (m * metre)

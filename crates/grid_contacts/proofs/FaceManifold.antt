@@ -1,22 +1,21 @@
--- The manifold of a reference face: the incident edge is a face of the other outline, both clips leave ends near it, and
--- each point that the manifold counts is the local point of such an end; or fewer than two ends are left, and nothing is
--- written but the kind. Assumes nothing.
+-- The manifold of a reference face: the incident edge is a face of the other outline, both clips leave ends near it,
+-- and each point that the manifold counts is the local point of such an end; or fewer than two ends are left, and
+-- nothing is written but the kind. Assumes nothing.
 use mathlib.Core.Path.{_≡_, refl, sym, ap, _∙_, subst}
 use mathlib.Core.Bool.{Bool}
 use mathlib.Core.List.{List, [], _∷_, List·Memᴰ, List·Memᴰ·cases-cons, List·Memᴰ·not-nil}
 use mathlib.Core.Logic.{_⊎_, inl, inr}
-use Prim.Native.Nat.{ℕ, _+_, _*_, _≤_, _<_}
+use Prim.Native.Nat.{ℕ, _*_, _≤_, _<_}
 use native.Mathlib.Omega.{arith}
 use lib.ListN.{length, drop, getD, length-append, List·getD-append}
-use lib.Ieee.{Float}
-use Rattle.algebra.specs.Plane.{Point, PointAbs}
+use Rattle.algebra.specs.Plane.{PointAbs}
 use Rattle.algebra.proofs.Plane.{point-abs-same}
 use Rattle.rounding.specs.Value.{metre}
 use Rattle.rounding.specs.Literals.{one32}
 use Rattle.rounding.proofs.Value.{metre-ticks}
 use Rattle.floats.specs.declared.b2_math.B2vec2.{B2vec2}
 use Rattle.floats.specs.declared.b2_math.B2Transform.{B2Transform}
-use Rattle.floats.specs.B2Math.{b2-dot, b2-cross-vec-by-scalar, b2-mul-rot-by-vec2, b2-mul-t-rot-by-vec2}
+use Rattle.floats.specs.B2Math.{b2-cross-vec-by-scalar}
 use Rattle.floats.specs.B2Math.{b2-mul-transform-by-vec2, b2-mul-t-transform-by-vec2}
 use Rattle.shape_definitions.specs.declared.b2_polygon_shape.B2polygonShape.{B2polygonShape}
 use Rattle.shape_definitions.specs.Outline.{point-at, place-after}
@@ -29,7 +28,8 @@ use Rattle.contact_definitions.specs.declared.b2_collide_edge.B2referenceFace.{
 use Rattle.contact_definitions.specs.Manifold.{default-point, with-local-point}
 use Rattle.contact_definitions.specs.ReferenceFace.{clipped-to-sides, only, points-from, with-points, manifold-of-ends}
 use Rattle.contact_definitions.specs.Clip.{clipped}
-use Rattle.contact_definitions.specs.B2CollidePolygon.{incident-place, incident-end, b2-find-incident-edge, local-tangent}
+use Rattle.contact_definitions.specs.B2CollidePolygon.{incident-place, incident-end, b2-find-incident-edge}
+use Rattle.contact_definitions.specs.B2CollidePolygon.{local-tangent}
 use Rattle.contact_definitions.specs.B2CollidePolygon.{face-middle, outline-face, within-skins, outline-point}
 use Rattle.contact_definitions.specs.B2CollidePolygon.{outline-manifold}
 use Rattle.contact_definitions.proofs.Extremes.{least-place-in}
@@ -42,8 +42,8 @@ use Rattle.grid_contacts.specs.SecondSentence.{local-at}
 use Rattle.grid_contacts.proofs.Placing.{point-capped, carry-exact}
 use Rattle.grid_contacts.proofs.FaceNormal.{carried-face}
 use Rattle.grid_contacts.proofs.Skins.{two-skins}
-use Rattle.grid_contacts.proofs.Segment.{NearSegment, FaceAbs, near-begin, near-end}
-use Rattle.grid_contacts.proofs.Crossing.{corner-metres, blend-error, VecNear}
+use Rattle.grid_contacts.proofs.Segment.{FaceAbs, near-begin, near-end}
+use Rattle.grid_contacts.proofs.Crossing.{corner-metres, VecNear}
 use Rattle.grid_contacts.proofs.ClippedEnds.{EachNear, clipped-near}
 use Rattle.grid_contacts.proofs.ReferenceFace.{first-side, second-side}
 use Rattle.grid_contacts.proofs.ManifoldPoint.{clip-error}
@@ -191,7 +191,8 @@ module _ {xf1 xf2 : B2Transform} (g1 : GridPlacement xf1) (g2 : GridPlacement xf
   unfolding clipped-to-sides
   ends-near =
       clipped-near incident-most (omega (arith, metre-ticks)) (second-side g1 poly1 o1 edge edge-in) (face .i2)
-      (clipped (b2-find-incident-edge poly1 xf1 edge poly2 xf2) (face .«side_normal1») (face .«side_offset1») (face .i1))
+      (clipped (b2-find-incident-edge poly1 xf1 edge poly2 xf2) (face .«side_normal1») (face .«side_offset1»)
+      (face .i1))
       (clipped-near incident-most (omega arith) (first-side g1 poly1 o1 edge edge-in) (face .i1)
       (b2-find-incident-edge poly1 xf1 edge poly2 xf2) edge-near)
 

@@ -6,11 +6,11 @@ use native.Mathlib.Omega.{arith}
 use Rattle.algebra.specs.Integer.{Z, whole, _⊞_, _⊟_, _⊠_, _⊛_, opp, _≐_, Abs}
 use Rattle.algebra.specs.Plane.{Point, SameVector, from-to}
 use Rattle.algebra.specs.Squares.{above}
-use Rattle.algebra.proofs.Integer.{same-refl, difference-same, multiple-same}
+use Rattle.algebra.proofs.Integer.{difference-same, multiple-same}
 use Rattle.algebra.proofs.Magnitude.{abs-same}
 use Rattle.algebra.proofs.Plane.{vector-refl}
 use Rattle.algebra.proofs.Products.{product-same}
-use Rattle.rounding.specs.Value.{metre, val}
+use Rattle.rounding.specs.Value.{metre}
 use Rattle.floats.specs.declared.b2_math.B2vec2.{B2vec2}
 use Rattle.floats.specs.declared.b2_math.B2Transform.{B2Transform}
 use Rattle.grid.specs.Grid.{value-point}
@@ -53,7 +53,8 @@ unit-same {u} {u'} {n} {n'} {l} {t} e f h = record {
         → Abs (l ⊛ a' ⊟ metre ⊛ u') (direction-error l)
     near u u' a a' e f h =
         abs-same (l ⊛ a ⊟ metre ⊛ u) (l ⊛ a' ⊟ metre ⊛ u') (direction-error l)
-        (difference-same (l ⊛ a) (l ⊛ a') (metre ⊛ u) (metre ⊛ u') (multiple-same l a a' f) (multiple-same metre u u' e))
+        (difference-same (l ⊛ a) (l ⊛ a') (metre ⊛ u) (metre ⊛ u') (multiple-same l a a' f)
+        (multiple-same metre u u' e))
         h
 
     length : (a b c d : Z) → a ≐ c → b ≐ d → Abs (a ⊞ b ⊟ whole (metre * metre)) (length-error * metre)
@@ -82,7 +83,8 @@ pub unit-turned : {u n : Point} {l t : ℕ} (turn : QuarterTurn) → UnitOf u n 
     → UnitOf (turned turn u) (turned turn n) l t
 unit-turned {u} {n} unturned h = unit-same (omega arith, omega arith) (omega arith, omega arith) h
 unit-turned {u} {n} to-right h = unit-same (omega arith, omega arith) (omega arith, omega arith) (unit-right h)
-unit-turned {u} {n} about h = unit-same (omega arith, omega arith) (omega arith, omega arith) (unit-right (unit-right h))
+unit-turned {u} {n} about h =
+    unit-same (omega arith, omega arith) (omega arith, omega arith) (unit-right (unit-right h))
 unit-turned {u} {n} to-left h =
     unit-same (omega arith, omega arith) (omega arith, omega arith) (unit-right (unit-right (unit-right h)))
 
@@ -131,7 +133,8 @@ pub placed-normal : {t : B2Transform} (g : GridPlacement t) (p q n : B2vec2) →
 unfolding EdgeNormal
 placed-normal g p q n h =
     face-normal (carried-face g p q) (turned (g .turn) (value-point n))
-    (unit-same (outward-turned g p q) (vector-refl (turned (g .turn) (value-point n))) (unit-turned (g .turn) (h .unit)))
+    (unit-same (outward-turned g p q) (vector-refl (turned (g .turn) (value-point n)))
+    (unit-turned (g .turn) (h .unit)))
 
 pub stored-vec : (p q n : B2vec2) → EdgeNormal p q n → NormalVec n
 unfolding EdgeNormal

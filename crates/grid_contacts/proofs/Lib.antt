@@ -22,5 +22,8 @@ pub mod ManifoldPoint
 pub mod FaceManifold
 pub mod MadePoints
 pub mod PlacementRange
+pub mod Ways
 pub mod Sentence
 pub mod Theorem
+pub mod Witnesses
+pub mod Applied

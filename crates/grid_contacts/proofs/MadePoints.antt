@@ -1,19 +1,17 @@
 -- What holds of the points that a reference face makes, and of their world points: they lie near the boundary of the
 -- other outline, and their world separations are near their exact distances from that face. And the manifold is in the
 -- range of the world points. Assumes nothing.
-use mathlib.Core.Path.{_≡_, sym, ap, _∙_, subst}
+use mathlib.Core.Path.{_≡_, sym, subst}
 use mathlib.Core.Bool.{Bool, _&&_}
 use mathlib.Core.List.{List}
-use Prim.Native.Nat.{ℕ, _+_, _*_, _^_, _≤_, _<_}
-use native.Mathlib.Nat.{mul-le-mul-right}
+use Prim.Native.Nat.{ℕ, _*_, _<_}
 use native.Mathlib.Omega.{arith}
-use lib.Dec.{T, leb, leb→le}
-use lib.ListN.{length, getD}
+use lib.Dec.{T}
+use lib.ListN.{getD}
 use lib.Ieee.{Float}
 use mir.Facts.{yes-and}
 use Rattle.algebra.specs.Integer.{Z, Abs}
 use Rattle.algebra.specs.Plane.{Point}
-use Rattle.algebra.proofs.Magnitude.{abs-widen}
 use Rattle.rounding.specs.Value.{metre, F32, val}
 use Rattle.rounding.proofs.Value.{metre-ticks}
 use Rattle.rounding.proofs.Caps.{Capped}
@@ -21,8 +19,8 @@ use Rattle.floats.specs.declared.b2_math.B2vec2.{B2vec2}
 use Rattle.floats.specs.declared.b2_math.B2Transform.{B2Transform}
 use Rattle.floats.specs.B2Common.{b2-polygon-radius}
 use Rattle.floats.specs.B2Math.{b2-mul-rot-by-vec2, b2-mul-transform-by-vec2, b2-mul-t-transform-by-vec2}
-use Rattle.floats.specs.Ranges.{vec2-within, local-normal-in-range, contact-point-in-range}
-use Rattle.floats.proofs.RangeValue.{Limit, vec2-limit, local-normal-limit-is, contact-limit-is}
+use Rattle.floats.specs.Ranges.{local-normal-in-range, contact-point-in-range}
+use Rattle.floats.proofs.RangeValue.{capped-vec2, local-normal-limit-is, contact-limit-is}
 use Rattle.shape_definitions.specs.declared.b2_polygon_shape.B2polygonShape.{B2polygonShape}
 use Rattle.contact_definitions.specs.declared.b2_collision.B2manifold.{B2manifold}
 use Rattle.contact_definitions.specs.declared.b2_collision.B2manifoldPoint.{B2manifoldPoint}
@@ -42,27 +40,22 @@ use Rattle.grid_contacts.proofs.NormalVec.{Coordinate}
 use Rattle.grid_contacts.proofs.FaceNormal.{carried-face}
 use Rattle.grid_contacts.proofs.PlacedOutline.{outline-place, placed-face}
 use Rattle.grid_contacts.proofs.Middle.{middle-metres, local-middle, placed-middle}
-use Rattle.grid_contacts.proofs.ReferenceFace.{begin-grid, end-grid, local-normal, local-normal-vec, world-normal}
+use Rattle.grid_contacts.proofs.ReferenceFace.{begin-grid, end-grid, local-normal, local-normal-vec}
 use Rattle.grid_contacts.proofs.ReferenceFace.{world-normal-vec, world-normal-is}
 use Rattle.grid_contacts.proofs.WorldSeparation.{Separated}
-use Rattle.grid_contacts.proofs.ManifoldPoint.{local-metres, near-face, local-capped, point-near, point-separation}
+use Rattle.grid_contacts.proofs.ManifoldPoint.{local-metres, near-face, local-capped, point-near}
+use Rattle.grid_contacts.proofs.ManifoldPoint.{point-separation}
 use Rattle.grid_contacts.proofs.FaceManifold.{Made, incident, incident-in, incident-face, incident-most}
 
--- ---- sizes and ranges
-capped-in-range : {limit : Float} {v : B2vec2} {most : ℕ} (h : ℕ) → Limit limit most → T (leb h most) → Capped (v .x) h
-    → Capped (v .y) h → T (vec2-within limit v)
-capped-in-range {limit} {v} {most} h limit-is low x-cap y-cap =
-    vec2-limit limit-is (x-cap .own) (y-cap .own)
-    (abs-widen (val (v .x)) (h * metre) (most * metre) (x-cap .cap) (mul-le-mul-right metre (leb→le h most low)))
-    (abs-widen (val (v .y)) (h * metre) (most * metre) (y-cap .cap) (mul-le-mul-right metre (leb→le h most low)))
-
+-- a coordinate of a normal is at most 2 m
 coordinate-capped : {x : Float} → Coordinate x → Capped x 2
 coordinate-capped {x} c = record { own = c .own; cap = two (val x) (c .most) }
   where
     two : (v : Z) → Abs v normal-bound → Abs v (2 * metre)
     two v h = omega (arith, metre-ticks)
 
--- a separation as the definition has it, from the local normal n and point p of a manifold and the local point of an end
+-- a separation as the definition has it, from the local normal n and point p of a manifold and the local point of an
+-- end
 abbrev face-separation : B2Transform → Float → B2Transform → Float → B2vec2 → B2vec2 → B2vec2 → Float
 face-separation xf1 radius1 xf2 radius2 n p local =
     plane-separation (b2-mul-rot-by-vec2 (xf1 .q) n) (b2-mul-transform-by-vec2 xf1 p) radius1 radius2
@@ -70,7 +63,8 @@ face-separation xf1 radius1 xf2 radius2 n p local =
 
 -- ---- points made over face `edge` of outline 1
 module _ {xf1 xf2 : B2Transform} (g1 : GridPlacement xf1) (g2 : GridPlacement xf2) (poly1 poly2 : B2polygonShape)
-    (o1 : GridOutline poly1) (o2 : GridOutline poly2) (edge : ℕ) (edge-in : edge < poly1 .«m_count») {old m : B2manifold}
+    (o1 : GridOutline poly1) (o2 : GridOutline poly2) (edge : ℕ) (edge-in : edge < poly1 .«m_count»)
+    {old m : B2manifold}
     (M : Made (incident-face g1 g2 poly1 poly2 o1 o2 edge edge-in) poly1 edge xf2 old m) where
   abbrev corners1 : List Point
   corners1 = placed-corners g1 poly1
@@ -96,8 +90,7 @@ module _ {xf1 xf2 : B2Transform} (g1 : GridPlacement xf1) (g2 : GridPlacement xf
       let i = incident g1 g2 poly1 poly2 o1 o2 edge edge-in in
       let i-in = incident-in g1 g2 poly1 poly2 o1 o2 edge edge-in in
       let near = near-face (point-near g2 (incident-most g1 g2 poly1 poly2 o1 o2 edge edge-in) (end .near)) in
-      subst (λ (v : B2vec2). NearBoundary point-tolerance corners2 (carried g2 (value-point v))) (sym (end .is))
-      (
+      subst (λ (v : B2vec2). NearBoundary point-tolerance corners2 (carried g2 (value-point v))) (sym (end .is)) (
         i,
         outline-place g2 poly2 o2 i i-in,
         subst (λ (f : Face). NearFace point-tolerance (carried g2 (value-point (local-of (end .v)))) f)
@@ -148,7 +141,7 @@ module _ {xf1 xf2 : B2Transform} (g1 : GridPlacement xf1) (g2 : GridPlacement xf
   normal-in-range =
       let vec = local-normal-vec g1 poly1 o1 edge edge-in in
       subst (λ (v : B2vec2). T (local-normal-in-range v)) (sym (M .normal-is))
-      (capped-in-range {v = local-normal g1 poly1 o1 edge edge-in} 2 local-normal-limit-is tt
+      (capped-vec2 {v = local-normal g1 poly1 o1 edge edge-in} 2 local-normal-limit-is tt
       (coordinate-capped (vec .at-x)) (coordinate-capped (vec .at-y)))
 
   point-in-range : T (contact-point-in-range (m .«local_point»))
@@ -156,7 +149,7 @@ module _ {xf1 xf2 : B2Transform} (g1 : GridPlacement xf1) (g2 : GridPlacement xf
   point-in-range =
       let cap = local-middle (begin-grid g1 poly1 o1 edge edge-in) (end-grid g1 poly1 o1 edge edge-in) in
       subst (λ (v : B2vec2). T (contact-point-in-range v)) (sym (M .point-is))
-      (capped-in-range {v = face-middle poly1 edge} middle-metres contact-limit-is tt (cap .0) (cap .1))
+      (capped-vec2 {v = face-middle poly1 edge} middle-metres contact-limit-is tt (cap .0) (cap .1))
 
   local-in-range : (k : ℕ) → k < m .«point_count» → T (contact-point-in-range (local-at m k))
   unfolding contact-point-in-range
@@ -164,7 +157,7 @@ module _ {xf1 xf2 : B2Transform} (g1 : GridPlacement xf1) (g2 : GridPlacement xf
       let end = M .each k h in
       let cap = local-capped g2 (incident-most g1 g2 poly1 poly2 o1 o2 edge edge-in) (end .near) in
       subst (λ (v : B2vec2). T (contact-point-in-range v)) (sym (end .is))
-      (capped-in-range {v = local-of (end .v)} local-metres contact-limit-is tt (cap .0) (cap .1))
+      (capped-vec2 {v = local-of (end .v)} local-metres contact-limit-is tt (cap .0) (cap .1))
 
   pub made-in-range : T (manifold-in-range m)
   unfolding manifold-in-range
@@ -173,10 +166,12 @@ module _ {xf1 xf2 : B2Transform} (g1 : GridPlacement xf1) (g2 : GridPlacement xf
       (points-in-range (counted-points m))
       (yes-and (local-normal-in-range (m .«local_normal»)) (contact-point-in-range (m .«local_point»)) normal-in-range
       point-in-range)
-      (each-in-range (counted-points m) (λ k h. counted-in-range k (subst (λ (n : ℕ). k < n) (counted-length m (M .full)) h)))
+      (each-in-range (counted-points m)
+      (λ k h. counted-in-range k (subst (λ (n : ℕ). k < n) (counted-length m (M .full)) h)))
     where
       counted-in-range : (k : ℕ) → k < m .«point_count»
           → T (contact-point-in-range (getD (counted-points m) k default-point .«local_point»))
       counted-in-range k h =
-          subst (λ (p : B2manifoldPoint). T (contact-point-in-range (p .«local_point»))) (sym (counted-at m (M .full) k h))
+          subst (λ (p : B2manifoldPoint). T (contact-point-in-range (p .«local_point»)))
+          (sym (counted-at m (M .full) k h))
           (local-in-range k h)

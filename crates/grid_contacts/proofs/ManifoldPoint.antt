@@ -5,7 +5,7 @@ use mathlib.Core.Path.{_≡_, sym, ap, subst}
 use Prim.Native.Nat.{ℕ, _+_, _*_, _^_, _≤_, _<_}
 use native.Mathlib.Nat.{mul-le-mul}
 use native.Mathlib.Omega.{arith}
-use lib.Ieee.{Float, binary32, sub}
+use lib.Ieee.{Float}
 use Rattle.algebra.specs.Integer.{Z, whole, _⊞_, _⊟_, _⊠_, _⊛_, _≐_, _≼_, Abs}
 use Rattle.algebra.specs.Plane.{Point, SameVector, PointAbs, sum-of, from-to, dot}
 use Rattle.algebra.proofs.Integer.{same-trans}
@@ -19,6 +19,7 @@ use Rattle.floats.specs.declared.b2_math.B2vec2.{B2vec2}
 use Rattle.floats.specs.declared.b2_math.B2Transform.{B2Transform}
 use Rattle.floats.specs.B2Common.{b2-polygon-radius}
 use Rattle.floats.specs.B2Math.{b2-sub, b2-mul-rot-by-vec2, b2-mul-transform-by-vec2, b2-mul-t-transform-by-vec2}
+use Rattle.floats.proofs.Constants.{skin-is}
 use Rattle.floats.proofs.Vectors.{carry-is}
 use Rattle.contact_definitions.specs.WorldManifold.{plane-separation}
 use Rattle.grid.specs.Grid.{value-point}
@@ -31,7 +32,7 @@ use Rattle.grid_contacts.proofs.ExactTurns.{turn-exact, turn-back-exact
 use Rattle.grid_contacts.proofs.Placing.{point-capped}
 use Rattle.grid_contacts.proofs.NormalVec.{NormalVec}
 use Rattle.grid_contacts.proofs.FaceNormal.{outward, FaceNormal}
-use Rattle.grid_contacts.proofs.Skins.{skin-is, skins}
+use Rattle.grid_contacts.proofs.Skins.{skins}
 use Rattle.grid_contacts.proofs.Segment.{way, NearSegment, FaceAbs, near-size, near-moved}
 use Rattle.grid_contacts.proofs.Crossing.{corner-metres, end-metres, blend-error, VecNear, vec-capped}
 use Rattle.grid_contacts.proofs.Middle.{PlacedMiddle, from-middle}
@@ -72,7 +73,8 @@ near-face {k} {f} {c} h = record {
     go : (k : ℕ) (w : Point) → PointAbs w (k * point-error)
         → (4096 * 4096) ⊛ dot w w ≼ (k * k) ⊛ (whole metre ⊠ whole metre)
     go k w h =
-        joined (w .x ⊠ w .x) (w .y ⊠ w .y) k (k * point-error * (k * point-error)) (square (w .x) (k * point-error) (h .0))
+        joined (w .x ⊠ w .x) (w .y ⊠ w .y) k (k * point-error * (k * point-error))
+        (square (w .x) (k * point-error) (h .0))
         (square (w .y) (k * point-error) (h .1)) (fits (k * point-error) (k * metre) (room k))
 
 -- ---- the local point of a clipped end v near an edge e, in the frame of a placement
@@ -133,8 +135,7 @@ module _ {t : B2Transform} (g : GridPlacement t) {k : ℕ} {e : Face} (e-most : 
   -- ---- within a rounding of v, so near the edge
   pub point-near : NearSegment point-error k e point
   point-near =
-      near-moved point (2 ^ 4 * tick)
-      (
+      near-moved point (2 ^ 4 * tick) (
         close (turned (g .turn) (value-point local) .x) (val (d .x)) (val (v .x)) (val (t .p .x)) (turned-local .0)
             (x-sized .err),
         close (turned (g .turn) (value-point local) .y) (val (d .y)) (val (v .y)) (val (t .p .y)) (turned-local .1)
@@ -146,8 +147,8 @@ module _ {t : B2Transform} (g : GridPlacement t) {k : ℕ} {e : Face} (e-most : 
       close r d v o e h = omega arith
 
   -- ---- its world separation from the reference face f, whose world normal is n and plane point q
-  module _ (f : Face) {n q : B2vec2} (vec : NormalVec n) (N : FaceNormal f (value-point n)) (middle : PlacedMiddle f q)
-      where
+  module _ (f : Face) {n q : B2vec2} (vec : NormalVec n) (N : FaceNormal f (value-point n))
+      (middle : PlacedMiddle f q) where
     abbrev r : B2vec2
     r = b2-mul-rot-by-vec2 (t .q) local
 
@@ -183,9 +184,11 @@ module _ {t : B2Transform} (g : GridPlacement t) {k : ℕ} {e : Face} (e-most : 
     point-separation {r1} {r2} r1-is r2-is =
         let u = from-to (value-point q) sum in
         let skin : Capped b2-polygon-radius 1 = record { own = skin-is .own; cap = skins .small } in
-        rw (carry-is t local, r1-is, r2-is) (separation-near f point x-offset y-offset vec N skin skin
-        (apart (sum .x) (val (q .x)) (sum-most .0) (middle .x-cap .cap), apart (sum .y) (val (q .y)) (sum-most .1)
-        (middle .y-cap .cap))
+        rw (carry-is t local, r1-is, r2-is) (separation-near f point x-offset y-offset vec N skin skin (
+          apart (sum .x) (val (q .x)) (sum-most .0) (middle .x-cap .cap),
+          apart (sum .y) (val (q .y)) (sum-most .1)
+              (middle .y-cap .cap),
+        )
         (same-trans (dot (outward f) u) (dot (outward f) (from-to (value-point q) point)) (off-line f point)
         (dot-same (outward f) (outward f) u (from-to (value-point q) point) (vector-refl (outward f))
         (without sum point (value-point q) sum-is)) (from-middle f (value-point q) point (middle .halfway)))

@@ -1,6 +1,6 @@
 -- b2_find_max_separation of two placed grid outlines: a face whose separation is, within 2^-16 m, the number found, and
 -- no face of that outline has a separation more than 2^-16 m above it. Assumes nothing.
-use mathlib.Core.Path.{_≡_, refl, sym, subst}
+use mathlib.Core.Path.{_≡_, sym, subst}
 use mathlib.Core.List.{List}
 use Prim.Native.Nat.{ℕ, _+_, _*_, _≤_, _<_}
 use native.Mathlib.Omega.{arith}
@@ -18,7 +18,6 @@ use Rattle.floats.specs.B2Common.{b2-max-float}
 use Rattle.floats.specs.B2Math.{b2-mul-t-transform}
 use Rattle.shape_definitions.specs.declared.b2_polygon_shape.B2polygonShape.{B2polygonShape}
 use Rattle.contact_definitions.specs.declared.axis.Best.{Best}
-use Rattle.contact_definitions.specs.Searches.{least, first-greatest}
 use Rattle.contact_definitions.specs.B2CollidePolygon.{face-separation, b2-find-max-separation}
 use Rattle.contact_definitions.proofs.Extremes.{Least, least-found, Greatest, greatest-found}
 use Rattle.grid.specs.GridOutline.{GridOutline}

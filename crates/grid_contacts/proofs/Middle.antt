@@ -9,9 +9,10 @@ use lib.Ieee.{Float, binary32, add, mul}
 use Rattle.algebra.specs.Integer.{Z, whole, _⊞_, _⊠_, _⊛_, _≐_, Abs}
 use Rattle.algebra.specs.Plane.{Point, SameVector, PointAbs, sum-of, from-to, dot}
 use Rattle.algebra.specs.Polynomial.{Expr, neg, _:+_, _:-_, _:*_}
-use Rattle.algebra.proofs.Integer.{same-sym, same-trans}
+use Rattle.algebra.proofs.Integer.{same-trans}
 use Rattle.algebra.proofs.Magnitude.{abs-widen, abs-scale, abs-unscale, abs-sum}
-use Rattle.algebra.proofs.Plane.{PointExpr, point₀, point₁, point₂, from-to-expr, dot-expr, coordinates, vector-refl, dot-same}
+use Rattle.algebra.proofs.Plane.{PointExpr, point₀, point₁, point₂, from-to-expr, dot-expr, coordinates, vector-refl}
+use Rattle.algebra.proofs.Plane.{dot-same}
 use Rattle.algebra.proofs.Ring.{ring}
 use Rattle.rounding.specs.Value.{metre, F32, val}
 use Rattle.rounding.specs.Literals.{half32}
@@ -26,7 +27,7 @@ use Rattle.grid.specs.Grid.{grid-limit, GridNumber, GridPoint, value-point}
 use Rattle.grid.proofs.Exact.{steps-dyadic, counts}
 use Rattle.grid.proofs.Limits.{vector-limit}
 use Rattle.grid_contacts.specs.Placement.{QuarterTurn, unturned, to-left, about, to-right, turned}
-use Rattle.grid_contacts.specs.Placement.{GridPlacement, carried}
+use Rattle.grid_contacts.specs.Placement.{GridPlacement}
 use Rattle.grid_contacts.specs.Faces.{Face, off-line}
 use Rattle.grid_contacts.proofs.Turns.{turned-abs, turned-multiple}
 use Rattle.grid_contacts.proofs.ExactTurns.{turn-exact}
@@ -43,10 +44,12 @@ abbrev outward-expr : PointExpr
 outward-expr = (point₁ .1 :- point₀ .1, neg (point₁ .0 :- point₀ .0))
 
 abbrev off-line-expr : Expr
-off-line-expr = (point₁ .1 :- point₀ .1) :* (point₂ .0 :- point₀ .0) :- (point₁ .0 :- point₀ .0) :* (point₂ .1 :- point₀ .1)
+off-line-expr =
+    (point₁ .1 :- point₀ .1) :* (point₂ .0 :- point₀ .0) :- (point₁ .0 :- point₀ .0) :* (point₂ .1 :- point₀ .1)
 
 abbrev doubled-expr : PointExpr
-doubled-expr = from-to-expr (point₀ .0 :+ point₁ .0, point₀ .1 :+ point₁ .1) (point₂ .0 :+ point₂ .0, point₂ .1 :+ point₂ .1)
+doubled-expr =
+    from-to-expr (point₀ .0 :+ point₁ .0, point₀ .1 :+ point₁ .1) (point₂ .0 :+ point₂ .0, point₂ .1 :+ point₂ .1)
 
 twice-off-line : (f : Face) (c : Point)
     → dot (outward f) (from-to (sum-of (f .begin) (f .end)) (sum-of c c)) ≐ off-line f c ⊞ off-line f c
@@ -54,7 +57,8 @@ twice-off-line f c =
     ring (dot-expr outward-expr doubled-expr) (off-line-expr :+ off-line-expr)
     (coordinates (f .begin ∷ f .end ∷ c ∷ [])) tt
 
-pub from-middle : (f : Face) (m c : Point) → Halfway m (f .begin) (f .end) → dot (outward f) (from-to m c) ≐ off-line f c
+pub from-middle : (f : Face) (m c : Point) → Halfway m (f .begin) (f .end)
+    → dot (outward f) (from-to m c) ≐ off-line f c
 from-middle f m c half =
     let u = from-to m c in
     let w = from-to (sum-of (f .begin) (f .end)) (sum-of c c) in
@@ -198,7 +202,8 @@ module _ {p q : B2vec2} (p-grid : GridPoint p) (q-grid : GridPoint q) where
     placed =
         let r = b2-mul-rot-by-vec2 (t .q) m in
         let r-exact = turn-exact (g .turning) (half-x .dyadic .own) (half-y .dyadic .own) in
-        let turned-m = turned-multiple (g .turn) (2 ^ 9) metre (value-point m) k (half-x .dyadic .is, half-y .dyadic .is) in
+        let turned-m =
+        turned-multiple (g .turn) (2 ^ 9) metre (value-point m) k (half-x .dyadic .is, half-y .dyadic .is) in
         let turned-most = turned-abs (g .turn) k vector-limit k-most in
         let turned-k = turned (g .turn) k in
         let x = placed-half (turned-k .x) (record {

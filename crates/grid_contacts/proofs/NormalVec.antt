@@ -33,12 +33,6 @@ pub record NormalVec (n : B2vec2) : Type 0 where
   pub at-y : Coordinate (n .y)
 
 -- ---- negated, and turned by a quarter turn
-pub opposite-cap : {x : Float} {h : ℕ} → Capped x h → Capped (neg x) h
-opposite-cap {x} {h} x-cap = record {
-  own = neg-f32 (x-cap .own);
-  cap = rw (val-neg x) (abs-opposite (val x) (h * metre) (x-cap .cap));
-}
-
 opposite-coordinate : {x : Float} → Coordinate x → Coordinate (neg x)
 opposite-coordinate {x} c = record {
   own = neg-f32 (c .own);
@@ -81,7 +75,8 @@ module _ (k h : ℕ) {n v : B2vec2} (k-low : T (leb (1 + k) 127)) (low : T (leb 
   pub normal-dot : DotNear (b2-dot n v) (dot (value-point n) (value-point v)) k (h + 1)
   unfolding b2-dot
   normal-dot =
-      dot-near k (h + 1) k-low low few (vec .at-x .own) (vec .at-y .own) (x-cap .own) (y-cap .own) normal-bound (h * metre)
+      dot-near k (h + 1) k-low low few (vec .at-x .own) (vec .at-y .own) (x-cap .own) (y-cap .own) normal-bound
+      (h * metre)
       (vec .at-x .most) (vec .at-y .most) (x-cap .cap) (y-cap .cap) (turned-round (room h small))
     where
       turned-round : h * metre * normal-bound ≤ (h + 1) * (metre * metre)
@@ -91,7 +86,8 @@ module _ (k h : ℕ) {n v : B2vec2} (k-low : T (leb (1 + k) 127)) (low : T (leb 
   pub dot-normal : DotNear (b2-dot v n) (dot (value-point v) (value-point n)) k (h + 1)
   unfolding b2-dot
   dot-normal =
-      dot-near k (h + 1) k-low low few (x-cap .own) (y-cap .own) (vec .at-x .own) (vec .at-y .own) (h * metre) normal-bound
+      dot-near k (h + 1) k-low low few (x-cap .own) (y-cap .own) (vec .at-x .own) (vec .at-y .own) (h * metre)
+      normal-bound
       (x-cap .cap) (y-cap .cap) (vec .at-x .most) (vec .at-y .most) (room h small)
 
 pub dot-capped : {z : Float} {v : Z} {k h : ℕ} → DotNear z v k h → Capped z (2 * h)

@@ -46,7 +46,8 @@ module _ {t : B2Transform} (g : GridPlacement t) (shape : B2polygonShape) (outli
   placed-at i inside =
       getD-within corners i (value-point origin) (carried g (value-point origin)) (outline-place i inside)
       ∙ List·getD-map (carried g) (values (take n vs)) i (value-point origin)
-      ∙ ap (carried g) (List·getD-map value-point (take n vs) i origin ∙ ap value-point (getD-take n vs i origin inside))
+      ∙ ap (carried g)
+      (List·getD-map value-point (take n vs) i origin ∙ ap value-point (getD-take n vs i origin inside))
 
   pub placed-face : (i : ℕ) → i < n
       → face-at corners i ≡ carried-face g (point-at vs i) (point-at vs (place-after n i))

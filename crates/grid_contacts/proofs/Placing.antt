@@ -1,12 +1,11 @@
 -- Grid points, turned by quarters, added, subtracted and carried by placements on the grid, stay on the grid and are
 -- exact in f32; and so is a corner of outline 1 seen from the frame of outline 2, as b2_find_max_separation sees it.
 -- Assumes nothing.
-use mathlib.Core.Path.{_≡_}
 use Prim.Native.Nat.{ℕ, _+_, _*_, _^_}
 use native.Mathlib.Omega.{arith}
 use lib.Dec.{T, leb}
 use lib.Ieee.{binary32, add, sub}
-use Rattle.algebra.specs.Integer.{Z, _⊞_, _⊟_, _⊛_, _≐_}
+use Rattle.algebra.specs.Integer.{_⊞_, _⊟_, _⊛_}
 use Rattle.algebra.specs.Plane.{Point, SameVector, sum-of, from-to}
 use Rattle.algebra.proofs.Integer.{same-trans, sum-same, difference-same, multiple-same}
 use Rattle.algebra.proofs.Plane.{vector-refl, vector-trans}

@@ -2,12 +2,11 @@
 -- 0.02 + 1/4096 m off; and the face of the reference outline is within 1/1024 m of the largest separation. Assumes
 -- nothing.
 use mathlib.Core.List.{List}
-use Prim.Native.Nat.{ℕ, _+_, _*_}
 use native.Mathlib.Omega.{arith}
 use lib.Dec.{lit≤}
 use Rattle.algebra.specs.Integer.{Z, whole, _⊞_, _⊟_, _≼_}
 use Rattle.algebra.specs.Plane.{Point}
-use Rattle.rounding.specs.Value.{metre, val}
+use Rattle.rounding.specs.Value.{val}
 use Rattle.rounding.proofs.Value.{metre-ticks}
 use Rattle.contact_definitions.specs.declared.axis.Best.{Best}
 use Rattle.grid_contacts.specs.Lengths.{exactly, _plus_, both-skins, point-tolerance, choice-tolerance}

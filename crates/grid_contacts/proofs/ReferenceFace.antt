@@ -1,7 +1,7 @@
 -- The reference face of a placed grid outline, as b2_collide_polygons works it out: its tangent and its normal, in the
 -- outline's frame and in the world, and its two side planes as lines to clip to. Assumes nothing.
 use mathlib.Core.Path.{_≡_, ap}
-use Prim.Native.Nat.{ℕ, _+_, _-_, _*_, _^_, _≤_, _<_}
+use Prim.Native.Nat.{ℕ, _-_, _*_, _^_, _≤_, _<_}
 use native.Mathlib.Nat.{mul-pos}
 use native.Mathlib.Omega.{arith}
 use Rattle.algebra.specs.Integer.{Z, whole, _⊞_, _⊟_, _⊠_, opp, _≐_}
@@ -12,7 +12,7 @@ use Rattle.rounding.specs.Value.{val}
 use Rattle.rounding.specs.Literals.{one32}
 use Rattle.floats.specs.declared.b2_math.B2vec2.{B2vec2}
 use Rattle.floats.specs.declared.b2_math.B2Transform.{B2Transform}
-use Rattle.floats.specs.B2Math.{b2-cross-vec-by-scalar, b2-mul-rot-by-vec2, b2-mul-transform-by-vec2}
+use Rattle.floats.specs.B2Math.{b2-cross-vec-by-scalar, b2-mul-rot-by-vec2}
 use Rattle.shape_definitions.specs.declared.b2_polygon_shape.B2polygonShape.{B2polygonShape}
 use Rattle.shape_definitions.specs.Outline.{point-at, place-after}
 use Rattle.shape_definitions.proofs.Edges.{after-in}
@@ -24,12 +24,13 @@ use Rattle.grid.proofs.Tests.{side-steps, side-is}
 use Rattle.grid.proofs.Edges.{some-steps}
 use Rattle.grid.proofs.Normalise.{normalised}
 use Rattle.grid.proofs.Normals.{turned-exact}
-use Rattle.grid_contacts.specs.Placement.{GridPlacement, turned, carried}
+use Rattle.grid_contacts.specs.Placement.{GridPlacement, turned}
 use Rattle.grid_contacts.proofs.Turns.{turned-same}
 use Rattle.grid_contacts.proofs.ExactTurns.{turn-exact}
 use Rattle.grid_contacts.proofs.Placing.{point-capped, carry-exact}
 use Rattle.grid_contacts.proofs.NormalVec.{NormalVec, turned-vec}
-use Rattle.grid_contacts.proofs.FaceNormal.{unit-same, unit-turned, right-of, unit-right, carried-face, FaceNormal}
+use Rattle.grid_contacts.proofs.FaceNormal.{unit-same, unit-turned, right-of, unit-right, carried-face}
+use Rattle.grid_contacts.proofs.FaceNormal.{FaceNormal}
 use Rattle.grid_contacts.proofs.FaceNormal.{face-normal, outward-turned}
 use Rattle.grid_contacts.proofs.Skins.{two-skins, two-skins-is, total-skin}
 use Rattle.grid_contacts.proofs.Crossing.{corner-metres}

@@ -91,4 +91,5 @@ module _ (d s : Z) (l t k : ℕ) (root : RelativeSquare t (l * l)) (l-pos : 0 < 
 
   pub root-at-least : OverRootLe (opp d) t (opp (s ⊟ whole off)) 1
   root-at-least =
-      at-most-of-length (opp d) (opp (s ⊟ whole off)) l t root l-pos (abs-opposite d (root-reach l) d-most) (omega arith)
+      at-most-of-length (opp d) (opp (s ⊟ whole off)) l t root l-pos (abs-opposite d (root-reach l) d-most)
+      (omega arith)

@@ -113,7 +113,8 @@ weighted : (d k a b s0 t0 s1 t1 : ℕ) (p q x0 x1 x : Z)
     → (d * k) ⊛ x ⊟ ((b * s0 + a * s1) ⊛ p ⊞ (b * t0 + a * t1) ⊛ q)
     ≐ b ⊛ (k ⊛ x0 ⊟ (s0 ⊛ p ⊞ t0 ⊛ q)) ⊞ a ⊛ (k ⊛ x1 ⊟ (s1 ⊛ p ⊞ t1 ⊛ q)) ⊞ k ⊛ (d ⊛ x ⊟ (b ⊛ x0 ⊞ a ⊛ x1))
 weighted d k a b s0 t0 s1 t1 p q x0 x1 x =
-    replaced ((d * k) ⊛ x) ((b * s0 + a * s1) ⊛ p ⊞ (b * t0 + a * t1) ⊛ q) (b ⊛ (s0 ⊛ p ⊞ t0 ⊛ q) ⊞ a ⊛ (s1 ⊛ p ⊞ t1 ⊛ q))
+    replaced ((d * k) ⊛ x) ((b * s0 + a * s1) ⊛ p ⊞ (b * t0 + a * t1) ⊛ q)
+    (b ⊛ (s0 ⊛ p ⊞ t0 ⊛ q) ⊞ a ⊛ (s1 ⊛ p ⊞ t1 ⊛ q))
     (b ⊛ (k ⊛ x0 ⊟ (s0 ⊛ p ⊞ t0 ⊛ q)) ⊞ a ⊛ (k ⊛ x1 ⊟ (s1 ⊛ p ⊞ t1 ⊛ q)) ⊞ k ⊛ (d ⊛ x ⊟ (b ⊛ x0 ⊞ a ⊛ x1)))
     (weights p q) (ways (s0 ⊛ p ⊞ t0 ⊛ q) (s1 ⊛ p ⊞ t1 ⊛ q))
   where

@@ -1,93 +1,38 @@
--- Demand 3, second sentence, of two grid outlines with the default skin on grid placements: the call finds no point, or
--- points over a face of A, or points over a face of B; and what each gives. Assumes nothing.
+-- Demand 3, second sentence, of two grid outlines with the default skin on grid placements: what the two calls answer
+-- on each way out of the first. Assumes nothing.
 use mathlib.Core.Path.{_≡_, refl, sym, ap, _∙_, subst}
-use mathlib.Core.Logic.{_⊎_, inl, inr}
 use mathlib.Core.List.{List}
-use mathlib.Core.Bool.{Bool, true, false, not, cond}
 use Prim.Native.Nat.{ℕ, zero, suc, _≤_, _<_}
 use native.Mathlib.Omega.{arith}
 use lib.Dec.{T}
-use lib.Ieee.{Float, binary32, add, lt}
-use Rattle.algebra.specs.Integer.{whole, _⊞_, _≼_}
+use lib.Ieee.{Float}
 use Rattle.algebra.specs.Plane.{Point}
-use Rattle.rounding.specs.Value.{val}
 use Rattle.floats.specs.declared.b2_math.B2Transform.{B2Transform}
 use Rattle.floats.specs.B2Common.{b2-polygon-radius}
 use Rattle.floats.specs.Ranges.{radius-in-range}
+use Rattle.floats.proofs.Constants.{skin-in-range}
 use Rattle.shape_definitions.specs.declared.b2_polygon_shape.B2polygonShape.{B2polygonShape}
-use Rattle.shape_definitions.specs.Refusal.{accepted}
-use Rattle.shape_definitions.specs.Outline.{point-at}
-use Rattle.contact_definitions.specs.declared.axis.Best.{Best}
-use Rattle.contact_definitions.specs.declared.axis.Axis.{Axis}
-use Rattle.contact_definitions.specs.declared.axis.Axis.the-variants.{Apart}
-use Rattle.contact_definitions.specs.declared.b2_collision.B2contactId.{B2contactId}
 use Rattle.contact_definitions.specs.declared.b2_collision.B2manifold.{B2manifold}
 use Rattle.contact_definitions.specs.declared.b2_collision.B2manifoldType.{B2manifoldType}
 use Rattle.contact_definitions.specs.declared.b2_collision.B2manifoldType.the-variants.{EFaceA, EFaceB}
 use Rattle.contact_definitions.specs.declared.b2_collision.B2worldManifold.{B2worldManifold}
 use Rattle.contact_definitions.specs.declared.b2_collision.ManifoldAnswer.{ManifoldAnswer}
 use Rattle.contact_definitions.specs.declared.b2_collision.WorldAnswer.{WorldAnswer}
-use Rattle.contact_definitions.specs.Axis.{face-a, face-b}
-use Rattle.contact_definitions.specs.Manifold.{swapped-id, with-count, with-kind, manifold-accepted}
-use Rattle.contact_definitions.specs.B2CollidePolygon.{b2-find-max-separation, tolerance, axis-of, polygons-axis}
-use Rattle.contact_definitions.specs.B2CollidePolygon.{outline-manifold, manifold-on, polygons-manifold}
+use Rattle.contact_definitions.specs.Manifold.{with-count, manifold-accepted}
+use Rattle.contact_definitions.specs.B2CollidePolygon.{polygons-manifold}
 use Rattle.contact_definitions.specs.B2CollidePolygon.{b2-collide-polygons}
-use Rattle.contact_definitions.specs.WorldManifold.{world-of-face, world-of-kind, manifold-in-range, world-accepted}
+use Rattle.contact_definitions.specs.WorldManifold.{world-of-kind, manifold-in-range, world-accepted}
 use Rattle.contact_definitions.specs.WorldManifold.{b2-world-manifold-initialize}
 use Rattle.contact_definitions.proofs.WorldPoints.{no-points-answer, points-answer}
 use Rattle.contact_definitions.proofs.Theorem.{polygons-count-and-kind}
 use Rattle.grid.specs.GridOutline.{GridOutline}
-use Rattle.grid.proofs.ContactRanges.{skin-in-range, Taken, grid-taken, polygons-accepted}
+use Rattle.grid.proofs.ContactRanges.{Taken, grid-taken, polygons-accepted}
 use Rattle.grid_contacts.specs.Placement.{GridPlacement, placed-corners}
-use Rattle.grid_contacts.specs.Faces.{face-at}
-use Rattle.grid_contacts.specs.SecondSentence.{KeepsOff, NearLargest, Touching, Reported, by-face-a, by-face-b}
+use Rattle.grid_contacts.specs.SecondSentence.{Reported, by-face-a, by-face-b}
 use Rattle.grid_contacts.specs.SecondSentence.{SecondSentence, SecondSentenceOf}
-use Rattle.grid_contacts.proofs.PlacedOutline.{row-place}
-use Rattle.grid_contacts.proofs.MaxSeparation.{MaxFace, max-face}
-use Rattle.grid_contacts.proofs.Skins.{two-skins, WithinSkins, in-reach, choice-error, a-is-reference}
-use Rattle.grid_contacts.proofs.Skins.{b-is-reference}
-use Rattle.grid_contacts.proofs.Reach.{not-kept-off, near-largest}
-use Rattle.grid_contacts.proofs.FaceManifold.{Made, Outcome, unchanged, made, incident-face, face-outcome}
-use Rattle.grid_contacts.proofs.MadePoints.{made-touching, made-in-range}
+use Rattle.grid_contacts.proofs.Skins.{two-skins}
 use Rattle.grid_contacts.proofs.PlacementRange.{placement-in-range}
-
--- ---- the manifold of a reference face of outline 1, made of one that counts no point
-module _ {xf1 xf2 : B2Transform} (g1 : GridPlacement xf1) (g2 : GridPlacement xf2) (poly1 poly2 : B2polygonShape)
-    (o1 : GridOutline poly1) (o2 : GridOutline poly2) (skin1 : poly1 .«m_radius» ≡ b2-polygon-radius)
-    (skin2 : poly2 .«m_radius» ≡ b2-polygon-radius) (kind : B2manifoldType) (is-b : Bool) where
-  -- what holds of m where it counts points
-  record Pointed (m : B2manifold) : Type 0 where
-    kind-is : m .«manifold_type» ≡ kind
-    in-range : T (manifold-in-range m)
-    touching : (old-world : B2worldManifold)
-        → Touching (placed-corners g1 poly1) (placed-corners g2 poly2) g2 m
-        (world-of-face is-b old-world m xf1 (poly1 .«m_radius») xf2 (poly2 .«m_radius»))
-
-  data Found (m : B2manifold) : Type 0 where
-    nothing : m .«point_count» ≡ 0 → Found m
-    points : Pointed m → Found m
-
-  abbrev edge : ℕ
-  edge = b2-find-max-separation poly1 xf1 poly2 xf2 .place
-
-  found : (edge-in : edge < poly1 .«m_count») (old : B2manifold) (named : B2contactId → B2contactId)
-      → old .«point_count» ≡ 0 → NearLargest (placed-corners g1 poly1) (placed-corners g2 poly2)
-      (face-at (placed-corners g1 poly1) edge)
-      → Found (outline-manifold (with-kind old kind) named two-skins poly1 xf1 edge poly2 xf2)
-  unfolding with-kind
-  found edge-in old named none largest =
-      go (face-outcome g1 g2 poly1 poly2 o1 o2 edge edge-in (with-kind old kind) named)
-    where
-      m : B2manifold
-      m = outline-manifold (with-kind old kind) named two-skins poly1 xf1 edge poly2 xf2
-
-      go : Outcome (incident-face g1 g2 poly1 poly2 o1 o2 edge edge-in) poly1 edge xf2 (with-kind old kind) m → Found m
-      go (unchanged same) = nothing (ap (λ (x : B2manifold). x .«point_count») same ∙ none)
-      go (made M) = points (record {
-        kind-is = M .kind-kept;
-        in-range = made-in-range g1 g2 poly1 poly2 o1 o2 edge edge-in M;
-        touching = λ old-world. made-touching g1 g2 poly1 poly2 o1 o2 edge edge-in M skin1 skin2 is-b old-world largest;
-      })
+use Rattle.grid_contacts.proofs.Ways.{InReach, never-off, Way, no-points, over-a, over-b, way-out}
 
 -- ---- the two outlines
 module _ (A B : B2polygonShape) {xfA xfB : B2Transform} (gA : GridPlacement xfA) (gB : GridPlacement xfB)
@@ -99,71 +44,8 @@ module _ (A B : B2polygonShape) {xfA xfB : B2Transform} (gA : GridPlacement xfA)
   abbrev cornersB : List Point
   cornersB = placed-corners gB B
 
-  abbrev a : Best
-  a = b2-find-max-separation A xfA B xfB
-
-  abbrev b : Best
-  b = b2-find-max-separation B xfB A xfA
-
-  found-a : MaxFace cornersA cornersB a
-  found-a = max-face gA gB A B oA oB
-
-  found-b : MaxFace cornersB cornersA b
-  found-b = max-face gB gA B A oB oA
-
-  -- neither search found more than the skins
-  record InReach : Type 0 where
-    of-a : WithinSkins (val (a .value))
-    of-b : WithinSkins (val (b .value))
-
-  never-off : InReach → KeepsOff cornersA cornersB ⊎ KeepsOff cornersB cornersA → ⊥
-  never-off reach (inl off) = not-kept-off found-a (reach .of-a) off
-  never-off reach (inr off) = not-kept-off found-b (reach .of-b) off
-
-  -- ---- the ways out of the call
-  data Way (m : B2manifold) : Type 0 where
-    no-points : m .«point_count» ≡ 0 → Way m
-    over-a : InReach → Pointed gA gB A B oA oB skinA skinB EFaceA false m → Way m
-    over-b : InReach → Pointed gB gA B A oB oA skinB skinA EFaceB true m → Way m
-
-  way-out : (old : B2manifold) → old .«point_count» ≡ 0 → Way (polygons-manifold old two-skins A xfA B xfB)
-  unfolding polygons-manifold polygons-axis axis-of
-  way-out old none =
-      go (lt two-skins (a .value)) (lt two-skins (b .value)) (lt (add binary32 (a .value) tolerance) (b .value))
-      (in-reach (a .value) (found-a .capped .own)) (in-reach (b .value) (found-b .capped .own))
-      (a-is-reference (found-a .capped) (found-b .capped)) (b-is-reference (found-a .capped) (found-b .capped))
-    where
-      axis-a : Axis
-      axis-a = face-a (a .value) (point-at (A .«m_normals») (a .place)) (a .place)
-
-      axis-b : Axis
-      axis-b = face-b (b .value) (point-at (B .«m_normals») (b .place)) (b .place)
-
-      way-a : InReach → Found gA gB A B oA oB skinA skinB EFaceA false (manifold-on axis-a old two-skins A xfA B xfB)
-          → Way (manifold-on axis-a old two-skins A xfA B xfB)
-      way-a reach (nothing is-zero) = no-points is-zero
-      way-a reach (points h) = over-a reach h
-
-      way-b : InReach → Found gB gA B A oB oA skinB skinA EFaceB true (manifold-on axis-b old two-skins A xfA B xfB)
-          → Way (manifold-on axis-b old two-skins A xfA B xfB)
-      way-b reach (nothing is-zero) = no-points is-zero
-      way-b reach (points h) = over-b reach h
-
-      go : (s t u : Bool) → (T (not s) → WithinSkins (val (a .value))) → (T (not t) → WithinSkins (val (b .value)))
-          → (T (not u) → val (b .value) ≼ val (a .value) ⊞ whole choice-error)
-          → (T u → val (a .value) ≼ val (b .value) ⊞ whole choice-error)
-          → Way (manifold-on (cond s (Apart (a .value)) (cond t (Apart (b .value)) (cond u axis-b axis-a))) old two-skins A
-          xfA B xfB)
-      go true t u of-a of-b a-first b-first = no-points none
-      go false true u of-a of-b a-first b-first = no-points none
-      go false false true of-a of-b a-first b-first =
-          way-b (record { of-a = of-a tt; of-b = of-b tt })
-          (found gB gA B A oB oA skinB skinA EFaceB true (row-place gB B oB (b .place) (found-b .inside)) old swapped-id none
-          (near-largest found-b found-a (b-first tt)))
-      go false false false of-a of-b a-first b-first =
-          way-a (record { of-a = of-a tt; of-b = of-b tt })
-          (found gA gB A B oA oB skinA skinB EFaceA false (row-place gA A oA (a .place) (found-a .inside)) old (λ id. id) none
-          (near-largest found-a found-b (a-first tt)))
+  abbrev WayOf : B2manifold → Type 0
+  WayOf = Way A B gA gB oA oB skinA skinB
 
   -- ---- what the calls answer
   abbrev world-of : B2worldManifold → B2manifold → WorldAnswer
@@ -187,34 +69,38 @@ module _ (A B : B2polygonShape) {xfA xfB : B2Transform} (gA : GridPlacement xfA)
     }
 
     -- the kind is k, and the points touch
-    some-answered : (k : B2manifoldType) → 0 < m .«point_count» → InReach → m .«manifold_type» ≡ k → T (manifold-in-range m)
+    some-answered : (k : B2manifoldType) → 0 < m .«point_count» → InReach A B gA gB oA oB skinA skinB
+        → m .«manifold_type» ≡ k
+        → T (manifold-in-range m)
         → Reported cornersA cornersB gA gB m (world-of-kind k old-world m xfA (A .«m_radius») xfB (B .«m_radius»))
         → Answered old-world (manifold-accepted m)
     some-answered k some reach kind-is in-range reported =
-        let world = points-answer old-world m xfA (A .«m_radius») xfB (B .«m_radius») few some in-range (radius-in skinA)
+        let world =
+        points-answer old-world m xfA (A .«m_radius») xfB (B .«m_radius») few some in-range (radius-in skinA)
         (radius-in skinB) (placement-in-range gA) (placement-in-range gB)
-        ∙ ap (λ (t : B2manifoldType). world-accepted (world-of-kind t old-world m xfA (A .«m_radius») xfB (B .«m_radius»)))
+        ∙ ap
+        (λ (t : B2manifoldType). world-accepted (world-of-kind t old-world m xfA (A .«m_radius») xfB (B .«m_radius»)))
         kind-is in
         record {
           contact-accepted = refl;
           world-accepted = ap (λ (w : WorldAnswer). w .refusal) world;
           at-most-two = few;
-          none-where-kept-off = λ off. absurd (never-off reach off);
+          none-where-kept-off = λ off. absurd (never-off A B gA gB oA oB skinA skinB reach off);
           where-reported = λ h. subst (λ (w : WorldAnswer). Reported cornersA cornersB gA gB m (w .world)) (sym world)
               reported;
         }
 
-    answered : Way m → Answered old-world (manifold-accepted m)
+    answered : WayOf m → Answered old-world (manifold-accepted m)
     answered way = by-count (m .«point_count») refl way
       where
-        of-way : 0 < m .«point_count» → Way m → Answered old-world (manifold-accepted m)
+        of-way : 0 < m .«point_count» → WayOf m → Answered old-world (manifold-accepted m)
         of-way some (no-points none) = none-answered none
         of-way some (over-a reach h) =
             some-answered EFaceA some reach (h .kind-is) (h .in-range) (by-face-a (h .kind-is) (h .touching old-world))
         of-way some (over-b reach h) =
             some-answered EFaceB some reach (h .kind-is) (h .in-range) (by-face-b (h .kind-is) (h .touching old-world))
 
-        by-count : (n : ℕ) → m .«point_count» ≡ n → Way m → Answered old-world (manifold-accepted m)
+        by-count : (n : ℕ) → m .«point_count» ≡ n → WayOf m → Answered old-world (manifold-accepted m)
         by-count zero is way = none-answered is
         by-count (suc n) is way = of-way (omega arith) way
 
@@ -226,15 +112,19 @@ module _ (A B : B2polygonShape) {xfA xfB : B2Transform} (gA : GridPlacement xfA)
   taken-b = grid-taken B oB (oB .in-range (radius-in skinB))
 
   contact-is : (old : B2manifold)
-      → b2-collide-polygons old A xfA B xfB ≡ manifold-accepted (polygons-manifold (with-count old 0) two-skins A xfA B xfB)
+      → b2-collide-polygons old A xfA B xfB ≡ manifold-accepted
+      (polygons-manifold (with-count old 0) two-skins A xfA B xfB)
   contact-is old =
       polygons-accepted old xfA xfB (placement-in-range gA) (placement-in-range gB) A B taken-a taken-b
-      ∙ ap (λ (total : Float). manifold-accepted (polygons-manifold (with-count old 0) total A xfA B xfB)) (rw (skinA, skinB))
+      ∙ ap (λ (total : Float). manifold-accepted (polygons-manifold (with-count old 0) total A xfA B xfB))
+      (rw (skinA, skinB))
 
   pub outlines-sentence : (old : B2manifold) (old-world : B2worldManifold) → SecondSentenceOf A B gA gB old old-world
   unfolding with-count
   outlines-sentence old old-world =
       let m = polygons-manifold (with-count old 0) two-skins A xfA B xfB in
       let few : m .«point_count» ≤ 2 = subst (λ (c : ManifoldAnswer). c .manifold .«point_count» ≤ 2) (contact-is old)
-      (polygons-count-and-kind old xfA xfB A B (ap (λ (c : ManifoldAnswer). c .refusal) (contact-is old)) .at-most-two) in
-      subst (Answered old-world) (sym (contact-is old)) (answered old-world m few (way-out (with-count old 0) refl))
+      (polygons-count-and-kind old xfA xfB A B (ap (λ (c : ManifoldAnswer). c .refusal) (contact-is old)) .at-most-two)
+      in
+      subst (Answered old-world) (sym (contact-is old))
+      (answered old-world m few (way-out A B gA gB oA oB skinA skinB (with-count old 0) refl))

@@ -15,16 +15,11 @@ use Rattle.rounding.proofs.Dyadic.{Dyadic, exact-add}
 use Rattle.rounding.proofs.Literals.{bits-dyadic}
 use Rattle.rounding.proofs.Comparison.{lt-val, not-lt-val}
 use Rattle.floats.specs.B2Common.{b2-polygon-radius}
+use Rattle.floats.proofs.Constants.{skin-count, skin-is}
 use Rattle.contact_definitions.specs.B2CollidePolygon.{tolerance}
 use Rattle.grid_contacts.proofs.FaceDistance.{separation-metres}
 
--- ---- one skin, 5368709/2^29, and two
-abbrev skin-count : ℕ
-skin-count = 5368709
-
-pub skin-is : Dyadic b2-polygon-radius (whole skin-count) 29
-skin-is = bits-dyadic 0x3c23_d70a skin-count 29 tt tt
-
+-- ---- two skins
 abbrev pub two-skins : Float
 two-skins = add binary32 b2-polygon-radius b2-polygon-radius
 
@@ -96,12 +91,14 @@ module _ {a b : Float} (a-cap : Capped a separation-metres) (b-cap : Capped b se
   sum = add binary32 a tolerance
 
   sum-near : Sized sum (val a ⊞ val tolerance) 6 (separation-metres + 1)
-  sum-near = sum-sized 6 separation-metres 1 tt tt a-cap (record { own = tolerance-is .own; cap = tolerance-bounds .small })
+  sum-near =
+      sum-sized 6 separation-metres 1 tt tt a-cap (record { own = tolerance-is .own; cap = tolerance-bounds .small })
 
   -- A: b is at most a, the tolerance and a rounding
   pub a-is-reference : T (not (lt sum b)) → val b ≼ val a ⊞ whole choice-error
   a-is-reference t =
-      go (val sum) (val a) (val b) (val tolerance) (not-lt-val (sum-near .capped .own) (b-cap .own) t) (sum-near .err) (tolerance-bounds .most)
+      go (val sum) (val a) (val b) (val tolerance) (not-lt-val (sum-near .capped .own) (b-cap .own) t) (sum-near .err)
+      (tolerance-bounds .most)
     where
       go : (z a b k : Z) → b ≼ z → Abs (z ⊟ (a ⊞ k)) (2 ^ 6 * tick) → Abs k tolerance-bound → b ≼ a ⊞ whole choice-error
       go z a b k h e l = omega arith

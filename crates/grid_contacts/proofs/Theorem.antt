@@ -1,22 +1,21 @@
 -- Demand 3, second sentence, of the definitions of the outline builder, the outline-outline call and the world points,
 -- for every two grid lists that the builder accepts. Bodies only cite.
 --
--- | the client's words | part of specs/SecondSentence |
+-- | the client's words | parts of specs/SecondSentence |
 -- |---|---|
--- | outlines built from such lists, default skin | the hypotheses of second-sentence; built-skin |
+-- | two outlines built from such lists, default skin | the hypotheses; built-skin |
 -- | placed on that grid within 4 m by quarter turns | GridPlacement |
--- | whatever the manifold and the world record held before | old, old-world: any |
--- | (the calls answer) | contact-accepted, world-accepted, at-most-two |
--- | no point is reported where some face keeps the other outline more than 0.02 + 1/4096 m off | none-where-kept-off |
--- | one face of the reference outline .. within 1/1024 m of the largest over all faces of both | near-largest |
+-- | whatever the manifold and the world record held before | old, old-world |
+-- | (both calls answer, with two points at most) | contact-accepted, world-accepted, at-most-two |
+-- | no point where some face keeps the other outline more than 0.02 + 1/4096 m off | none-where-kept-off |
+-- | one face of the reference outline is within 1/1024 m of the largest over all faces of both | near-largest |
 -- | every manifold point lies within 1/4096 m of the other outline's boundary | on-boundary, point-finite |
--- | its world separation is within 1/4096 m of .. that same face's line, less 0.02 m | near-distance, separation-finite |
+-- | its world separation: within 1/4096 m of its distance from that line, less 0.02 m | near-distance, separation-finite |
 --
 -- Assumes nothing.
 use mathlib.Core.Path.{_≡_, _∙_}
 use mathlib.Core.List.{List}
-use Prim.Native.Nat.{ℕ, _<_}
-use lib.ListN.{length}
+use Prim.Native.Nat.{_<_}
 use Rattle.floats.specs.declared.b2_math.B2vec2.{B2vec2}
 use Rattle.floats.specs.declared.b2_math.B2Transform.{B2Transform}
 use Rattle.floats.specs.B2Common.{b2-polygon-radius}

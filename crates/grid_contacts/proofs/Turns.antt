@@ -107,7 +107,8 @@ turned-after to-right to-right p = (omega arith, omega arith)
 abbrev pub direction : QuarterTurn → Point
 direction turn = record { x = cosine turn; y = sine turn }
 
-pub direction-after : (later turn : QuarterTurn) → SameVector (direction (after later turn)) (turned later (direction turn))
+pub direction-after : (later turn : QuarterTurn)
+    → SameVector (direction (after later turn)) (turned later (direction turn))
 direction-after later turn =
     let one : Point = record { x = whole 1; y = whole 0 } in
     vector-trans (direction (after later turn)) (turned (after later turn) one) (turned later (direction turn))
@@ -118,5 +119,6 @@ direction-after later turn =
     of-one : (turn : QuarterTurn) → SameVector (direction turn) (turned turn (record { x = whole 1; y = whole 0 }))
     of-one turn = (omega arith, omega arith)
 
-    to-direction : (turn : QuarterTurn) → SameVector (turned turn (record { x = whole 1; y = whole 0 })) (direction turn)
+    to-direction : (turn : QuarterTurn)
+        → SameVector (turned turn (record { x = whole 1; y = whole 0 })) (direction turn)
     to-direction turn = (omega arith, omega arith)

@@ -11,7 +11,7 @@ use Rattle.algebra.proofs.Magnitude.{abs-scale, abs-product}
 use Rattle.rounding.specs.Value.{metre, tick, F32, val}
 use Rattle.rounding.proofs.Value.{metre-ticks}
 use Rattle.rounding.proofs.Caps.{Capped}
-use Rattle.rounding.proofs.Sized.{Sized, add-sized, sum-sized, difference-sized}
+use Rattle.rounding.proofs.Sized.{add-sized, sum-sized, difference-sized}
 use Rattle.floats.specs.declared.b2_math.B2vec2.{B2vec2}
 use Rattle.floats.specs.B2Math.{b2-add, b2-sub, b2-dot}
 use Rattle.grid.specs.Grid.{value-point}

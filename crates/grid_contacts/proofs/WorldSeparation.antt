@@ -18,7 +18,7 @@ use Rattle.floats.specs.B2Math.{b2-add, b2-sub, b2-scale, b2-dot}
 use Rattle.contact_definitions.specs.WorldManifold.{on-face, on-other, plane-separation}
 use Rattle.grid.specs.Grid.{value-point}
 use Rattle.grid.specs.GridOutline.{normal-bound, length-error}
-use Rattle.grid_contacts.specs.Lengths.{Length, exactly, _plus_, _less_, both-skins, point-tolerance}
+use Rattle.grid_contacts.specs.Lengths.{exactly, _plus_, _less_, both-skins, point-tolerance}
 use Rattle.grid_contacts.specs.Faces.{Face, off-line}
 use Rattle.grid_contacts.specs.SecondSentence.{NearDistance}
 use Rattle.grid_contacts.proofs.NormalVec.{NormalVec, dot-normal}
@@ -27,9 +27,8 @@ use Rattle.grid_contacts.proofs.RootBridge.{root-ticks, root-reach}
 use Rattle.grid_contacts.proofs.FaceDistance.{DistanceWithin, within-of-length, against-ticks, normal-against}
 use Rattle.grid_contacts.proofs.FaceDistance.{direction-against}
 use Rattle.grid_contacts.proofs.Distances.{LengthLe, at-most-longer, at-least-shorter}
-use Rattle.grid_contacts.proofs.Crossing.{corner-metres, end-metres}
 use Rattle.grid_contacts.proofs.WorldRoundings.{offset-metres, Offset, move-metres, move-ticks, moved-near}
-use Rattle.grid_contacts.proofs.WorldRoundings.{across, across-metres, across-ticks, across-near}
+use Rattle.grid_contacts.proofs.WorldRoundings.{across-metres, across-ticks, across-near}
 
 -- ---- the last dot product: w is - (r + ρ), of the way across (wx, wy) and the normal (a, b)
 -- the dot product, both ways across, N2 times the sum of radius and distance moved, and a tick
@@ -37,7 +36,8 @@ abbrev surface-ticks : ℕ
 surface-ticks = 4 * 2 ^ 6 + 2 * across-ticks + 64 * (1 + move-metres) + 1
 
 surface-near : (a b r ρ wx wy w : Z) → Abs a normal-bound → Abs b normal-bound
-    → Abs (a ⊠ a ⊞ b ⊠ b ⊟ whole (metre * metre)) (length-error * metre) → Abs r (1 * metre) → Abs ρ (move-metres * metre)
+    → Abs (a ⊠ a ⊞ b ⊠ b ⊟ whole (metre * metre)) (length-error * metre) → Abs r (1 * metre)
+    → Abs ρ (move-metres * metre)
     → Abs (metre ⊛ wx ⊞ (r ⊠ a ⊞ ρ ⊠ a)) (across-ticks * tick * metre)
     → Abs (metre ⊛ wy ⊞ (r ⊠ b ⊞ ρ ⊠ b)) (across-ticks * tick * metre)
     → Abs (metre ⊛ w ⊟ (wx ⊠ a ⊞ wy ⊠ b)) (4 * 2 ^ 6 * tick * metre) → Abs (w ⊞ (r ⊞ ρ)) (surface-ticks * tick)
@@ -48,7 +48,8 @@ surface-near a b r ρ wx wy w a-most b-most unit r-most ρ-most x-near y-near w-
     let y = across-along wy b (summed b wy y-near) b-most in
     let m = abs-same (g ⊠ (a ⊠ a ⊞ b ⊠ b ⊟ whole (metre * metre))) (g ⊠ (a ⊠ a) ⊞ g ⊠ (b ⊠ b) ⊟ (metre * metre) ⊛ g)
     ((1 + move-metres) * metre * (length-error * metre)) (spread (metre * metre) g (a ⊠ a) (b ⊠ b))
-    (abs-product g (a ⊠ a ⊞ b ⊠ b ⊟ whole (metre * metre)) ((1 + move-metres) * metre) (length-error * metre) total unit)
+    (abs-product g (a ⊠ a ⊞ b ⊠ b ⊟ whole (metre * metre)) ((1 + move-metres) * metre) (length-error * metre) total
+    unit)
     in
     abs-unscale (metre * metre) (surface-ticks * tick) (w ⊞ g) (mul-pos metre-pos metre-pos)
     (four ((metre * metre) ⊛ (w ⊞ g)) (metre ⊛ (metre ⊛ w ⊟ (wx ⊠ a ⊞ wy ⊠ b))) (metre ⊛ (wx ⊠ a) ⊞ g ⊠ (a ⊠ a))
@@ -89,7 +90,8 @@ surface-near a b r ρ wx wy w a-most b-most unit r-most ρ-most x-near y-near w-
         + across-ticks * tick * metre * normal-bound + (1 + move-metres) * metre * (length-error * metre)
         ≤ metre * metre * (surface-ticks * tick)
     room =
-        let e : metre * (tick * metre) ≡ 2 ^ 25 * tick * (tick * metre) = ap (λ (n : ℕ). n * (tick * metre)) metre-ticks in
+        let e : metre * (tick * metre) ≡ 2 ^ 25 * tick * (tick * metre) =
+        ap (λ (n : ℕ). n * (tick * metre)) metre-ticks in
         omega arith
 
 -- ---- against the exact line: l (w + r1 + r2) is the face's off-line number

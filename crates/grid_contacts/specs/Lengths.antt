@@ -1,6 +1,6 @@
--- Lengths as fractions of 2^-149 m: values, parts of a metre, sums and differences; and the numbers of demand 3's second
--- sentence. A signed distance d / √t is compared with such a fraction by squares (algebra's OverRootLe). Definitions
--- only.
+-- Lengths as fractions of 2^-149 m: values, parts of a metre, sums and differences; and the numbers of demand 3's
+-- second sentence. A signed distance d / √t is compared with such a fraction by squares (algebra's OverRootLe).
+-- Definitions only.
 use Prim.Native.Nat.{ℕ, _*_}
 use Rattle.algebra.specs.Integer.{Z, whole, _⊞_, _⊟_, _⊛_}
 use Rattle.rounding.specs.Value.{metre}

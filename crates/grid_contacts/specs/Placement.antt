@@ -1,6 +1,6 @@
--- Document 01, "Words of demand 3": quarter turns, and placements on the grid within 4 m. "A placement at (x, y) carries
--- p to (cosine × p.x - sine × p.y + x, sine × p.x + cosine × p.y + y)": worked out exactly on values, which are whole
--- numbers of 2^-149 m. Definitions only.
+-- Document 01, "Words of demand 3": quarter turns, and placements on the grid within 4 m. "A placement at (x, y)
+-- carries p to (cosine × p.x - sine × p.y + x, sine × p.x + cosine × p.y + y)": worked out exactly on values, which are
+-- whole numbers of 2^-149 m. Definitions only.
 use mathlib.Core.List.{List, map}
 use Rattle.algebra.specs.Integer.{Z, whole, opp, _⊞_, _⊟_, _⊠_, _⊛_, _≐_}
 use Rattle.algebra.specs.Plane.{Point}
@@ -8,7 +8,7 @@ use Rattle.rounding.specs.Value.{metre, F32, val}
 use Rattle.floats.specs.declared.b2_math.B2Rot.{B2Rot}
 use Rattle.floats.specs.declared.b2_math.B2Transform.{B2Transform}
 use Rattle.shape_definitions.specs.declared.b2_polygon_shape.B2polygonShape.{B2polygonShape}
-use Rattle.grid.specs.Grid.{GridPoint, value-point}
+use Rattle.grid.specs.Grid.{GridPoint}
 use Rattle.grid.specs.Demand3.{built-corners}
 
 -- ---- quarter turns: sine and cosine (0, 1), (1, 0), (0, -1) or (-1, 0)

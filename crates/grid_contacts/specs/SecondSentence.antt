@@ -26,7 +26,7 @@ use Rattle.contact_definitions.specs.B2CollidePolygon.{b2-collide-polygons}
 use Rattle.contact_definitions.specs.WorldManifold.{b2-world-manifold-initialize}
 use Rattle.grid.specs.Grid.{value-point}
 use Rattle.grid_contacts.specs.Placement.{GridPlacement, carried, placed-corners}
-use Rattle.grid_contacts.specs.Lengths.{Length, exactly, _plus_, _less_, both-skins, point-tolerance}
+use Rattle.grid_contacts.specs.Lengths.{exactly, _plus_, _less_, both-skins, point-tolerance}
 use Rattle.grid_contacts.specs.Lengths.{choice-tolerance}
 use Rattle.grid_contacts.specs.Faces.{Face, face-at, EveryFace, SomeFace, DistanceAtMost, DistanceAtLeast}
 use Rattle.grid_contacts.specs.Faces.{SeparationAtMost, SeparationAtLeast, SeparationAbove, NearBoundary}

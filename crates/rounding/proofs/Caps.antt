@@ -5,12 +5,12 @@ use Prim.Native.Nat.{ℕ, _*_, _^_, _≤_, _<_}
 use native.Mathlib.Nat.{le-trans, le-of-eq, lt-of-le-of-lt, mul-one}
 use lib.Dec.{T, leb, leb→le, lit≤}
 use lib.Pow.{pow-pos}
-use lib.Ieee.{Float, binary32, add, sub, mul, div}
+use lib.Ieee.{Float, binary32, neg, add, sub, mul, div}
 use Rattle.algebra.specs.Integer.{Z, _⊞_, _⊟_, _⊠_, Abs}
-use Rattle.algebra.proofs.Magnitude.{abs-product, abs-widen}
+use Rattle.algebra.proofs.Magnitude.{abs-product, abs-widen, abs-opposite}
 use lib.Ieee.Scale.{overflow}
 use Rattle.rounding.specs.Value.{metre, F32, sign, mag, val}
-use Rattle.rounding.proofs.Value.{metre-is, abs-mag}
+use Rattle.rounding.proofs.Value.{metre-is, abs-mag, neg-f32, val-neg}
 use Rattle.rounding.proofs.Rounding.{rounded}
 use Rattle.rounding.proofs.Operations.{Rounds, abs-turned, add-rounds, sub-rounds, mul-rounds, div-rounds}
 use Rattle.rounding.proofs.Rounds.{rounds-f32, rounds-mag, size-le}
@@ -38,6 +38,13 @@ rounds-cap h n {z} {num} {den} h-low r num-abs n-low =
       cap = abs-widen (val z) (mag z) (h * metre) (abs-mag z)
           (rw (rounds-mag r own) (le-trans le (le-of-eq (ap (λ (m : ℕ). h * m) (sym metre-is)))));
     }
+
+-- ---- negated
+pub neg-cap : {x : Float} {h : ℕ} → Capped x h → Capped (neg x) h
+neg-cap {x} {h} x-cap = record {
+  own = neg-f32 (x-cap .own);
+  cap = rw (val-neg x) (abs-opposite (val x) (h * metre) (x-cap .cap));
+}
 
 -- ---- the operations
 module _ (h : ℕ) {x y : Float} (h-low : T (leb h (2 ^ 24))) (x-f32 : F32 x) (y-f32 : F32 y) where

@@ -1,6 +1,6 @@
 -- F6: the reciprocal i of a number l between 2^-127 m and 2^126 m is finite, and i l is within a relative 2^-24 of 1:
 -- |i l - metre²| ≤ 2 ticks, times a metre. Assumes nothing.
-use mathlib.Core.Path.{_≡_, sym, ap, _∙_}
+use mathlib.Core.Path.{sym, ap, _∙_}
 use Prim.Native.Nat.{ℕ, zero, suc, _+_, _*_, _^_, _≤_, _<_}
 use native.Mathlib.Nat.{le-refl, le-trans, le-of-eq, mul-assoc, mul-le-mul-left, mul-le-mul-right, zero-lt-suc}
 use native.Mathlib.Omega.{arith}

@@ -24,7 +24,8 @@ pub record SizedProduct (z : Float) (v : Z) (k h : ℕ) : Type 0 where
   pub err : Abs (metre ⊛ val z ⊟ v) (2 ^ k * tick * metre)
 
 -- ---- by the size of the exact result
-module _ (k h : ℕ) {x y : Float} (k-low : T (leb k 24)) (h-low : T (leb h (2 ^ k))) (x-f32 : F32 x) (y-f32 : F32 y) where
+module _ (k h : ℕ) {x y : Float} (k-low : T (leb k 24)) (h-low : T (leb h (2 ^ k))) (x-f32 : F32 x)
+    (y-f32 : F32 y) where
   h-le : h ≤ 2 ^ k
   h-le = leb→le h (2 ^ k) h-low
 
