@@ -1,6 +1,7 @@
 -- Document 01, "The touch record": the export for the C match server. The bytes of four frames, 02 and 04 for id 0,
 -- then 02 and 04 for id 1, joined; the bytes of the test line that a fresh program prints, to the front of the lent
--- output. Refusals: 9 for an output under 45 bytes, then 10 of the whole input, then the first one met. Definitions only.
+-- output. Refusals: 9 for an output under 45 bytes, then 10 of the whole input, then the first one met.
+-- Definitions only.
 use Prim.Native.Nat.{ℕ, _+_, _-_}
 use mathlib.Core.Bool.{Bool, not, cond, _&&_}
 use mathlib.Core.List.{List, [], _∷_}
