@@ -53,8 +53,9 @@ returns-3 : tie.Need-returns-3
 returns-3 c =
     let put-touch′ = c .before .before .put-touch in
     let answer2′ = c .before .before .before .before .before .answer2 in
-    let args′ = c .before .before .before .before .before .before .before .before .args in
-    let pre′ = c .before .before .before .before .before .before .before .before .pre in
+    let at-args = c .before .before .before .before .before .before .before .before in
+    let args′ = at-args .args in
+    let pre′ = at-args .pre in
     let t-is = answer2′ .given .1 in (
       tested-put (args′ .answer) (args′ .out .now) (pre′) _ _ _ t-is (put-touch′ .ensures .0),
       put-touch′ .ensures .1,

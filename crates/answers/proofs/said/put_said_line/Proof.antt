@@ -36,7 +36,8 @@ returns : tie.Need-returns
 returns c =
     let put-line′ = c .before .before .put-line in
     let put-said′ = c .before .before .before .before .before .before .put-said in
-    let args′ = c .before .before .before .before .before .before .before .before .before .args in
+    let at-args = c .before .before .before .before .before .before .before .before .before in
+    let args′ = at-args .args in
     line-put _ _ (put-said′ .last .0) (args′ .out .now) _ (put-said′ .result) _
     (put-said′ .ensures .0) (put-line′ .ensures)
 

@@ -43,9 +43,9 @@ unfolding head-bytes
 returns c =
     let put-number′ = c .before .before .put-number in
     let put-states′ = c .before .before .before .before .before .before .put-states in
-    let at-put-names = c .before .before .before .before .before .before .before .before .before .before in
-    let put-names′ = at-put-names .put-names in
-    let args′ = at-put-names .before .before .before .args in
+    let before-put-names = c .before .before .before .before .before .before .before .before .before in
+    let put-names′ = before-put-names .before .put-names in
+    let args′ = before-put-names .before .before .before .before .args in
     let t = args′ .t in
     let old = args′ .out .now in
     let states = over-next (names-bytes t) (states-bytes (t .states)) old _ _ 5 refl (put-names′ .ensures)

@@ -30,7 +30,8 @@ unfolding point-bytes
 returns c =
     let put-float′ = c .before .before .put-float in
     let put-vector′ = c .before .before .before .before .before .before .put-vector in
-    let args′ = c .before .before .before .before .before .before .before .before .before .args in
+    let at-args = c .before .before .before .before .before .before .before .before .before in
+    let args′ = at-args .args in
     let p = args′ .p in
     over-next (vector-bytes (p .p)) (float-bytes (p .separation)) (args′ .out .now) _ _ 8 refl
     (put-vector′ .ensures) (put-float′ .ensures)

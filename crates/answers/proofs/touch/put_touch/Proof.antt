@@ -18,7 +18,8 @@ same-length c = search needs
 returns : tie.Need-returns
 returns c =
     let put-head′ = c .before .before .before .before .put-head in
-    let args′ = c .before .before .before .before .before .before .before .args in
+    let at-args = c .before .before .before .before .before .before .before in
+    let args′ = at-args .args in
     (no-point-put (args′ .t) (args′ .out .now) _ (c .if1 .taken) (put-head′ .ensures), omega arith)
 
 sub-put-vector : tie.Need-sub-put-vector
@@ -51,11 +52,12 @@ same-length-2 c = search needs
 returns-2 : tie.Need-returns-2
 returns-2 c =
     let put-point′ = c .before .before .before .before .put-point in
-    let put-vector′ = c .before .before .before .before .before .before .before .before .put-vector in
-    let if1′ = c .before .before .before .before .before .before .before .before .before .before .if1 in
-    let before-put-head = c .before .before .before .before .before .before .before .before .before .before .before in
-    let put-head′ = before-put-head .before .before .before .put-head in
-    let args′ = before-put-head .before .before .before .before .before .before .args in
+    let at-put-vector = c .before .before .before .before .before .before .before .before in
+    let put-vector′ = at-put-vector .put-vector in
+    let if1′ = at-put-vector .before .before .if1 in
+    let put-head′ = at-put-vector .before .before .before .before .before .before .put-head in
+    let at-args = at-put-vector .before .before .before .before .before .before .before .before .before in
+    let args′ = at-args .args in
     let t = args′ .t in
     let old = args′ .out .now in
     let normal = over-next (head-bytes t) (vector-bytes (t .normal)) old _ _ 13 (head-length t) (put-head′ .ensures)
@@ -83,13 +85,13 @@ returns-3 : tie.Need-returns-3
 returns-3 c =
     let put-point2′ = c .before .before .put-point2 in
     let if2′ = c .before .before .before .before .if2 in
-    let put-point′ = c .before .before .before .before .before .before .before .before .put-point in
-    let before-put-vector = c .before .before .before .before .before .before .before .before .before .before .before in
-    let put-vector′ = before-put-vector .before .put-vector in
-    let if1′ = before-put-vector .before .before .before .if1 in
-    let put-head′ = before-put-vector .before .before .before .before .before .before .before .put-head in
-    let at-args = before-put-vector .before .before .before .before .before .before .before .before .before .before in
-    let args′ = at-args .args in
+    let at-put-point = c .before .before .before .before .before .before .before .before in
+    let put-point′ = at-put-point .put-point in
+    let put-vector′ = at-put-point .before .before .before .before .put-vector in
+    let if1′ = at-put-point .before .before .before .before .before .before .if1 in
+    let before-put-head = at-put-point .before .before .before .before .before .before .before .before .before in
+    let put-head′ = before-put-head .before .put-head in
+    let args′ = before-put-head .before .before .before .before .args in
     let t = args′ .t in
     let old = args′ .out .now in
     let normal = over-next (head-bytes t) (vector-bytes (t .normal)) old _ _ 13 (head-length t) (put-head′ .ensures)
