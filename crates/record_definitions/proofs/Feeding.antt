@@ -2,7 +2,7 @@
 -- character more, a line feed or another, and what it knows at the end. Assumes nothing.
 use Prim.Native.Nat.{ℕ, zero, suc, _+_, _*_, _-_, _%_, _≤_, _<_}
 use mathlib.Core.Path.{_≡_, refl, sym, _∙_, ap}
-use mathlib.Core.Bool.{Bool, true, false}
+use mathlib.Core.Bool.{true, false}
 use mathlib.Core.List.{List, [], _∷_, _++_, append-nil}
 use native.Mathlib.Omega.{arith}
 use native.Mathlib.Numerals.{add-one}
@@ -22,7 +22,6 @@ use Rattle.record_definitions.specs.declared.world.World.{World}
 use Rattle.record_definitions.specs.declared.frame.Change.{Change}
 use Rattle.record_definitions.specs.declared.frame.Said.{Said}
 use Rattle.record_definitions.specs.declared.reader.Reader.{Reader}
-use Rattle.record_definitions.specs.declared.reader.Fed.{Fed}
 use Rattle.record_definitions.specs.World.{blank-body, fresh-pair, forget, forget-below}
 use Rattle.record_definitions.specs.Frame.{change}
 use Rattle.record_definitions.specs.Answer.{said-line, longest-line}

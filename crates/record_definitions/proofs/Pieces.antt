@@ -1,7 +1,7 @@
 -- The whole input and its pieces: what is printed is what the lines of the input print, however the reads split it, and
 -- for any way of printing. Of a line the first characters, one more than the longest line has, say all that the line
 -- says (`frame-kept`). Assumes nothing.
-use Prim.Native.Nat.{ℕ, _≤_, _<_}
+use Prim.Native.Nat.{ℕ, _≤_}
 use mathlib.Core.Path.{_≡_, refl, sym, _∙_, ap}
 use mathlib.Core.Bool.{Bool, true, false, cond}
 use mathlib.Core.List.{List, [], _∷_, _++_, append-assoc, append-nil}
@@ -16,10 +16,9 @@ use Rattle.lines.specs.Hex.{line-limit, frame-of, line-feed}
 use Rattle.record_definitions.specs.declared.world.World.{World}
 use Rattle.record_definitions.specs.declared.frame.Said.{Said}
 use Rattle.record_definitions.specs.World.{fresh-world}
-use Rattle.record_definitions.specs.Answer.{said-line}
 use Rattle.record_definitions.specs.Step.{after-line, said-of-line}
-use Rattle.record_definitions.specs.Touches.{lines-from, printed-lines, touches}
-use Rattle.record_definitions.specs.Reading.{Reading, kept-length, with-character, after-character, after, begin}
+use Rattle.record_definitions.specs.Touches.{lines-from, printed-lines}
+use Rattle.record_definitions.specs.Reading.{Reading, kept-length, after-character, after, begin}
 use Rattle.record_definitions.specs.Reading.{printed-character, printed, last-line, fed-pieces, joined}
 
 -- ---- the characters that are kept

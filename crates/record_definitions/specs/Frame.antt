@@ -19,7 +19,6 @@ use Rattle.shape_definitions.specs.Refusal.{malformed-frame, unknown-id, no-sha
 use Rattle.record_definitions.specs.declared.world.Body.{Body}
 use Rattle.record_definitions.specs.declared.world.Pair.{Pair}
 use Rattle.record_definitions.specs.declared.touch.TestAnswer.{TestAnswer}
-use Rattle.record_definitions.specs.declared.frame.Answer.{Answer}
 use Rattle.record_definitions.specs.declared.frame.Answer.the-variants.{Accepted, Refused, Tested}
 use Rattle.record_definitions.specs.declared.frame.Change.{Change}
 use Rattle.record_definitions.specs.World.{no-body, circle-kind, outline-kind, wall-kind}
