@@ -19,7 +19,7 @@ use record_definitions::world::OUTLINE;
 // A touch count holds here.
 const LARGEST_COUNT: u64 = 4294967295;
 
-fn default_world_manifold() -> B2worldManifold
+pub fn default_world_manifold() -> B2worldManifold
     ensures { λ r. ⌜ r ≡ default-world-manifold ⌝ }
 {
     let origin = B2vec2 { x: 0.0, y: 0.0 };
@@ -32,7 +32,7 @@ fn default_world_manifold() -> B2worldManifold
 }
 
 // The radius of a body's shape.
-fn skin(body: Body) -> f32
+pub fn skin(body: Body) -> f32
     ensures { λ r. ⌜ r ≡ results.skin body ⌝ }
 {
     let kind = body.kind;
@@ -61,7 +61,7 @@ fn added(state: B2pointState) -> u64
 }
 
 // One more touch for each point in state add, up to the largest count.
-fn touches_after(touches: u32, states: PointStates) -> u32
+pub fn touches_after(touches: u32, states: PointStates) -> u32
     ensures { λ r. ⌜ r ≡ results.touches-after touches states ⌝ }
 {
     let new0 = states.new0;
@@ -95,7 +95,7 @@ fn shown_kind(m: B2manifold) -> u8
     kind_number(kind)
 }
 
-fn touch_of(
+pub fn touch_of(
     ida: u8,
     idb: u8,
     m: B2manifold,
