@@ -2,13 +2,12 @@
 -- answers leaves the body and keeps the pair that `tested` says. Assumes nothing.
 use Prim.Native.Nat.{ℕ, _≤_}
 use mathlib.Core.Path.{_≡_, refl, sym, _∙_, ap}
-use mathlib.Core.Bool.{Bool, true, false, not, cond, _||_}
+use mathlib.Core.Bool.{Bool, true, false, not, cond}
 use mathlib.Core.List.{List}
 use mathlib.Core.Logic.{_⊎_, inl, inr}
 use native.Mathlib.Omega.{arith}
 use lib.Dec.{eqb, ltb}
 use borrow.Author.Tests.{eqb-true, ltb-false}
-use Rattle.algebra.proofs.Booleans.{by-test}
 use Rattle.floats.specs.Ranges.{transform-in-range}
 use Rattle.lines.specs.Fields.{byte-at, points-at, placement-at}
 use Rattle.shape_definitions.specs.Circle.{circle-in-range}
@@ -17,22 +16,21 @@ use Rattle.shape_definitions.specs.Refusal.{accepted}
 use Rattle.contact_definitions.proofs.Counts.{either}
 use Rattle.record_definitions.specs.declared.world.Body.{Body}
 use Rattle.record_definitions.specs.declared.world.Pair.{Pair}
-use Rattle.record_definitions.specs.declared.touch.TestAnswer.{TestAnswer}
 use Rattle.record_definitions.specs.declared.touch.Touch.{Touch}
-use Rattle.record_definitions.specs.declared.frame.Answer.the-variants.{Accepted, Refused, Tested}
+use Rattle.record_definitions.specs.declared.frame.Answer.the-variants.{Accepted, Tested}
 use Rattle.record_definitions.specs.declared.frame.Change.{Change}
 use Rattle.record_definitions.specs.World.{no-body, blank-outline}
 use Rattle.record_definitions.specs.Touch.{tested}
 use Rattle.record_definitions.specs.Frame.{well-formed, largest-id, refused, defined, circle-at, circle-change}
-use Rattle.record_definitions.specs.Frame.{outline-change, wall-at, wall-change, place-change, listed}
-use Rattle.record_definitions.specs.Frame.{test-refusal, test-answered, test-change, change-of-kind, change}
+use Rattle.record_definitions.specs.Frame.{outline-change, wall-at, wall-change, place-change}
+use Rattle.record_definitions.specs.Frame.{test-refusal, test-change, change-of-kind, change}
 use Rattle.record_definitions.specs.Export.{answer-refusal, refusal-in}
 
 -- the kinds of frames that define a shape
 abbrev pub NewShape : ℕ → Type 0
 NewShape kind = (kind ≡ 1) ⊎ ((kind ≡ 2) ⊎ (kind ≡ 3))
 
-by-choice : {A : Type 0} (P : A → Type 0) (test : Bool) (x y : A) → (test ≡ true → P x) → (test ≡ false → P y)
+pub by-choice : {A : Type 0} (P : A → Type 0) (test : Bool) (x y : A) → (test ≡ true → P x) → (test ≡ false → P y)
     → P (cond test x y)
 by-choice P true x y h k = h refl
 by-choice P false x y h k = k refl

@@ -113,7 +113,8 @@ module _ (input : List ℕ) (first outline second : ℕ) (first-is : first ≡ f
           (begins input second 4 1) good
 
       middle : (sizes-right && begins input 0 2 0 && begins input first 4 0 ≡ true) × (begins input outline 2 1 ≡ true)
-      middle = both (sizes-right && begins input 0 2 0 && begins input first 4 0) (begins input outline 2 1) (last-two .0)
+      middle =
+          both (sizes-right && begins input 0 2 0 && begins input first 4 0) (begins input outline 2 1) (last-two .0)
 
       first-two : (sizes-right && begins input 0 2 0 ≡ true) × (begins input first 4 0 ≡ true)
       first-two = both (sizes-right && begins input 0 2 0) (begins input first 4 0) (middle .0)

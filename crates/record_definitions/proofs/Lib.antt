@@ -6,3 +6,17 @@ pub mod Exported
 pub mod Refusing
 pub mod Changes
 pub mod Pairs
+pub mod States
+pub mod Counting
+pub mod Lengths
+pub mod Sound
+pub mod BuiltCounts
+pub mod SoundTests
+pub mod Again
+pub mod Theorem
+pub mod Heats
+pub mod TableCases
+pub mod Controls
+pub mod OutlineHeats
+pub mod WallHeats
+pub mod ExportCases

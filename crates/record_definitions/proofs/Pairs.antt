@@ -1,8 +1,7 @@
 -- What frames do to the pairs of a world: a new shape makes the pairs of its id fresh and leaves the others, a
 -- placement leaves all, and a test that answers writes its own pair and no other. Assumes nothing.
-use Prim.Native.Nat.{ℕ, zero, suc, _+_, _*_, _%_, _≤_, _<_}
-use mathlib.Core.Path.{_≡_, refl, sym, _∙_, ap}
-use mathlib.Core.Bool.{true, false}
+use Prim.Native.Nat.{ℕ, zero, suc, _%_, _≤_, _<_}
+use mathlib.Core.Path.{_≡_, refl, _∙_, ap}
 use mathlib.Core.List.{List, [], _∷_}
 use mathlib.Core.Logic.{_⊎_, inl, inr, ⊎-elim}
 use native.Mathlib.Omega.{arith}
@@ -10,12 +9,10 @@ use lib.ListN.{length, getD, set}
 use lib.Seq.{getD-set-same, getD-set-other, set-getD}
 use Rattle.algebra.proofs.Booleans.{less-or-not}
 use Rattle.lines.specs.Fields.{byte-at}
-use Rattle.record_definitions.specs.declared.world.Body.{Body}
 use Rattle.record_definitions.specs.declared.world.Pair.{Pair}
 use Rattle.record_definitions.specs.declared.world.World.{World}
 use Rattle.record_definitions.specs.declared.touch.Touch.{Touch}
 use Rattle.record_definitions.specs.declared.frame.Answer.the-variants.{Accepted, Tested}
-use Rattle.record_definitions.specs.declared.frame.Change.{Change}
 use Rattle.record_definitions.specs.World.{blank-body, fresh-pair, body-at, pair-at, pair-place, forget}
 use Rattle.record_definitions.specs.World.{forget-below}
 use Rattle.record_definitions.specs.Touch.{tested}
@@ -83,7 +80,7 @@ module _ (id : ℕ) (pairs : List Pair) where
       ∙ others-kept n x y (omega arith) small x-small y-small no-x no-y
 
 -- ---- frames
-within-place : (n : ℕ) → n ≤ largest-id → n % 8 ≡ n
+pub within-place : (n : ℕ) → n ≤ largest-id → n % 8 ≡ n
 within-place n small = omega arith
 
 module _ (w : World) (bytes : List ℕ) where
@@ -172,3 +169,14 @@ module _ (w : World) (bytes : List ℕ) where
     test-writes-its-pair size =
         rw pairs-written
         (getD-set-same (w .pairs) (pair-place id idb) _ fresh-pair (omega (arith, first-tested, second-tested)))
+
+    -- what is said of this frame in any world, from the bodies and the pair that it names
+    pub said-at : (v : World)
+        → said-of-frame v bytes ≡ change (body-at v id) (body-at v idb) (pair-at v id idb) bytes .said
+    unfolding said-of-frame change-in
+    said-at v =
+        let other = second-place bytes in
+        ap (λ (i : ℕ). change (body-at v i) (body-at v other) (pair-at v i other) bytes .said)
+        (within-place id first-tested)
+        ∙ ap (λ (j : ℕ). change (body-at v id) (body-at v j) (pair-at v id j) bytes .said)
+        (within-place idb second-tested)
