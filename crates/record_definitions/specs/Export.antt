@@ -1,7 +1,9 @@
 -- Document 01, "The touch record": the export for the C match server. The bytes of four frames, 02 and 04 for id 0,
 -- then 02 and 04 for id 1, joined; the bytes of the test line that a fresh program prints, to the front of the lent
--- output. Refusals: 9 for an output under 45 bytes, then 10 of the whole input, then the first one met. Definitions only.
+-- output. Refusals: 9 for an output under 45 bytes, then 10 of the whole input, then the first one met.
+-- Definitions only.
 use Prim.Native.Nat.{ℕ, _+_, _-_}
+use mathlib.Core.Path.{_≡_}
 use mathlib.Core.Bool.{Bool, not, cond, _&&_}
 use mathlib.Core.List.{List, [], _∷_}
 use lib.Dec.{eqb, ltb}
@@ -36,6 +38,20 @@ unfoldable pub last-said : World → List ℕ → List (List ℕ) → Said
 last-said w bytes [] = said-of-frame w bytes
 last-said w bytes (next ∷ frames) = unless-refused (said-of-frame w bytes) (last-said (after-frame w bytes) next frames)
 
+-- ---- the four frames that two bodies are defined and placed by, and the test
+abbrev pub test-frame : List ℕ
+test-frame = 5 ∷ 0 ∷ 1 ∷ []
+
+pub record FourFrames (f0 f1 f2 f3 : List ℕ) : Type 0 where
+  pub kind-0 : byte-at f0 0 ≡ 2
+  pub id-0 : byte-at f0 1 ≡ 0
+  pub kind-1 : byte-at f1 0 ≡ 4
+  pub id-1 : byte-at f1 1 ≡ 0
+  pub kind-2 : byte-at f2 0 ≡ 2
+  pub id-2 : byte-at f2 1 ≡ 1
+  pub kind-3 : byte-at f3 0 ≡ 4
+  pub id-3 : byte-at f3 1 ≡ 1
+
 -- ---- the four frames in an input: where each begins follows from the counts of the outlines
 module _ (input : List ℕ) where
   abbrev pub first-placement : ℕ
@@ -66,9 +82,6 @@ module _ (input : List ℕ) where
   -- from one place to another
   abbrev pub between : ℕ → ℕ → List ℕ
   between from to = take (to - from) (drop from input)
-
-  abbrev pub test-frame : List ℕ
-  test-frame = 5 ∷ 0 ∷ 1 ∷ []
 
   unfoldable pub export-said : Said
   export-said =

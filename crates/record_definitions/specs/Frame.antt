@@ -19,11 +19,11 @@ use Rattle.shape_definitions.specs.Refusal.{malformed-frame, unknown-id, no-sha
 use Rattle.record_definitions.specs.declared.world.Body.{Body}
 use Rattle.record_definitions.specs.declared.world.Pair.{Pair}
 use Rattle.record_definitions.specs.declared.touch.TestAnswer.{TestAnswer}
-use Rattle.record_definitions.specs.declared.frame.Answer.{Answer}
 use Rattle.record_definitions.specs.declared.frame.Answer.the-variants.{Accepted, Refused, Tested}
 use Rattle.record_definitions.specs.declared.frame.Change.{Change}
 use Rattle.record_definitions.specs.World.{no-body, circle-kind, outline-kind, wall-kind}
-use Rattle.record_definitions.specs.World.{blank-outline, blank-wall, circle-body, outline-body, wall-body, placed}
+use Rattle.record_definitions.specs.World.{blank-outline, blank-wall, circle-body, outline-body, wall-body}
+use Rattle.record_definitions.specs.World.{placed}
 use Rattle.record_definitions.specs.Touch.{tested}
 
 -- ---- the length of a frame, by its kind and its third byte: the count of an outline, the flag of a wall. 0 where a

@@ -7,7 +7,7 @@ use lib.ListN.{getD}
 use lib.Ieee.{Float}
 use Rattle.rounding.specs.Literals.{zero32}
 use Rattle.shape_definitions.specs.Refusal.{accepted}
-use Rattle.shape_definitions.specs.Outline.{origin, point-at}
+use Rattle.shape_definitions.specs.Outline.{point-at}
 use Rattle.contact_definitions.specs.declared.b2_collision.B2manifold.{B2manifold}
 use Rattle.contact_definitions.specs.declared.b2_collision.B2pointState.{B2pointState}
 use Rattle.contact_definitions.specs.declared.b2_collision.B2pointState.the-variants.{B2NullState, B2AddState}

@@ -1,0 +1,252 @@
+-- Feeding a piece of input a character at a time: what the loop of `feed` knows after i characters (`SoFar`), one
+-- character more, a line feed or another, and what it knows at the end. Assumes nothing.
+use Prim.Native.Nat.{ℕ, zero, suc, _+_, _*_, _-_, _%_, _≤_, _<_}
+use mathlib.Core.Path.{_≡_, refl, sym, _∙_, ap}
+use mathlib.Core.Bool.{true, false}
+use mathlib.Core.List.{List, [], _∷_, _++_, append-nil}
+use native.Mathlib.Omega.{arith}
+use native.Mathlib.Numerals.{add-one}
+use lib.ListN.{length, getD, take, drop, set, length-append, length-drop, length-set}
+use lib.Seq.{take-all, take-suc, take-suc-set, length-take-le}
+use borrow.Author.Tests.{eq-eqb, ne-eqb, lt-ltb, le-ltb}
+use borrow.Rule.Slice.PartMut.{putMid, midOf}
+use Rattle.algebra.specs.Buffer.{over}
+use Rattle.algebra.proofs.Buffer.{over-next, length-over}
+use Rattle.algebra.proofs.Lists.{getD-within}
+use Rattle.lines.specs.Buffers.{Put}
+use Rattle.lines.specs.Fields.{byte-at}
+use Rattle.lines.specs.Hex.{frame-of, line-feed}
+use Rattle.record_definitions.specs.declared.world.Body.{Body}
+use Rattle.record_definitions.specs.declared.world.Pair.{Pair}
+use Rattle.record_definitions.specs.declared.world.World.{World}
+use Rattle.record_definitions.specs.declared.frame.Change.{Change}
+use Rattle.record_definitions.specs.declared.frame.Said.{Said}
+use Rattle.record_definitions.specs.declared.reader.Reader.{Reader}
+use Rattle.record_definitions.specs.World.{blank-body, fresh-pair, forget, forget-below}
+use Rattle.record_definitions.specs.Frame.{change}
+use Rattle.record_definitions.specs.Answer.{said-line, longest-line}
+use Rattle.record_definitions.specs.Step.{changed, change-in, after-frame, said-of-frame}
+use Rattle.record_definitions.specs.Step.{after-line, said-of-line}
+use Rattle.record_definitions.specs.Reading.{Reading, kept-length, with-character, after-character, after}
+use Rattle.record_definitions.specs.Reading.{printed-character, printed, reading, FedAs}
+use Rattle.record_definitions.proofs.Pieces.{after-append, printed-append}
+
+one-more : (chunk : List ℕ) (i x : ℕ) → i < length chunk → x ≡ getD chunk i 0
+    → take (i + 1) chunk ≡ take i chunk ++ (x ∷ [])
+one-more chunk i x within is =
+    ap (λ (n : ℕ). take n chunk) (add-one i) ∙ take-suc chunk i 0 within
+    ∙ ap (λ (y : ℕ). take i chunk ++ (y ∷ [])) (sym is)
+
+-- the part from a place on that is lent has what is left of the length
+pub length-lent : (at : ℕ) (l : List ℕ) → at ≤ length l → length (midOf at (length l - at) l) ≡ length l - at
+length-lent at l within = length-take-le (length l - at) (drop at l) (omega (arith, length-drop at l))
+
+-- what was written to such a part fits behind the place
+pub put-fits : (at n : ℕ) (out new part : List ℕ) → at ≤ length out
+    → length part ≡ length (midOf at (length out - at) out)
+    → Put new (midOf at (length out - at) out) n part → at + n ≤ length out
+put-fits at n out new part within size put =
+    omega (
+      arith,
+      put .count,
+      ap length (put .left) ∙ length-append new (drop (length new) (midOf at (length out - at) out)),
+      size,
+      length-lent at out within,
+    )
+
+module _ (print : Said → List ℕ) where
+  -- ---- what is known after i characters: the reading r before them, the output old before them, and all that the loop
+  -- changes
+  pub record SoFar (chunk old : List ℕ) (r : Reading) (out : List ℕ) (w : World) (line : List ℕ) (len at i : ℕ) :
+      Type 0 where
+    pub within : i ≤ length chunk
+    pub kept : len ≤ kept-length
+    pub line-size : length line ≡ kept-length
+    pub bodies-size : length (w .bodies) ≡ 8
+    pub pairs-size : length (w .pairs) ≡ 64
+    pub out-size : length out ≡ length old
+    pub at-within : at ≤ length old
+    pub count : at ≡ length (printed print r (take i chunk))
+    pub output : out ≡ over (printed print r (take i chunk)) old
+    pub state : _≡_ {A = Reading} (record { world = w; line = take len line }) (after r (take i chunk))
+
+  pub nothing-yet : (chunk old : List ℕ) (w : World) (line : List ℕ) (len : ℕ) → len ≤ kept-length
+      → length line ≡ kept-length → length (w .bodies) ≡ 8 → length (w .pairs) ≡ 64
+      → SoFar chunk old (record { world = w; line = take len line }) old w line len 0 0
+  unfolding after printed
+  nothing-yet chunk old w line len short size bodies pairs = record {
+    within = omega arith;
+    kept = short;
+    line-size = size;
+    bodies-size = bodies;
+    pairs-size = pairs;
+    out-size = refl;
+    at-within = omega arith;
+    count = refl;
+    output = refl;
+    state = refl;
+  }
+
+  module _ (chunk old : List ℕ) (r : Reading) (out : List ℕ) (w : World) (line : List ℕ) (len at i x : ℕ)
+      (so-far : SoFar chunk old r out w line len at i) (more : i < length chunk) (x-is : x ≡ getD chunk i 0) where
+    next-after : after r (take (i + 1) chunk) ≡ after-character (record { world = w; line = take len line }) x
+    unfolding after
+    next-after =
+        ap (after r) (one-more chunk i x more x-is) ∙ after-append r (take i chunk) (x ∷ [])
+        ∙ ap (λ (s : Reading). after-character s x) (sym (so-far .state))
+
+    next-printed : printed print r (take (i + 1) chunk)
+        ≡ printed print r (take i chunk) ++ printed-character print (record { world = w; line = take len line }) x
+    unfolding printed
+    next-printed =
+        let done = printed print r (take i chunk) in
+        ap (printed print r) (one-more chunk i x more x-is) ∙ printed-append print r (take i chunk) (x ∷ [])
+        ∙ ap (_++_ done) (append-nil (printed-character print (after r (take i chunk)) x))
+        ∙ ap (λ (s : Reading). done ++ printed-character print s x) (sym (so-far .state))
+
+    -- another character is kept
+    pub next-character : (line′ : List ℕ) (len′ : ℕ) → (x ≡ line-feed → ⊥)
+        → take len′ line′ ≡ with-character (take len line) x → len′ ≤ kept-length → length line′ ≡ kept-length
+        → SoFar chunk old r out w line′ len′ at (i + 1)
+    unfolding after-character printed-character
+    next-character line′ len′ other kept-is short size =
+        let done = printed print r (take i chunk) in
+        let same : printed print r (take (i + 1) chunk) ≡ done =
+        next-printed ∙ rw (ne-eqb x line-feed other) (append-nil done) in
+        record {
+          within = omega arith;
+          kept = short;
+          line-size = size;
+          bodies-size = so-far .bodies-size;
+          pairs-size = so-far .pairs-size;
+          out-size = so-far .out-size;
+          at-within = so-far .at-within;
+          count = so-far .count ∙ ap length (sym same);
+          output = so-far .output ∙ ap (λ (l : List ℕ). over l old) (sym same);
+          state =
+              ap (λ (l : List ℕ). record { world = w; line = l }) kept-is
+              ∙ rw next-after (simp (ne-eqb x line-feed other));
+        }
+
+    -- a line feed: the line is answered, and the next begins
+    pub next-line : (w′ : World) (said : Said) (part : List ℕ) (n : ℕ) → x ≡ line-feed
+        → w′ ≡ after-line w (take len line) → said ≡ said-of-line w (take len line) → length (w′ .bodies) ≡ 8
+        → length (w′ .pairs) ≡ 64 → length part ≡ length (midOf at (length out - at) out)
+        → Put (print said) (midOf at (length out - at) out) n part
+        → SoFar chunk old r (putMid at (length out - at) out part) w′ line 0 (at + n) (i + 1)
+    unfolding after-character printed-character
+    next-line w′ said part n feed w′-is said-is bodies pairs part-size put =
+        let new = print said in
+        let done = printed print r (take i chunk) in
+        let grown : printed print r (take (i + 1) chunk) ≡ done ++ new =
+        next-printed ∙ rw (eq-eqb x line-feed feed, said-is) refl in
+        let room : at + n ≤ length old =
+        omega (
+          arith,
+          so-far .out-size,
+          put-fits at n out new part (omega (arith, so-far .out-size, so-far .at-within)) part-size put,
+        ) in
+        let total : length (done ++ new) ≡ at + n = omega (arith, length-append done new, so-far .count, put .count) in
+        let left : putMid at (length out - at) out part ≡ over (done ++ new) old =
+        over-next done new old out part at (sym (so-far .count)) (so-far .output) (put .left) in
+        record {
+          within = omega arith;
+          kept = omega arith;
+          line-size = so-far .line-size;
+          bodies-size = bodies;
+          pairs-size = pairs;
+          out-size = ap length left ∙ length-over (done ++ new) old (omega arith);
+          at-within = room;
+          count = sym total ∙ ap length (sym grown);
+          output = left ∙ ap (λ (l : List ℕ). over l old) (sym grown);
+          state =
+              ap (λ (v : World). record { world = v; line = [] }) w′-is
+              ∙ rw next-after (simp (eq-eqb x line-feed feed));
+        }
+
+-- ---- at the end: all was taken, or the output has no room for one more line
+module _ (s : Reader) (chunk old out : List ℕ) (w : World) (line : List ℕ) (len at i : ℕ)
+    (so-far : SoFar said-line chunk old (reading s) out w line len at i)
+    (end : longest-line ≤ length old - at → i ≡ length chunk) where
+  -- with room for a line some of a piece was taken
+  some-taken : (k : ℕ) → k ≡ i → longest-line ≤ length old → 0 < length chunk → 0 < k
+  unfolding printed
+  some-taken zero is room more =
+      let start : at ≡ 0 =
+      so-far .count ∙ ap (λ (n : ℕ). length (printed said-line (reading s) (take n chunk))) (sym is) in
+      absurd (omega (arith, is, end (omega (arith, start))))
+  some-taken (suc k) is room more = omega arith
+
+  pub fed-at-end : FedAs s chunk old
+      (record { reader = record { world = w; line = line; len = len }; taken = i; written = at }) out
+  fed-at-end = record {
+    within = so-far .within;
+    all = end;
+    some = some-taken i refl;
+    state = so-far .state;
+    count = so-far .count;
+    output = so-far .output;
+  }
+
+-- ---- the world after a line, from what the code reads in it
+module _ (w : World) (line frame : List ℕ) (frame-is : frame ≡ frame-of line) (a b : ℕ) (a-is : a ≡ byte-at frame 1 % 8)
+    (b-is : b ≡ byte-at frame 2 % 8) (bodies-size : length (w .bodies) ≡ 8) (pairs-size : length (w .pairs) ≡ 64)
+    (past-a past-b : Body) (past-pair : Pair) (c : Change)
+    (c-is : c ≡ change (getD (w .bodies) a past-a) (getD (w .bodies) b past-b) (getD (w .pairs) (8 * a + b) past-pair)
+    frame) where
+  pub change-is : c ≡ change-in w (frame-of line)
+  unfolding change-in
+  change-is =
+      c-is
+      ∙ rw (
+        getD-within (w .bodies) a past-a blank-body (omega arith),
+        getD-within (w .bodies) b past-b blank-body (omega arith),
+        getD-within (w .pairs) (8 * a + b) past-pair fresh-pair (omega arith),
+        a-is,
+        b-is,
+        frame-is,
+      ) refl
+
+  pub said-is : c .said ≡ said-of-line w line
+  unfolding said-of-frame
+  said-is = ap (λ (d : Change). d .said) change-is
+
+  world-changed : changed w a b c ≡ after-line w line
+  unfolding after-frame
+  world-changed = rw (← frame-is, ← a-is, ← b-is) (ap (changed w a b) (change-is ∙ rw (← frame-is) refl))
+
+  -- a new shape: its pairs are forgotten
+  pub world-forgets : (fresh : List Pair) → c .forget ≡ true → fresh ≡ forget a (w .pairs)
+      → record { bodies = set (w .bodies) a (c .body); pairs = fresh } ≡ after-line w line
+  unfolding changed
+  world-forgets fresh forgets is = rw is (simp forgets at world-changed)
+
+  -- any other frame: the pair is written
+  pub world-keeps : c .forget ≡ false
+      → record { bodies = set (w .bodies) a (c .body); pairs = set (w .pairs) (8 * a + b) (c .pair) }
+      ≡ after-line w line
+  unfolding changed
+  world-keeps keeps = simp keeps at world-changed
+
+pub length-forget : (id : ℕ) (pairs : List Pair) (n : ℕ) → length (forget-below id pairs n) ≡ length pairs
+unfolding forget-below
+length-forget id pairs zero = refl
+length-forget id pairs (suc n) = simp length-set (length-forget id pairs n)
+
+-- ---- keeping a character
+pub character-kept : (line : List ℕ) (len x : ℕ) → len < kept-length → length line ≡ kept-length
+    → take (len + 1) (set line len x) ≡ with-character (take len line) x
+character-kept line len x short size =
+    ap (λ (n : ℕ). take n (set line len x)) (add-one len) ∙ take-suc-set line len x (omega arith)
+    ∙ simp (lt-ltb (length (take len line)) kept-length (omega (arith, length-take-le len line (omega arith))))
+
+pub character-dropped : (line : List ℕ) (len x : ℕ) → kept-length ≤ len → len ≤ kept-length
+    → length line ≡ kept-length → take len line ≡ with-character (take len line) x
+character-dropped line len x full short size =
+    simp (le-ltb (length (take len line)) kept-length (omega (arith, length-take-le len line (omega arith))))
+
+-- a count past the row that is kept says the whole row
+pub count-held : (line : List ℕ) (len : ℕ) → kept-length ≤ len → length line ≡ kept-length
+    → take kept-length line ≡ take len line
+count-held line len full size =
+    take-all kept-length line (omega arith) ∙ sym (take-all len line (omega arith))

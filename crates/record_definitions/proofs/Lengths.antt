@@ -1,0 +1,49 @@
+-- The bytes of an answer: 1, 2, 13, 33 or 45. Assumes nothing.
+use Prim.Native.Nat.{ℕ, _≤_}
+use mathlib.Core.Path.{_≡_, refl}
+use mathlib.Core.Bool.{Bool, true, false, cond}
+use mathlib.Core.List.{List, [], _∷_}
+use native.Mathlib.Omega.{arith}
+use lib.Dec.{eqb}
+use lib.ListN.{length, length-append}
+use Rattle.lines.specs.Hex.{hex, line-feed}
+use Rattle.lines.proofs.Writing.{length-hex}
+use Rattle.record_definitions.specs.declared.touch.Touch.{Touch}
+use Rattle.record_definitions.specs.declared.frame.Answer.{Answer}
+use Rattle.record_definitions.specs.declared.frame.Answer.the-variants.{Accepted, Refused, Tested}
+use Rattle.record_definitions.specs.declared.frame.Said.{Said}
+use Rattle.record_definitions.specs.Answer.{head-bytes, point-bytes, touch-bytes, answer-bytes, longest-answer}
+use Rattle.record_definitions.specs.Answer.{said-bytes, said-line, longest-line}
+
+length-of : (none one : Bool) (x y z : List ℕ) (k l m : ℕ) → length x ≡ k → length y ≡ l → length z ≡ m
+    → length (cond none x (cond one y z)) ≡ cond none k (cond one l m)
+length-of true one x y z k l m x-size y-size z-size = x-size
+length-of false true x y z k l m x-size y-size z-size = y-size
+length-of false false x y z k l m x-size y-size z-size = z-size
+
+pub touch-size : (t : Touch) → length (touch-bytes t) ≡ cond (eqb (t .count) 0) 13 (cond (eqb (t .count) 1) 33 45)
+unfolding touch-bytes head-bytes point-bytes
+touch-size t = length-of (eqb (t .count) 0) (eqb (t .count) 1) _ _ _ 13 33 45 refl refl refl
+
+size-within : (none one : Bool) → cond none 13 (cond one 33 45) ≤ longest-answer
+size-within true one = omega arith
+size-within false true = omega arith
+size-within false false = omega arith
+
+answer-within : (answer : Answer) → length (answer-bytes answer) ≤ longest-answer
+answer-within Accepted = omega arith
+answer-within (Refused number) = omega arith
+answer-within (Tested t) =
+    omega (arith, touch-size t, size-within (eqb (t .count) 0) (eqb (t .count) 1))
+
+pub said-within : (said : Said) → length (said-bytes said) ≤ longest-answer
+said-within said = answer-within (said .answer)
+
+pub line-within : (said : Said) → length (said-line said) ≤ longest-line
+line-within said =
+    omega (
+      arith,
+      said-within said,
+      length-append (hex (said-bytes said)) (line-feed ∷ []),
+      length-hex (said-bytes said),
+    )

@@ -1,0 +1,115 @@
+-- A change whose answer is a refusal is that refusal alone, whatever the frame: so it leaves the world as it was.
+-- Assumes nothing.
+use Prim.Native.Nat.{ℕ}
+use mathlib.Core.Path.{_≡_, refl, _∙_, ap}
+use mathlib.Core.Bool.{not}
+use mathlib.Core.List.{List}
+use native.Mathlib.Omega.{arith}
+use lib.Dec.{eqb, ltb}
+use lib.Seq.{set-getD}
+use Rattle.floats.specs.Ranges.{transform-in-range}
+use Rattle.lines.specs.Fields.{byte-at, points-at, placement-at}
+use Rattle.shape_definitions.specs.Circle.{circle-in-range}
+use Rattle.shape_definitions.specs.Polygon.{b2-polygon-shape-set}
+use Rattle.shape_definitions.specs.Refusal.{accepted, shape-out-of-range, placement-out-of-range}
+use Rattle.shape_definitions.specs.Refusal.{malformed-frame, unknown-id, no-shape}
+use Rattle.contact_definitions.proofs.Counts.{either}
+use Rattle.record_definitions.specs.declared.world.Body.{Body}
+use Rattle.record_definitions.specs.declared.world.Pair.{Pair}
+use Rattle.record_definitions.specs.declared.world.World.{World}
+use Rattle.record_definitions.specs.declared.touch.Touch.{Touch}
+use Rattle.record_definitions.specs.declared.frame.Answer.the-variants.{Accepted, Refused, Tested}
+use Rattle.record_definitions.specs.declared.frame.Change.{Change}
+use Rattle.record_definitions.specs.World.{no-body, blank-outline, blank-body, fresh-pair, body-at, pair-at}
+use Rattle.record_definitions.specs.World.{pair-place}
+use Rattle.record_definitions.specs.Touch.{tested}
+use Rattle.record_definitions.specs.Frame.{well-formed, largest-id, refused, circle-at, circle-change}
+use Rattle.record_definitions.specs.Frame.{outline-change, wall-at, wall-change, place-change, test-refusal}
+use Rattle.record_definitions.specs.Frame.{test-change, change-of-kind, change}
+use Rattle.record_definitions.specs.Step.{first-place, second-place, changed, change-in, after-frame}
+use Rattle.record_definitions.specs.Step.{said-of-frame}
+
+-- where the answer is a refusal, the change is that refusal alone
+Keeps : Body → Pair → Change → Type 0
+Keeps a pair c = (n : ℕ) → c .said .answer ≡ Refused n → c ≡ refused n a pair
+
+module _ (a : Body) (pair : Pair) where
+  refused-keeps : (m : ℕ) → Keeps a pair (refused m a pair)
+  unfolding Keeps
+  refused-keeps m n e =
+      let same : m ≡ n = cc in
+      ap (λ (k : ℕ). refused k a pair) same
+
+  accepted-keeps : (c : Change) → c .said .answer ≡ Accepted → Keeps a pair c
+  unfolding Keeps
+  accepted-keeps c is n e =
+      let never : _≡_ {A = ℕ} 0 1 = cc in
+      absurd (omega arith)
+
+  tested-keeps : (c : Change) (t : Touch) → c .said .answer ≡ Tested t → Keeps a pair c
+  unfolding Keeps
+  tested-keeps c t is n e =
+      let never : _≡_ {A = ℕ} 0 1 = cc in
+      absurd (omega arith)
+
+  module _ (bytes : List ℕ) where
+    circle-keeps : Keeps a pair (circle-change a pair bytes)
+    unfolding circle-change
+    circle-keeps =
+        either (Keeps a pair) (circle-in-range (circle-at bytes)) _ _ (accepted-keeps _ refl)
+        (refused-keeps shape-out-of-range)
+
+    outline-keeps : Keeps a pair (outline-change a pair bytes)
+    unfolding outline-change
+    outline-keeps =
+        let number = b2-polygon-shape-set blank-outline (points-at bytes 3 (byte-at bytes 2)) .refusal in
+        either (Keeps a pair) (eqb number accepted) _ _ (accepted-keeps _ refl) (refused-keeps number)
+
+    wall-keeps : Keeps a pair (wall-change a pair bytes)
+    unfolding wall-change
+    wall-keeps =
+        either (Keeps a pair) (eqb (wall-at bytes .refusal) accepted) _ _ (accepted-keeps _ refl)
+        (refused-keeps (wall-at bytes .refusal))
+
+    place-keeps : Keeps a pair (place-change a pair bytes)
+    unfolding place-change
+    place-keeps =
+        either (Keeps a pair) (eqb (a .kind) no-body) _ _ (refused-keeps no-shape)
+        (either (Keeps a pair) (not (transform-in-range (placement-at bytes 2))) _ _
+        (refused-keeps placement-out-of-range) (accepted-keeps _ refl))
+
+    test-keeps : (ida idb : ℕ) (b : Body) → Keeps a pair (test-change ida idb a b pair)
+    unfolding test-change
+    test-keeps ida idb b =
+        let t = tested ida idb a b pair in
+        let number = test-refusal ida idb (a .kind) (b .kind) in
+        either (Keeps a pair) (eqb number accepted) _ _
+        (either (Keeps a pair) (eqb (t .refusal) accepted) _ _ (tested-keeps _ (t .touch) refl)
+        (refused-keeps (t .refusal)))
+        (refused-keeps number)
+
+    kind-keeps : (kind : ℕ) (b : Body) → Keeps a pair (change-of-kind kind a b pair bytes)
+    unfolding change-of-kind
+    kind-keeps kind b =
+        either (Keeps a pair) (eqb kind 1) _ _ circle-keeps
+        (either (Keeps a pair) (eqb kind 2) _ _ outline-keeps
+        (either (Keeps a pair) (eqb kind 3) _ _ wall-keeps
+        (either (Keeps a pair) (eqb kind 4) _ _ place-keeps (test-keeps (byte-at bytes 1) (byte-at bytes 2) b))))
+
+    pub change-refused : (b : Body) (n : ℕ) → change a b pair bytes .said .answer ≡ Refused n
+        → change a b pair bytes ≡ refused n a pair
+    unfolding change Keeps
+    change-refused b =
+        either (Keeps a pair) (not (well-formed bytes)) _ _ (refused-keeps malformed-frame)
+        (either (Keeps a pair) (ltb largest-id (byte-at bytes 1)) _ _ (refused-keeps unknown-id)
+        (kind-keeps (byte-at bytes 0) b))
+
+-- so a frame that is refused leaves the world as it was
+pub after-refused : (w : World) (bytes : List ℕ) (n : ℕ) → said-of-frame w bytes .answer ≡ Refused n
+    → after-frame w bytes ≡ w
+unfolding after-frame said-of-frame changed change-in
+after-refused w bytes n is =
+    let a = first-place bytes in
+    let b = second-place bytes in
+    ap (changed w a b) (change-refused (body-at w a) (pair-at w a b) bytes (body-at w b) n is)
+    ∙ rw (set-getD (w .bodies) a blank-body, set-getD (w .pairs) (pair-place a b) fresh-pair) refl

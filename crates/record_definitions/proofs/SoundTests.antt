@@ -1,0 +1,256 @@
+-- Which refusals a test can meet in a sound world: its outlines have three to eight corners and its bodies are placed
+-- within the range, so neither 7 nor 6. Assumes nothing.
+use Prim.Native.Nat.{ℕ, _≤_}
+use mathlib.Core.Path.{_≡_, refl, sym, _∙_, subst}
+use mathlib.Core.Bool.{Bool, true, false, not, _&&_, _||_, false≢true}
+use mathlib.Core.List.{List}
+use native.Mathlib.Omega.{arith}
+use lib.Dec.{eqb, ltb}
+use lib.Ieee.{Float, le, lt}
+use Rattle.rounding.specs.Literals.{zero32}
+use borrow.Author.Tests.{eqb-true, le-ltb}
+use Rattle.floats.specs.declared.b2_math.B2vec2.{B2vec2}
+use Rattle.floats.specs.declared.b2_math.B2Transform.{B2Transform}
+use Rattle.floats.specs.Ranges.{radius-in-range, transform-in-range}
+use Rattle.lines.specs.Fields.{byte-at}
+use Rattle.shape_definitions.specs.declared.b2_edge_shape.B2edgeShape.{B2edgeShape}
+use Rattle.shape_definitions.specs.declared.b2_polygon_shape.B2polygonShape.{B2polygonShape}
+use Rattle.shape_definitions.specs.Circle.{circle-in-range}
+use Rattle.shape_definitions.specs.Edge.{edge-in-range}
+use Rattle.shape_definitions.specs.Validate.{polygon-in-range}
+use Rattle.shape_definitions.specs.Refusal.{accepted, placement-out-of-range, count-out-of-range, wall-too-short}
+use Rattle.contact_definitions.specs.declared.b2_collision.B2manifold.{B2manifold}
+use Rattle.contact_definitions.specs.declared.b2_collision.ManifoldAnswer.{ManifoldAnswer}
+use Rattle.contact_definitions.specs.declared.b2_collision.WorldAnswer.{WorldAnswer}
+use Rattle.contact_definitions.specs.Manifold.{miscounted, unless-miscounted, where-in-range, manifold-accepted}
+use Rattle.contact_definitions.specs.Manifold.{manifold-refused, default-manifold}
+use Rattle.contact_definitions.specs.B2CollideCircle.{b2-collide-circles, b2-collide-polygon-and-circle}
+use Rattle.contact_definitions.specs.B2CollidePolygon.{b2-collide-polygons}
+use Rattle.contact_definitions.specs.B2CollideEdge.{b2-collide-edge-and-circle, b2-collide-edge-and-polygon}
+use Rattle.contact_definitions.specs.B2CollideEdge.{edge-circle-answer}
+use Rattle.contact_definitions.specs.EdgeAxis.{right-of}
+use Rattle.floats.specs.B2Math.{b2-sub, b2-dot}
+use Rattle.algebra.proofs.Booleans.{by-test}
+use Rattle.contact_definitions.specs.WorldManifold.{b2-world-manifold-initialize, manifold-in-range}
+use Rattle.contact_definitions.proofs.Counts.{either}
+use Rattle.record_definitions.specs.declared.world.Body.{Body}
+use Rattle.record_definitions.specs.declared.world.Pair.{Pair}
+use Rattle.record_definitions.specs.World.{no-body, circle-kind, outline-kind, wall-kind, blank-outline}
+use Rattle.record_definitions.specs.Touch.{meet-circle, meet-outline, meet, skin, world-points}
+use Rattle.record_definitions.specs.Touch.{tested-as, tested}
+use Rattle.record_definitions.specs.Frame.{well-formed, largest-id, refused, listed, test-refusal, test-change}
+use Rattle.record_definitions.specs.Frame.{change-of-kind, change}
+use Rattle.record_definitions.specs.declared.touch.Touch.{Touch}
+use Rattle.record_definitions.specs.declared.frame.Change.{Change}
+use Rattle.record_definitions.specs.declared.frame.Answer.the-variants.{Refused, Tested}
+use Rattle.shape_definitions.specs.Refusal.{malformed-frame, unknown-id}
+use Rattle.record_definitions.proofs.Changes.{by-choice}
+use Rattle.record_definitions.proofs.Counting.{met-few}
+use Rattle.record_definitions.proofs.BuiltCounts.{built-count}
+use Rattle.record_definitions.proofs.Sound.{Built, SoundBody}
+
+-- neither of a placement nor of a count
+abbrev pub NotOfHost : ℕ → Type 0
+NotOfHost n = (n ≡ placement-out-of-range → ⊥) × (n ≡ count-out-of-range → ⊥)
+
+Fine : ManifoldAnswer → Type 0
+Fine answer = NotOfHost (answer .refusal)
+
+-- ---- contacts
+right-count : (count : ℕ) → 3 ≤ count → count ≤ 8 → miscounted count ≡ false
+right-count count enough few = simp (le-ltb count 3 enough, le-ltb 8 count few)
+
+counted-right : (outline : B2polygonShape) → Built outline → miscounted (outline .«m_count») ≡ false
+counted-right outline built =
+    let right = built-count blank-outline (built .points) (built .taken) in
+    rw (built .is) (right-count _ (right .0) (right .1))
+
+in-range-fine : (shapes : Bool) (xfA xfB : B2Transform) (old : B2manifold) (answer : ManifoldAnswer)
+    → transform-in-range xfA ≡ true → transform-in-range xfB ≡ true → Fine answer
+    → Fine (where-in-range shapes xfA xfB old answer)
+unfolding Fine
+in-range-fine shapes xfA xfB old answer a-placed b-placed fine =
+    rw (a-placed, b-placed)
+    (either Fine (not shapes) _ answer (λ e. absurd (omega arith), λ e. absurd (omega arith)) fine)
+
+accepted-fine : (m : B2manifold) → Fine (manifold-accepted m)
+unfolding Fine
+accepted-fine m = (λ e. absurd (omega arith), λ e. absurd (omega arith))
+
+too-short-fine : (m : B2manifold) → Fine (manifold-refused wall-too-short m)
+unfolding Fine
+too-short-fine m = (λ e. absurd (omega arith), λ e. absurd (omega arith))
+
+counted-fine : (wrong : Bool) (old : B2manifold) (answer : ManifoldAnswer) → wrong ≡ false → Fine answer
+    → Fine (unless-miscounted wrong old answer)
+counted-fine wrong old answer right fine = rw right fine
+
+edge-circle-fine : (old : B2manifold) (edge : B2edgeShape) (q : B2vec2) (radius : Float) (centre : B2vec2)
+    → Fine (edge-circle-answer old edge q radius centre)
+unfolding edge-circle-answer
+edge-circle-fine old edge q radius centre =
+    let a = edge .«m_vertex1» in
+    let b = edge .«m_vertex2» in
+    let e = b2-sub b a in
+    either Fine (edge .«m_one_sided» && lt (b2-dot (right-of e) (b2-sub q a)) zero32) _ _ (accepted-fine _)
+    (either Fine (le (b2-dot e (b2-sub q a)) zero32) _ _ (accepted-fine _)
+    (either Fine (le (b2-dot e (b2-sub b q)) zero32) _ _ (accepted-fine _)
+    (either Fine (lt zero32 (b2-dot e e)) _ _ (accepted-fine _) (too-short-fine old))))
+
+-- a listed pair whose second is no circle has an outline there
+none-left : (x y z : Bool) → (x && false) || (y && false) || (y && false) || (z && false) || (z && false) ≡ false
+none-left true true true = refl
+none-left true true false = refl
+none-left true false true = refl
+none-left true false false = refl
+none-left false true true = refl
+none-left false true false = refl
+none-left false false true = refl
+none-left false false false = refl
+
+second-is-outline : (a b : ℕ) → listed a b ≡ true → eqb b circle-kind ≡ false → b ≡ outline-kind
+unfolding listed
+second-is-outline a b is no-circle =
+    by-test (eqb b outline-kind) (eqb-true b outline-kind)
+    (λ no-outline. let none : listed a b ≡ false =
+    rw (no-circle, no-outline) (none-left (eqb a circle-kind) (eqb a outline-kind) (eqb a wall-kind)) in
+    absurd (false≢true (sym none ∙ is)))
+
+module _ (a b : Body) (a-sound : SoundBody a) (b-sound : SoundBody b) where
+  fine-range : (shapes : Bool) (answer : ManifoldAnswer) → Fine answer
+      → Fine (where-in-range shapes (a .xf) (b .xf) default-manifold answer)
+  fine-range shapes answer =
+      in-range-fine shapes (a .xf) (b .xf) default-manifold answer (a-sound .placement) (b-sound .placement)
+
+  outline-counted : (body : Body) → SoundBody body → body .kind ≡ outline-kind
+      → miscounted (body .outline .«m_count») ≡ false
+  outline-counted body sound is = counted-right (body .outline) (sound .outline is)
+
+  circles-fine : Fine (b2-collide-circles default-manifold (a .circle) (a .xf) (b .circle) (b .xf))
+  unfolding b2-collide-circles
+  circles-fine = fine-range (circle-in-range (a .circle) && circle-in-range (b .circle)) _ (accepted-fine _)
+
+  polygon-circle-fine : a .kind ≡ outline-kind
+      → Fine (b2-collide-polygon-and-circle default-manifold (a .outline) (a .xf) (b .circle) (b .xf))
+  unfolding b2-collide-polygon-and-circle
+  polygon-circle-fine is =
+      counted-fine (miscounted (a .outline .«m_count»)) default-manifold _ (outline-counted a a-sound is)
+      (fine-range (polygon-in-range (a .outline) && circle-in-range (b .circle)) _ (accepted-fine _))
+
+  wall-circle-fine : Fine (b2-collide-edge-and-circle default-manifold (a .wall) (a .xf) (b .circle) (b .xf))
+  unfolding b2-collide-edge-and-circle
+  wall-circle-fine =
+      fine-range (edge-in-range (a .wall) && circle-in-range (b .circle)) _ (edge-circle-fine _ _ _ _ _)
+
+  polygons-fine : a .kind ≡ outline-kind → b .kind ≡ outline-kind
+      → Fine (b2-collide-polygons default-manifold (a .outline) (a .xf) (b .outline) (b .xf))
+  unfolding b2-collide-polygons
+  polygons-fine a-is b-is =
+      counted-fine (miscounted (a .outline .«m_count») || miscounted (b .outline .«m_count»)) default-manifold _
+      (simp (outline-counted a a-sound a-is, outline-counted b b-sound b-is))
+      (fine-range (polygon-in-range (a .outline) && polygon-in-range (b .outline)) _ (accepted-fine _))
+
+  wall-polygon-fine : b .kind ≡ outline-kind
+      → Fine (b2-collide-edge-and-polygon default-manifold (a .wall) (a .xf) (b .outline) (b .xf))
+  unfolding b2-collide-edge-and-polygon
+  wall-polygon-fine is =
+      counted-fine (miscounted (b .outline .«m_count»)) default-manifold _ (outline-counted b b-sound is)
+      (fine-range (edge-in-range (a .wall) && polygon-in-range (b .outline)) _ (accepted-fine _))
+
+  met-fine : listed (a .kind) (b .kind) ≡ true → Fine (meet a b)
+  unfolding meet meet-circle meet-outline
+  met-fine is-listed =
+      by-choice Fine (eqb (b .kind) circle-kind) _ _
+      (λ circle. either Fine (eqb (a .kind) circle-kind) _ _ circles-fine
+      (by-choice Fine (eqb (a .kind) outline-kind) _ _
+      (λ is. polygon-circle-fine (eqb-true (a .kind) outline-kind is)) (λ wall. wall-circle-fine)))
+      (λ other. let b-is = second-is-outline (a .kind) (b .kind) is-listed other in
+      by-choice Fine (eqb (a .kind) outline-kind) _ _
+      (λ is. polygons-fine (eqb-true (a .kind) outline-kind is) b-is) (λ wall. wall-polygon-fine b-is))
+
+  -- ---- world points
+  few-points : (m : B2manifold) → m .«point_count» ≤ 2 → NotOfHost (world-points a b m .refusal)
+  unfolding world-points b2-world-manifold-initialize
+  few-points m few =
+      rw (le-ltb 2 (m .«point_count») few, a-sound .placement, b-sound .placement)
+      (either FineWorld (eqb (m .«point_count») 0) _ _ (λ e. absurd (omega arith), λ e. absurd (omega arith))
+      (either FineWorld (not (manifold-in-range m && radius-in-range (skin a) && radius-in-range (skin b))) _ _
+      (λ e. absurd (omega arith), λ e. absurd (omega arith)) (λ e. absurd (omega arith), λ e. absurd (omega arith))))
+    where
+      FineWorld : WorldAnswer → Type 0
+      FineWorld answer = NotOfHost (answer .refusal)
+
+  pub test-fine : (ida idb : ℕ) (pair : Pair) → listed (a .kind) (b .kind) ≡ true
+      → NotOfHost (tested ida idb a b pair .refusal)
+  unfolding tested tested-as Fine
+  test-fine ida idb pair is-listed =
+      by-choice NotOfHost (eqb (meet a b .refusal) accepted) _ _
+      (λ taken. few-points (meet a b .manifold)
+      (met-few a b (eqb-true (meet a b .refusal) accepted taken) .at-most-two))
+      (λ not-taken. met-fine is-listed)
+
+-- ---- the frame of a test
+number-fine : (ida idb kinda kindb : ℕ) → NotOfHost (test-refusal ida idb kinda kindb)
+unfolding test-refusal
+number-fine ida idb kinda kindb =
+    either NotOfHost (ltb largest-id idb) _ _ (λ e. absurd (omega arith), λ e. absurd (omega arith))
+    (either NotOfHost (eqb kinda no-body || eqb kindb no-body) _ _
+    (λ e. absurd (omega arith), λ e. absurd (omega arith))
+    (either NotOfHost (eqb ida idb || not (listed kinda kindb)) _ _
+    (λ e. absurd (omega arith), λ e. absurd (omega arith)) (λ e. absurd (omega arith), λ e. absurd (omega arith))))
+
+-- a pair that nothing speaks against is listed
+listed-by : (ida idb kinda kindb : ℕ) (above empty same known : Bool) → ltb largest-id idb ≡ above
+    → eqb kinda no-body || eqb kindb no-body ≡ empty → eqb ida idb ≡ same → listed kinda kindb ≡ known
+    → test-refusal ida idb kinda kindb ≡ accepted → listed kinda kindb ≡ true
+unfolding test-refusal
+listed-by ida idb kinda kindb true empty same known is-above is-empty is-same is-known none =
+    let never : _≡_ {A = ℕ} 11 0 = simp is-above at none in
+    absurd (omega arith)
+listed-by ida idb kinda kindb false true same known is-above is-empty is-same is-known none =
+    let never : _≡_ {A = ℕ} 12 0 = simp (is-above, is-empty) at none in
+    absurd (omega arith)
+listed-by ida idb kinda kindb false false true known is-above is-empty is-same is-known none =
+    let never : _≡_ {A = ℕ} 13 0 = simp (is-above, is-empty, is-same) at none in
+    absurd (omega arith)
+listed-by ida idb kinda kindb false false false true is-above is-empty is-same is-known none = is-known
+listed-by ida idb kinda kindb false false false false is-above is-empty is-same is-known none =
+    let never : _≡_ {A = ℕ} 13 0 = simp (is-above, is-empty, is-same, is-known) at none in
+    absurd (omega arith)
+
+module _ (a b : Body) (pair : Pair) (bytes : List ℕ) (a-sound : SoundBody a) (b-sound : SoundBody b) where
+  Says : Change → Type 0
+  Says c = (n : ℕ) → c .said .answer ≡ Refused n → NotOfHost n
+
+  refused-says : (m : ℕ) → NotOfHost m → Says (refused m a pair)
+  unfolding Says
+  refused-says m fine n e =
+      let same : m ≡ n = cc in
+      subst NotOfHost same fine
+
+  tested-says : (c : Change) (t : Touch) → c .said .answer ≡ Tested t → Says c
+  unfolding Says
+  tested-says c t is n e =
+      let never : _≡_ {A = ℕ} 0 1 = cc in
+      absurd (omega arith)
+
+  test-says : (ida idb : ℕ) → Says (test-change ida idb a b pair)
+  unfolding test-change
+  test-says ida idb =
+      let number = test-refusal ida idb (a .kind) (b .kind) in
+      let t = tested ida idb a b pair in
+      by-choice Says (eqb number accepted) _ _
+      (λ nothing-against. let is-listed = listed-by ida idb (a .kind) (b .kind) _ _ _ _ refl refl refl refl
+      (eqb-true number accepted nothing-against) in
+      either Says (eqb (t .refusal) accepted) _ _ (tested-says _ (t .touch) refl)
+      (refused-says (t .refusal) (test-fine a b a-sound b-sound ida idb pair is-listed)))
+      (λ against. refused-says number (number-fine ida idb (a .kind) (b .kind)))
+
+  pub test-frame-fine : byte-at bytes 0 ≡ 5 → (n : ℕ) → change a b pair bytes .said .answer ≡ Refused n → NotOfHost n
+  unfolding change change-of-kind Says
+  test-frame-fine five =
+      either Says (not (well-formed bytes)) _ _
+      (refused-says malformed-frame (λ e. absurd (omega arith), λ e. absurd (omega arith)))
+      (either Says (ltb largest-id (byte-at bytes 1)) _ _
+      (refused-says unknown-id (λ e. absurd (omega arith), λ e. absurd (omega arith)))
+      (rw five (test-says (byte-at bytes 1) (byte-at bytes 2))))

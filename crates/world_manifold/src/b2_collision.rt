@@ -1,0 +1,103 @@
+// World points, as a call (b2_world_manifold_initialize of Box2D's b2_collision.cpp): 7 for a count above 2; nothing
+// for no points; 9 for a number of the manifold or a radius out of range; 6 for a placement.
+ghost use mathlib.Core.Path.{_≡_};
+ghost use Prim.Native.Nat.{_<_, _≤_};
+ghost use Rattle.contact_definitions.specs.WorldManifold.{world-of-kind, b2-world-manifold-initialize};
+ghost use Rattle.world_manifold.specs.Answers.{world-answer};
+use crate::point_ranges;
+use contact_definitions::b2_collision::B2manifold;
+use contact_definitions::b2_collision::B2manifoldType;
+use contact_definitions::b2_collision::B2worldManifold;
+use contact_definitions::b2_collision::WorldAnswer;
+use floats::b2_common::B2_MAX_MANIFOLD_POINTS;
+use floats::b2_math::B2Transform;
+use shape_definitions::refusal;
+use world_points::circle_points;
+use world_points::face_points;
+
+// By the kind of the manifold.
+pub fn world_of_kind(
+    kind: B2manifoldType,
+    old: B2worldManifold,
+    m: B2manifold,
+    xf_a: B2Transform,
+    radius_a: f32,
+    xf_b: B2Transform,
+    radius_b: f32,
+) -> B2worldManifold
+    requires { ⌜ (0 < m .«point_count») × (m .«point_count» ≤ 2) ⌝ }
+    ensures { λ r. ⌜ r ≡ world-of-kind kind old m «xf_a» «radius_a» «xf_b» «radius_b» ⌝ }
+{
+    match kind {
+        B2manifoldType::ECircles => {
+            circle_points::world_of_circles(old, m, xf_a, radius_a, xf_b, radius_b)
+        }
+        B2manifoldType::EFaceA => {
+            face_points::world_of_face(false, old, m, xf_a, radius_a, xf_b, radius_b)
+        }
+        B2manifoldType::EFaceB => {
+            face_points::world_of_face(true, old, m, xf_b, radius_b, xf_a, radius_a)
+        }
+    }
+}
+
+// The world manifold of m, from the one that was given.
+pub fn b2_world_manifold_initialize_core(
+    old: B2worldManifold,
+    m: B2manifold,
+    xf_a: B2Transform,
+    radius_a: f32,
+    xf_b: B2Transform,
+    radius_b: f32,
+) -> WorldAnswer
+    ensures { λ r. ⌜ r ≡ b2-world-manifold-initialize old m «xf_a» «radius_a» «xf_b» «radius_b» ⌝ }
+{
+    let count = m.point_count;
+    if count > B2_MAX_MANIFOLD_POINTS {
+        return WorldAnswer {
+            world: old,
+            refusal: refusal::COUNT_OUT_OF_RANGE,
+        };
+    }
+    if count == 0 {
+        return WorldAnswer {
+            world: old,
+            refusal: refusal::ACCEPTED,
+        };
+    }
+    if !point_ranges::numbers_in_range(m, radius_a, radius_b) {
+        return WorldAnswer {
+            world: old,
+            refusal: refusal::CONTACT_OUT_OF_RANGE,
+        };
+    }
+    if !point_ranges::placements_in_range(xf_a, xf_b) {
+        return WorldAnswer {
+            world: old,
+            refusal: refusal::PLACEMENT_OUT_OF_RANGE,
+        };
+    }
+    let kind = m.manifold_type;
+    let world = world_of_kind(kind, old, m, xf_a, radius_a, xf_b, radius_b);
+    WorldAnswer {
+        world,
+        refusal: refusal::ACCEPTED,
+    }
+}
+
+// The same, with the caller's record changed through a reference: the refusal, or 0.
+pub fn b2_world_manifold_initialize(
+    world: &mut B2worldManifold,
+    m: B2manifold,
+    xf_a: B2Transform,
+    radius_a: f32,
+    xf_b: B2Transform,
+    radius_b: f32,
+) -> u8
+    ensures { λ r. ⌜ world-answer (now (world .exit)) r
+        ≡ b2-world-manifold-initialize (now (world .entry)) m «xf_a» «radius_a» «xf_b» «radius_b» ⌝ }
+{
+    let a = b2_world_manifold_initialize_core(*world, m, xf_a, radius_a, xf_b, radius_b);
+    *world = a.world;
+    a.refusal
+}
