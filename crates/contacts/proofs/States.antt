@@ -14,9 +14,10 @@ use Rattle.contact_definitions.specs.declared.b2_collision.B2manifoldPoint.{B2m
 use Rattle.contact_definitions.specs.declared.b2_collision.B2pointState.{B2pointState}
 use Rattle.contact_definitions.specs.declared.b2_collision.B2pointState.the-variants.{B2NullState, B2PersistState}
 use Rattle.contact_definitions.specs.declared.b2_collision.CountedIds.{CountedIds}
-use Rattle.contact_definitions.specs.Manifold.{counted-points}
+use Rattle.contact_definitions.specs.Manifold.{default-point, manifold-point, counted-points}
+use Rattle.algebra.proofs.Lists.{getD-within}
 use Rattle.contacts.proofs.Pairs.{pair-of}
-use Rattle.contact_definitions.specs.PointStates.{same-id, id-among, counted-ids, ids-in, point-state}
+use Rattle.contact_definitions.specs.PointStates.{same-id, id-among, counted-ids, ids-of, ids-in, point-state}
 
 -- ---- the ids by their count
 module _ (ids : CountedIds) where
@@ -93,7 +94,7 @@ module _ (alone : B2pointState) (mine others : CountedIds) where
     second-state-is t r-is r-t some more =
         ap chosen-state (sym r-t ∙ r-is) ∙ state-as (mine .first ∷ mine .second ∷ []) 1 (two-ids mine some more)
 
--- ---- the ids that a manifold counts: p0 and p1 are read at its two places
+-- ---- the ids that a manifold counts
 abbrev id-of : B2manifoldPoint → B2contactId
 id-of p = p .id
 
@@ -106,11 +107,22 @@ by-count (suc (suc n)) p0 p1 =
     two-ids (record { count = suc (suc n); first = p0 .id; second = p1 .id }) (λ none. omega arith) (λ one. omega arith)
     ∙ ap (λ (l : List B2manifoldPoint). p0 .id ∷ p1 .id ∷ map id-of l) (sym (take-nil n))
 
-pub ids-counted : (m : B2manifold) (p0 p1 d : B2manifoldPoint) → length (m .points) ≡ 2 → p0 ≡ getD (m .points) 0 d
-    → p1 ≡ getD (m .points) 1 d
-    → ids-in (record { count = m .«point_count»; first = p0 .id; second = p1 .id }) ≡ counted-ids m
-unfolding counted-ids counted-points
-ids-counted m p0 p1 d size p0-is p1-is =
-    by-count (m .«point_count») p0 p1
-    ∙ ap (λ (l : List B2manifoldPoint). map id-of (take (m .«point_count») l))
-    (sym (pair-of (m .points) p0 p1 d size p0-is p1-is))
+-- where the manifold has two places
+module _ (m : B2manifold) (two : length (m .points) ≡ 2) where
+  pub ids-of-two : ids-in (ids-of m) ≡ counted-ids m
+  unfolding ids-of counted-ids counted-points
+  ids-of-two =
+      by-count (m .«point_count») (manifold-point m 0) (manifold-point m 1)
+      ∙ ap (λ (l : List B2manifoldPoint). map id-of (take (m .«point_count») l))
+      (sym (pair-of (m .points) (manifold-point m 0) (manifold-point m 1) default-point two refl refl))
+
+  pub ids-read : (p0 p1 d : B2manifoldPoint) → p0 ≡ getD (m .points) 0 d → p1 ≡ getD (m .points) 1 d
+      → record { count = m .«point_count»; first = p0 .id; second = p1 .id } ≡ ids-of m
+  unfolding ids-of
+  ids-read p0 p1 d p0-is p1-is =
+      simp (
+        p0-is,
+        p1-is,
+        getD-within (m .points) 0 d default-point (omega arith),
+        getD-within (m .points) 1 d default-point (omega arith),
+      )

@@ -1,6 +1,6 @@
 // Point states (b2_get_point_states of Box2D's b2_collision.cpp), from the ids of the points alone.
 ghost use mathlib.Core.Path.{_≡_};
-ghost use Rattle.contact_definitions.specs.PointStates.{same-id, id-among, counted-ids, ids-in, point-state};
+ghost use Rattle.contact_definitions.specs.PointStates.{same-id, id-among, ids-of, ids-in, point-state};
 ghost use Rattle.contact_definitions.specs.PointStates.{states-of-ids, b2-get-point-states};
 use contact_definitions::b2_collision::B2contactId;
 use contact_definitions::b2_collision::B2manifold;
@@ -82,7 +82,7 @@ pub fn states_of_ids(old: CountedIds, new: CountedIds) -> PointStates
 
 // The ids of the points that a manifold counts.
 pub fn counted_ids(m: B2manifold) -> CountedIds
-    ensures { λ r. ⌜ ids-in r ≡ counted-ids m ⌝ }
+    ensures { λ r. ⌜ r ≡ ids-of m ⌝ }
 {
     let p0 = m.points[0];
     let p1 = m.points[1];

@@ -1,7 +1,7 @@
--- By the count. Assumes nothing.
+-- The ids at both places. Assumes nothing.
 use mathlib.Core.Path.{refl, sym, _∙_}
 use lib.ListN.{length-map}
-use Rattle.contacts.proofs.States.{ids-counted}
+use Rattle.contacts.proofs.States.{ids-read}
 use borrow.Author.Needs.{needs}
 use Rattle.contacts.proofs.point_states.counted_ids.Statement.{statement}
 use Rattle.contacts.proofs.point_states.counted_ids.Tie as tie
@@ -15,7 +15,7 @@ element-copy-out-p1 c = search needs
 returns : tie.Need-returns
 returns c =
     let start = c .before .before .before .before in
-    ids-counted _ _ _ _ (sym (length-map (start .args .t1 .points) _) ∙ start .good .0 .1 .1 .0 .1 .0 .1) refl refl
+    ids-read _ (sym (length-map (start .args .t1 .points) _) ∙ start .good .0 .1 .1 .0 .1 .0 .1) _ _ _ refl refl
 
 pub counted-ids-spec : {M : Type 1} → statement M
 counted-ids-spec = tie.close (tie.spec element-copy-out-p0 element-copy-out-p1 returns)

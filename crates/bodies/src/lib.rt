@@ -1,0 +1,2 @@
+// Bodies, pairs and the world, made and changed.
+pub mod world;

@@ -1,0 +1,49 @@
+-- By the kind. Assumes nothing.
+use mathlib.Core.Path.{refl, sym, _∙_}
+use Rattle.record_definitions.specs.Frame.{frame-length}
+use Rattle.frames.proofs.Lengths.{circle-length, outline-length-is, wall-length-is, place-length, test-length, no-length}
+use borrow.Author.Needs.{needs}
+use Rattle.frames.proofs.frame.frame_length.Statement.{statement}
+use Rattle.frames.proofs.frame.frame_length.Tie as tie
+
+outline-length-requires : tie.Need-outline-length-requires
+outline-length-requires c κs = search needs
+
+wall-length-requires : tie.Need-wall-length-requires
+wall-length-requires c κs = search needs
+
+returns : tie.Need-returns
+returns c = sym (circle-length _ _ (c .match .keys1))
+
+returns-2 : tie.Need-returns-2
+returns-2 c =
+    let match = c .before .match in
+    c .outline-length .ensures ∙ sym (outline-length-is _ _ (match .keys2))
+
+returns-3 : tie.Need-returns-3
+returns-3 c =
+    let match = c .before .match in
+    c .wall-length .ensures ∙ sym (wall-length-is _ _ (match .keys3))
+
+returns-4 : tie.Need-returns-4
+returns-4 c = sym (place-length _ _ (c .match .keys4))
+
+returns-5 : tie.Need-returns-5
+returns-5 c = sym (test-length _ _ (c .match .keys5))
+
+returns-6 : tie.Need-returns-6
+returns-6 c = let rest = c .match .rest in
+    sym (no-length _ _ (rest .0 .0 .0 .0 .1) (rest .0 .0 .0 .1) (rest .0 .0 .1) (rest .0 .1) (rest .1))
+
+pub frame-length-spec : {M : Type 1} → statement M
+frame-length-spec =
+    tie.close
+    (tie.spec
+    outline-length-requires
+    wall-length-requires
+    returns
+    returns-2
+    returns-3
+    returns-4
+    returns-5
+    returns-6)

@@ -1,0 +1,73 @@
+// Any frame.
+ghost use mathlib.Core.Path.{_≡_};
+ghost use Rattle.record_definitions.specs.Frame as definitions;
+use crate::test_frames;
+use lines::fields;
+use record_definitions::frame::Change;
+use record_definitions::world::Body;
+use record_definitions::world::Pair;
+use shape_definitions::refusal;
+use shape_frames::changes;
+use shape_frames::kinds;
+
+// By the count, of at most eight points; or 0.
+fn outline_length(count: u8) -> usize
+    ensures { λ r. ⌜ r ≡ definitions.outline-length count ⌝ }
+{
+    if count <= 8 {
+        return 3 + 8 * count as usize;
+    }
+    0
+}
+
+// By the flag; or 0.
+fn wall_length(flag: u8) -> usize
+    ensures { λ r. ⌜ r ≡ definitions.wall-length flag ⌝ }
+{
+    match flag {
+        0 => 19,
+        1 => 35,
+        _ => 0,
+    }
+}
+
+// By the kind and the third byte: the count of an outline, the flag of a wall. 0 where there is no such frame.
+pub fn frame_length(kind: u8, third: u8) -> usize
+    ensures { λ r. ⌜ r ≡ definitions.frame-length kind third ⌝ }
+{
+    match kind {
+        1 => 14,
+        2 => outline_length(third),
+        3 => wall_length(third),
+        4 => 18,
+        5 => 3,
+        _ => 0,
+    }
+}
+
+// What a frame makes of the body that its first id names and of the pair, and what is said of it. The second body is
+// the one that its third byte names.
+pub fn frame(a: Body, b: Body, pair: Pair, bytes: &[u8]) -> Change
+    ensures { λ r. ⌜ r ≡ definitions.change a b pair (now (bytes .entry)) ⌝ }
+{
+    let kind = fields::byte(bytes, 0);
+    let id = fields::byte(bytes, 1);
+    let third = fields::byte(bytes, 2);
+    let size = frame_length(kind, third);
+    if size == 0 {
+        return changes::refused(refusal::MALFORMED_FRAME, a, pair);
+    }
+    if bytes.len() != size {
+        return changes::refused(refusal::MALFORMED_FRAME, a, pair);
+    }
+    if id > test_frames::LARGEST_ID {
+        return changes::refused(refusal::UNKNOWN_ID, a, pair);
+    }
+    match kind {
+        1 => kinds::circle_frame(a, pair, bytes),
+        2 => kinds::outline_frame(a, pair, bytes),
+        3 => kinds::wall_frame(a, pair, bytes),
+        4 => kinds::place_frame(a, pair, bytes),
+        _ => test_frames::test_frame(id, third, a, b, pair),
+    }
+}

@@ -1,0 +1,135 @@
+// The export for the C match server: four frames in, the bytes of the test line out.
+ghost use mathlib.Core.Path.{_≡_};
+ghost use mathlib.Core.List.{[], _∷_};
+ghost use Prim.Native.Nat.{_+_, _≤_};
+ghost use Rattle.lines.specs.Fields.{byte-at};
+ghost use Rattle.lines.specs.Hex.{largest-frame};
+ghost use Rattle.record_definitions.specs.World.{fresh-world};
+ghost use Rattle.record_definitions.specs.Frame.{frame-length};
+ghost use Rattle.record_definitions.specs.Export as Export;
+use answers::said;
+use answers::touch::LONGEST_ANSWER;
+use bodies::world;
+use frames::frame;
+use lines::fields;
+use record_definitions::frame::Answer;
+use record_definitions::frame::Said;
+
+// What is returned for a refusal: its number above this one.
+const REFUSAL_BASE: u32 = 256;
+
+const OUTPUT_TOO_SHORT: u32 = REFUSAL_BASE + 9;
+
+const MALFORMED: u32 = REFUSAL_BASE + 10;
+
+// The bytes of a placement, frame 04.
+const PLACEMENT: usize = 18;
+
+// The number of a refusal, 0 for another answer.
+fn refusal_in(said: Said) -> u8
+    ensures { λ r. ⌜ r ≡ Export.refusal-in said ⌝ }
+{
+    let answer = said.answer;
+    match answer {
+        Answer::Accepted => 0,
+        Answer::Refused(number) => number,
+        Answer::Tested(_) => 0,
+    }
+}
+
+// Where the outline that begins at a place ends, by its count; there where it has more than eight points.
+fn outline_end(frames: &[u8], at: usize) -> usize
+    requires { ⌜ at ≤ 200 ⌝ }
+    ensures { λ r. ⌜ (r ≡ at + frame-length 2 (byte-at (now (frames .entry)) (at + 2))) × (r ≤ at + largest-frame) ⌝ }
+{
+    at + frame::frame_length(2, fields::byte(frames, at + 2))
+}
+
+// Whether a frame of this kind, for this id, begins here.
+fn begins(frames: &[u8], at: usize, kind: u8, id: u8) -> bool
+    requires { ⌜ at ≤ 200 ⌝ }
+    ensures { λ r. ⌜ r ≡ Export.begins (now (frames .entry)) at kind id ⌝ }
+{
+    let k = fields::byte(frames, at);
+    let i = fields::byte(frames, at + 1);
+    (k == kind) & (i == id)
+}
+
+// Whether the four frames begin where they should, no outline of more than eight points.
+fn begin_all(frames: &[u8], first: usize, outline: usize, second: usize) -> bool
+    requires { ⌜ (first ≤ 200) × (outline ≤ 200) × (second ≤ 200) ⌝ }
+    ensures { λ r. ⌜ r ≡ Export.begin-all (now (frames .entry)) first outline second ⌝ }
+{
+    let some_first = first != 0;
+    let some_second = second != outline;
+    let f0 = begins(frames, 0, 2, 0);
+    let f1 = begins(frames, first, 4, 0);
+    let f2 = begins(frames, outline, 2, 1);
+    let f3 = begins(frames, second, 4, 1);
+    some_first & some_second & f0 & f1 & f2 & f3
+}
+
+// What a fresh program says of the test of two bodies that four frames define and place, or of the first frame that is
+// refused. Each frame changes its own body alone, and no pair: two bodies stand for the world.
+fn run<'a>(f0: &'a [u8], f1: &'a [u8], f2: &'a [u8], f3: &'a [u8]) -> Said
+    requires { ⌜ Export.FourFrames (now f0) (now f1) (now f2) (now f3) ⌝ }
+    ensures { λ r. ⌜ r ≡ Export.last-said fresh-world (now (f0 .entry))
+        (now (f1 .entry) ∷ now (f2 .entry) ∷ now (f3 .entry) ∷ Export.test-frame ∷ []) ⌝ }
+{
+    let blank = world::blank_body();
+    let fresh = world::fresh_pair();
+    let c0 = frame::frame(blank, blank, fresh, f0);
+    let said0 = c0.said;
+    if refusal_in(said0) != 0 {
+        return said0;
+    }
+    let c1 = frame::frame(c0.body, blank, fresh, f1);
+    let said1 = c1.said;
+    if refusal_in(said1) != 0 {
+        return said1;
+    }
+    let c2 = frame::frame(blank, blank, fresh, f2);
+    let said2 = c2.said;
+    if refusal_in(said2) != 0 {
+        return said2;
+    }
+    let c3 = frame::frame(c2.body, blank, fresh, f3);
+    let said3 = c3.said;
+    if refusal_in(said3) != 0 {
+        return said3;
+    }
+    let c4 = frame::frame(c1.body, c3.body, fresh, b"\x05\x00\x01");
+    let said4 = c4.said;
+    said4
+}
+
+// 13, 33 or 45, the bytes written to the front of the output; or 256 and a refusal, and the output as it was.
+#[no_mangle]
+pub extern "C" fn netxurbil_test(frames: &[u8], out: &mut [u8]) -> u32
+    ensures { λ r. ⌜ (r ≡ Export.export-number (now (frames .entry)) (now (out .entry)))
+        × (now (out .exit) ≡ Export.export-output (now (frames .entry)) (now (out .entry))) ⌝ }
+{
+    if out.len() < LONGEST_ANSWER {
+        return OUTPUT_TOO_SHORT;
+    }
+    let first = outline_end(frames, 0);
+    let outline = first + PLACEMENT;
+    let second = outline_end(frames, outline);
+    if frames.len() != second + PLACEMENT {
+        return MALFORMED;
+    }
+    if !begin_all(frames, first, outline, second) {
+        return MALFORMED;
+    }
+    let said = run(
+        &frames[..first],
+        &frames[first..outline],
+        &frames[outline..second],
+        &frames[second..],
+    );
+    let number = refusal_in(said);
+    if number != 0 {
+        return REFUSAL_BASE + number as u32;
+    }
+    said::put_said(out, said) as u32
+}

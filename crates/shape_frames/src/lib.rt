@@ -1,0 +1,3 @@
+// The frames that define and place shapes.
+pub mod changes;
+pub mod kinds;
