@@ -33,7 +33,7 @@ use Rattle.grid_contacts.proofs.Placing.{point-capped}
 use Rattle.grid_contacts.proofs.NormalVec.{NormalVec}
 use Rattle.grid_contacts.proofs.FaceNormal.{outward, FaceNormal}
 use Rattle.grid_contacts.proofs.Skins.{skins}
-use Rattle.grid_contacts.proofs.Segment.{way, NearSegment, FaceAbs, near-size, near-moved}
+use Rattle.grid_contacts.proofs.Segment.{way, NearSegment, FaceAbs, segment-size, near-moved}
 use Rattle.grid_contacts.proofs.Crossing.{corner-metres, end-metres, blend-error, VecNear, vec-capped}
 use Rattle.grid_contacts.proofs.Middle.{PlacedMiddle, from-middle}
 use Rattle.grid_contacts.proofs.WorldRoundings.{offset-metres, Offset, offset-near}
@@ -167,7 +167,7 @@ module _ {t : B2Transform} (g : GridPlacement t) {k : ℕ} {e : Face} (e-most : 
 
     sum-most : PointAbs sum (end-metres * metre)
     sum-most =
-        let s = near-size (corner-metres * metre) e-most point-near in
+        let s = segment-size (corner-metres * metre) e-most point-near in
         (nine (sum .x) (point .x) (sum-is .0) (s .0), nine (sum .y) (point .y) (sum-is .1) (s .1))
       where
         nine : (a b : Z) → a ≐ b → Abs b (corner-metres * metre + point-error) → Abs a (end-metres * metre)

@@ -9,8 +9,9 @@
 -- | (both calls answer, with two points at most) | contact-accepted, world-accepted, at-most-two |
 -- | no point where some face keeps the other outline more than 0.02 + 1/4096 m off | none-where-kept-off |
 -- | one face of the reference outline is within 1/1024 m of the largest over all faces of both | near-largest |
--- | every manifold point lies within 1/4096 m of the other outline's boundary | on-boundary, point-finite |
--- | its world separation: within 1/4096 m of its distance from that line, less 0.02 m | near-distance, separation-finite |
+-- | every manifold point lies within 1/4096 m of the other outline's boundary | on-boundary |
+-- | its world separation: within 1/4096 m of its distance from that same line, less 0.02 m | near-distance |
+-- | (each of these numbers is finite) | point-finite, separation-finite |
 --
 -- Assumes nothing.
 use mathlib.Core.Path.{_≡_, _∙_}
