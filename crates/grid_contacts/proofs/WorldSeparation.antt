@@ -18,7 +18,7 @@ use Rattle.floats.specs.B2Math.{b2-add, b2-sub, b2-scale, b2-dot}
 use Rattle.contact_definitions.specs.WorldManifold.{on-face, on-other, plane-separation}
 use Rattle.grid.specs.Grid.{value-point}
 use Rattle.grid.specs.GridOutline.{normal-bound, length-error}
-use Rattle.grid_contacts.specs.Lengths.{exactly}
+use Rattle.grid_contacts.specs.Lengths.{exactly, both-skins}
 use Rattle.grid_contacts.specs.Faces.{Face, off-line}
 use Rattle.grid_contacts.specs.SecondSentence.{distance-most, distance-least, NearDistance}
 use Rattle.grid_contacts.proofs.NormalVec.{NormalVec, dot-normal}
@@ -27,6 +27,7 @@ use Rattle.grid_contacts.proofs.RootBridge.{root-ticks, root-reach}
 use Rattle.grid_contacts.proofs.FaceDistance.{DistanceWithin, within-of-length, against-ticks, normal-against}
 use Rattle.grid_contacts.proofs.FaceDistance.{direction-against}
 use Rattle.grid_contacts.proofs.Distances.{LengthLe, at-most-longer, at-least-shorter}
+use Rattle.grid_contacts.proofs.Skins.{WithinSkins, BothSkins}
 use Rattle.grid_contacts.proofs.WorldRoundings.{offset-metres, Offset, move-metres, move-ticks, moved-near}
 use Rattle.grid_contacts.proofs.WorldRoundings.{across-metres, across-ticks, across-near}
 
@@ -119,21 +120,20 @@ against-line l w r1 r2 ρ s d w-near ρ-near s-near =
 separation-error : ℕ
 separation-error = (line-ticks + root-ticks) * tick
 
-near-distance : (f : Face) (c : Point) (w r : Z) → DistanceWithin f c (w ⊞ r) separation-error → 50 ⊛ r ≼ whole metre
-    → whole metre ≼ 50 ⊛ r ⊞ whole tick → NearDistance f c w
+near-distance : (f : Face) (c : Point) (w r : Z) → DistanceWithin f c (w ⊞ r) separation-error → BothSkins r
+    → NearDistance f c w
 unfolding separation-error
-near-distance f c w r near r-most r-least = record {
+near-distance f c w r near skins = record {
   at-most = at-most-longer f c (exactly (w ⊞ r ⊞ whole separation-error)) (distance-most w) (lit≤ tt)
-      (raised w r r-most) (near .at-most);
+      (raised w r (skins .at-most)) (near .at-most);
   at-least = at-least-shorter f c (exactly (w ⊞ r ⊟ whole separation-error)) (distance-least w) (lit≤ tt)
-      (lowered w r r-least) (near .at-least);
+      (lowered w r (skins .at-least)) (near .at-least);
 }
   where
-    raised : (w r : Z) → 50 ⊛ r ≼ whole metre
-        → LengthLe (exactly (w ⊞ r ⊞ whole separation-error)) (distance-most w)
+    raised : (w r : Z) → WithinSkins r → LengthLe (exactly (w ⊞ r ⊞ whole separation-error)) (distance-most w)
     raised w r h = let m = metre-ticks in omega arith
 
-    lowered : (w r : Z) → whole metre ≼ 50 ⊛ r ⊞ whole tick
+    lowered : (w r : Z) → both-skins .over ≼ both-skins .under ⊛ r ⊞ whole tick
         → LengthLe (distance-least w) (exactly (w ⊞ r ⊟ whole separation-error))
     lowered w r h = let m = metre-ticks in omega arith
 
@@ -151,10 +151,9 @@ module _ (f : Face) (c : Point) {r o q n : B2vec2} {r1 r2 : Float} (x-offset : O
   u = from-to (value-point q) (sum-of (value-point r) (value-point o))
 
   pub separation-near : PointAbs u (offset-metres * metre) → dot (outward f) u ≐ off-line f c
-      → 50 ⊛ (val r1 ⊞ val r2) ≼ whole metre → whole metre ≼ 50 ⊛ (val r1 ⊞ val r2) ⊞ whole tick
-      → Separated f c (plane-separation n q r1 r2 (b2-add r o))
+      → BothSkins (val r1 ⊞ val r2) → Separated f c (plane-separation n q r1 r2 (b2-add r o))
   unfolding plane-separation on-other on-face b2-sub b2-add b2-scale separation-error
-  separation-near u-most u-is skins-most skins-least =
+  separation-near u-most u-is skins =
       let l = N .length in
       let p = b2-add r o in
       let m = moved-near x-offset y-offset vec r1-cap in
@@ -176,7 +175,7 @@ module _ (f : Face) (c : Point) {r o q n : B2vec2} {r1 r2 : Float} (x-offset : O
             (abs-same d (off-line f c) (root-reach l) u-is (direction-against (N .unit) u offset-metres u-most tt))
             (abs-same (l ⊛ (w ⊞ (val r1 ⊞ val r2)) ⊟ d) (l ⊛ (w ⊞ (val r1 ⊞ val r2)) ⊟ off-line f c)
             (line-ticks * (tick * l)) (moved (l ⊛ (w ⊞ (val r1 ⊞ val r2))) d (off-line f c) u-is) line))
-            skins-most skins-least;
+            skins;
       }
     where
       moved : (s d e : Z) → d ≐ e → s ⊟ d ≐ s ⊟ e
