@@ -119,10 +119,9 @@ far-corner j far =
     farther (off-line right-face (corner-at far-corners j)) (squared-length right-face) (reach .over) (reach .under) far
 
 kept-off : KeepsOff near-corners far-corners
-unfolding b2-polygon-shape-set outline-of-welded outline-of-corners welded start next row edges long-enough fan too-near
-    comes-before closer point-in-range b2-sub b2-dot b2-cross b2-length-squared b2-distance-vec2-squared le lt eq neg
-    add
-    sub mul ofBits metre val here-placed off-placed grid-placed
+unfolding b2-polygon-shape-set outline-of-welded outline-of-corners welded start next row edges long-enough fan
+    too-near comes-before closer point-in-range b2-sub b2-dot b2-cross b2-length-squared b2-distance-vec2-squared le
+    lt eq neg add sub mul ofBits metre val here-placed off-placed grid-placed
 kept-off = (0, lit< tt, each)
   where
     four : (j : ℕ) → suc (suc (suc (suc j))) < 4 → ⊥

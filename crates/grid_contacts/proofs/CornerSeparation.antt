@@ -81,11 +81,10 @@ module _ {xf1 xf2 : B2Transform} (g1 : GridPlacement xf1) (g2 : GridPlacement xf
       let turned-n = turned (g2 .turn) (value-point n) in
       let gap-is = vector-trans turned-d (turned (g2 .turn) (gap g1 g2 p v)) world-gap
       (turned-same (g2 .turn) (value-point d) (gap g1 g2 p v) (d-exact .is)) (gap-turned g1 g2 p v) in
+      let own = frame-vector g1 g2 (m-vec .at-x .own) (m-vec .at-y .own) in
       let dots = same-trans (dot (value-point n) (value-point d)) (dot turned-n turned-d) (dot world-normal world-gap)
       (turned-dot (g2 .turn) (value-point n) (value-point d))
-      (dot-same turned-n world-normal turned-d world-gap (frame-vector g1 g2 (m-vec .at-x .own) (m-vec .at-y .own))
-      gap-is)
-      in
+      (dot-same turned-n world-normal turned-d world-gap own gap-is) in
       record {
         capped = dot-capped s;
         near = distance-near (carried-face g1 p q) (carried g2 (value-point v)) world-normal (val (b2-dot n d))

@@ -19,9 +19,9 @@ module _ {reference other : List Point} {f : Face} (near : NearLargest reference
   -- the level is at most a: the corner that is at most a off is at least the level off
   level-low : a .under ⊛ near .level ≼ a .over
   level-low =
-      over-root-order (off-line f (corner-at other (at-most .0))) (near .level) (a .over) (squared-length f) (a .under)
-      long
-      (near .reached (at-most .0) (at-most .1)) (at-most .2)
+      let j = at-most .0 in
+      over-root-order (off-line f (corner-at other j)) (near .level) (a .over) (squared-length f) (a .under) long
+      (near .reached j (at-most .1)) (at-most .2)
 
   raised : (rows others : List Point)
       → EveryFace rows (λ g. SeparationAtMost g others (exactly (near .level) plus choice-tolerance))

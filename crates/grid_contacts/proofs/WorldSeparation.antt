@@ -59,11 +59,10 @@ surface-near a b r ρ wx wy w a-most b-most unit r-most ρ-most x-near y-near w-
     let n = across-ticks * tick * metre * normal-bound in
     let x = across-along wx a (summed a wx x-near) a-most in
     let y = across-along wy b (summed b wy y-near) b-most in
-    let m = abs-same (g ⊠ (a ⊠ a ⊞ b ⊠ b ⊟ whole (metre * metre))) (g ⊠ (a ⊠ a) ⊞ g ⊠ (b ⊠ b) ⊟ (metre * metre) ⊛ g)
+    let one = a ⊠ a ⊞ b ⊠ b ⊟ whole (metre * metre) in
+    let m = abs-same (g ⊠ one) (g ⊠ (a ⊠ a) ⊞ g ⊠ (b ⊠ b) ⊟ (metre * metre) ⊛ g)
     ((1 + move-metres) * metre * (length-error * metre)) (spread (metre * metre) g (a ⊠ a) (b ⊠ b))
-    (abs-product g (a ⊠ a ⊞ b ⊠ b ⊟ whole (metre * metre)) ((1 + move-metres) * metre) (length-error * metre) total
-    unit)
-    in
+    (abs-product g one ((1 + move-metres) * metre) (length-error * metre) total unit) in
     abs-unscale (metre * metre) (surface-ticks * tick) (w ⊞ g) (mul-pos metre-pos metre-pos)
     (four-terms ((metre * metre) ⊛ (w ⊞ g)) (metre ⊛ (metre ⊛ w ⊟ (wx ⊠ a ⊞ wy ⊠ b))) (metre ⊛ (wx ⊠ a) ⊞ g ⊠ (a ⊠ a))
     (metre ⊛ (wy ⊠ b) ⊞ g ⊠ (b ⊠ b)) (g ⊠ (a ⊠ a) ⊞ g ⊠ (b ⊠ b) ⊟ (metre * metre) ⊛ g)
