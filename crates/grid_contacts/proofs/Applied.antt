@@ -28,14 +28,25 @@ use Rattle.contact_definitions.specs.declared.b2_collision.B2worldManifold.{B2w
 use Rattle.contact_definitions.specs.WorldManifold.{b2-world-manifold-initialize}
 use Rattle.grid.proofs.Controls.{points, square, grid-list, skinned, computed}
 use Rattle.grid_contacts.specs.Placement.{GridPlacement, placed-corners}
-use Rattle.grid_contacts.specs.Lengths.{Length, _plus_, both-skins, point-tolerance}
+use Rattle.grid_contacts.specs.Lengths.{exactly, _plus_, choice-tolerance}
 use Rattle.grid_contacts.specs.Faces.{Face, corner-at, face-at, off-line, squared-length, DistanceAbove}
-use Rattle.grid_contacts.specs.SecondSentence.{KeepsOff, Reported, SecondSentenceOf}
+use Rattle.grid_contacts.specs.Faces.{EveryFace, SeparationAtMost}
+use Rattle.grid_contacts.specs.SecondSentence.{reach, KeepsOff, Reported, by-face-a, by-face-b, SecondSentenceOf}
 use Rattle.grid_contacts.proofs.Witnesses.{triangle, square-outline, triangle-outline, here, off, answer}
 use Rattle.grid_contacts.proofs.Witnesses.{touches}
 use Rattle.grid_contacts.proofs.Witnesses.{here-placed, beside-placed, left-placed, about-placed, right-placed}
 use Rattle.grid_contacts.proofs.Witnesses.{off-placed, grid-placed}
 use Rattle.grid_contacts.proofs.Theorem.{second-sentence}
+
+-- ---- a report speaks of every face of both outlines: none is above one level and 1/1024 m
+over-both : {a b : List Point} {ta tb : B2Transform} {placedA : GridPlacement ta} {placedB : GridPlacement tb}
+    {m : B2manifold} {world : B2worldManifold} → Reported a b placedA placedB m world
+    → (level : Z) × EveryFace a (λ f. SeparationAtMost f b (exactly level plus choice-tolerance))
+    × EveryFace b (λ f. SeparationAtMost f a (exactly level plus choice-tolerance))
+over-both (by-face-a kind t) =
+    (t .near-largest .level, t .near-largest .by-reference, t .near-largest .by-other)
+over-both (by-face-b kind t) =
+    (t .near-largest .level, t .near-largest .by-other, t .near-largest .by-reference)
 
 -- ---- points are reported
 module _ (old : B2manifold) (old-world : B2worldManifold) where
@@ -95,32 +106,28 @@ near-corners = placed-corners here-placed square-outline
 abbrev far-corners : List Point
 far-corners = placed-corners off-placed square-outline
 
-abbrev limit : Length
-limit = both-skins plus point-tolerance
-
 abbrev right-face : Face
 right-face = face-at near-corners 0
 
 far-corner : (j : ℕ)
-    → T (not (leb (((limit .under * limit .under) ⊛ signed-square (off-line right-face (corner-at far-corners j))) .0
-    + (squared-length right-face ⊛ signed-square (limit .over)) .1)
-    ((squared-length right-face ⊛ signed-square (limit .over)) .0
-    + ((limit .under * limit .under) ⊛ signed-square (off-line right-face (corner-at far-corners j))) .1)))
-    → DistanceAbove right-face (corner-at far-corners j) limit
+    → T (not (leb (((reach .under * reach .under) ⊛ signed-square (off-line right-face (corner-at far-corners j))) .0
+    + (squared-length right-face ⊛ signed-square (reach .over)) .1)
+    ((squared-length right-face ⊛ signed-square (reach .over)) .0
+    + ((reach .under * reach .under) ⊛ signed-square (off-line right-face (corner-at far-corners j))) .1)))
+    → DistanceAbove right-face (corner-at far-corners j) reach
 far-corner j far =
-    farther (off-line right-face (corner-at far-corners j)) (squared-length right-face) (limit .over) (limit .under) far
+    farther (off-line right-face (corner-at far-corners j)) (squared-length right-face) (reach .over) (reach .under) far
 
 kept-off : KeepsOff near-corners far-corners
-unfolding b2-polygon-shape-set outline-of-welded outline-of-corners welded start next row edges long-enough fan too-near
-    comes-before closer point-in-range b2-sub b2-dot b2-cross b2-length-squared b2-distance-vec2-squared le lt eq neg
-    add
-    sub mul ofBits metre val here-placed off-placed grid-placed
+unfolding b2-polygon-shape-set outline-of-welded outline-of-corners welded start next row edges long-enough fan
+    too-near comes-before closer point-in-range b2-sub b2-dot b2-cross b2-length-squared b2-distance-vec2-squared le
+    lt eq neg add sub mul ofBits metre val here-placed off-placed grid-placed
 kept-off = (0, lit< tt, each)
   where
     four : (j : ℕ) → suc (suc (suc (suc j))) < 4 → ⊥
     four j h = omega arith
 
-    each : (j : ℕ) → j < length far-corners → DistanceAbove right-face (corner-at far-corners j) limit
+    each : (j : ℕ) → j < length far-corners → DistanceAbove right-face (corner-at far-corners j) reach
     each zero h = far-corner 0 tt
     each (suc zero) h = far-corner 1 tt
     each (suc (suc zero)) h = far-corner 2 tt

@@ -33,8 +33,8 @@ use Rattle.grid_contacts.proofs.Crossing.{corner-metres, end-metres, bl
 use Rattle.grid_contacts.proofs.Crossing.{crossing-near}
 
 -- ---- sizes in metres: the offset of a line, and an end's distance from it
-abbrev offset-metres : ℕ
-offset-metres = 19
+abbrev plane-metres : ℕ
+plane-metres = 19
 
 abbrev line-metres : ℕ
 line-metres = 39
@@ -63,14 +63,14 @@ crossing-fraction {a} {b} a-cap b-cap t =
 -- ---- a line to clip to
 pub record ClipLine (normal : B2vec2) (offset : Float) : Type 0 where
   pub vec : NormalVec normal
-  pub offset-cap : Capped offset offset-metres
+  pub offset-cap : Capped offset plane-metres
 
 distance-capped : {normal : B2vec2} {offset : Float} → ClipLine normal offset → (end : B2clipVertex)
     → Capped (end .v .x) end-metres → Capped (end .v .y) end-metres
     → Capped (clip-distance normal offset end) line-metres
 unfolding clip-distance
 distance-capped line end x-cap y-cap =
-    difference-sized 6 (2 * (end-metres + 1)) offset-metres tt tt
+    difference-sized 6 (2 * (end-metres + 1)) plane-metres tt tt
     (dot-capped (normal-dot 5 end-metres tt tt tt tt (line .vec) x-cap y-cap)) (line .offset-cap) .capped
 
 -- ---- the ends that a clip leaves

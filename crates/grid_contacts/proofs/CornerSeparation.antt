@@ -29,7 +29,7 @@ use Rattle.grid_contacts.proofs.FaceDistance.{distance-error, distance-
 use Rattle.grid_contacts.proofs.PlacedOutline.{placed-at, placed-face}
 
 -- s is the separation of the corner c under the face f, as computed
-pub record Computed (f : Face) (c : Point) (s : Float) : Type 0 where
+pub record Measured (f : Face) (c : Point) (s : Float) : Type 0 where
   pub capped : Capped s separation-metres
   pub near : DistanceWithin f c (val s) distance-error
 
@@ -71,7 +71,7 @@ module _ {xf1 xf2 : B2Transform} (g1 : GridPlacement xf1) (g2 : GridPlacement xf
   abbrev world-gap : Point
   world-gap = from-to (carried g1 (value-point p)) (carried g2 (value-point v))
 
-  separation-near : Computed (carried-face g1 p q) (carried g2 (value-point v)) (b2-dot n d)
+  separation-near : Measured (carried-face g1 p q) (carried g2 (value-point v)) (b2-dot n d)
   separation-near =
       let m-vec = stored-vec p q m (o1 .normal i i-in) in
       let d-exact = gap-exact g1 g2 (o1 .corner i i-in) (o2 .corner j j-in) in
@@ -81,11 +81,10 @@ module _ {xf1 xf2 : B2Transform} (g1 : GridPlacement xf1) (g2 : GridPlacement xf
       let turned-n = turned (g2 .turn) (value-point n) in
       let gap-is = vector-trans turned-d (turned (g2 .turn) (gap g1 g2 p v)) world-gap
       (turned-same (g2 .turn) (value-point d) (gap g1 g2 p v) (d-exact .is)) (gap-turned g1 g2 p v) in
+      let own = frame-vector g1 g2 (m-vec .at-x .own) (m-vec .at-y .own) in
       let dots = same-trans (dot (value-point n) (value-point d)) (dot turned-n turned-d) (dot world-normal world-gap)
       (turned-dot (g2 .turn) (value-point n) (value-point d))
-      (dot-same turned-n world-normal turned-d world-gap (frame-vector g1 g2 (m-vec .at-x .own) (m-vec .at-y .own))
-      gap-is)
-      in
+      (dot-same turned-n world-normal turned-d world-gap own gap-is) in
       record {
         capped = dot-capped s;
         near = distance-near (carried-face g1 p q) (carried g2 (value-point v)) world-normal (val (b2-dot n d))
@@ -100,6 +99,6 @@ module _ {xf1 xf2 : B2Transform} (g1 : GridPlacement xf1) (g2 : GridPlacement xf
           → Abs (metre ⊛ s ⊟ b) (dot-ticks * tick * metre)
       moved s a b e h = omega arith
 
-  pub placed-separation : Computed (face-at (placed-corners g1 poly1) i) (corner-at (placed-corners g2 poly2) j)
+  pub placed-separation : Measured (face-at (placed-corners g1 poly1) i) (corner-at (placed-corners g2 poly2) j)
       (corner-separation xf poly1 poly2 i j)
   placed-separation = rw (placed-face g1 poly1 o1 i i-in, placed-at g2 poly2 o2 j j-in) separation-near

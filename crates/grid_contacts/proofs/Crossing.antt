@@ -17,7 +17,7 @@ use Rattle.floats.specs.declared.b2_math.B2vec2.{B2vec2}
 use Rattle.floats.specs.B2Math.{b2-add, b2-sub, b2-scale}
 use Rattle.grid.specs.Grid.{value-point}
 use Rattle.grid_contacts.specs.Faces.{Face}
-use Rattle.grid_contacts.proofs.Segment.{NearSegment, FaceAbs, near-size, near-between}
+use Rattle.grid_contacts.proofs.Segment.{NearSegment, FaceAbs, segment-size, near-between}
 
 -- ---- sizes in metres: a carried corner, and an end that a clip leaves
 abbrev pub corner-metres : ℕ
@@ -94,7 +94,7 @@ pub record VecNear (e k : ℕ) (f : Face) (v : B2vec2) : Type 0 where
 pub vec-capped : {e k : ℕ} {f : Face} {v : B2vec2} → FaceAbs f (corner-metres * metre) → e ≤ metre → VecNear e k f v
     → Capped (v .x) end-metres × Capped (v .y) end-metres
 vec-capped {e} {k} {f} {v} f-most low h =
-    let s = near-size (corner-metres * metre) f-most (h .near) in (
+    let s = segment-size (corner-metres * metre) f-most (h .near) in (
       record { own = h .x-own; cap = nine (val (v .x)) (s .0) },
       record { own = h .y-own; cap = nine (val (v .y)) (s .1) },
     )

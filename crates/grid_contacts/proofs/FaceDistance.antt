@@ -71,7 +71,7 @@ module _ {u n : Point} {l t : ℕ} (U : UnitOf u n l t) (w : Point) (m : ℕ) (w
       joined a b c d r h k = omega arith
 
 -- off-line is the product with the outward direction
-pub off-line-is : (f : Face) (c : Point) → dot (outward f) (from-to (f .begin) c) ≐ off-line f c
+off-line-is : (f : Face) (c : Point) → dot (outward f) (from-to (f .begin) c) ≐ off-line f c
 off-line-is f c =
     go (f .end .y ⊟ f .begin .y) (c .x ⊟ f .begin .x) (f .end .x ⊟ f .begin .x) (c .y ⊟ f .begin .y)
   where

@@ -52,10 +52,9 @@ unit-same {u} {u'} {n} {n'} {l} {t} e f h = record {
     near : (u u' a a' : Z) → u ≐ u' → a ≐ a' → Abs (l ⊛ a ⊟ metre ⊛ u) (direction-error l)
         → Abs (l ⊛ a' ⊟ metre ⊛ u') (direction-error l)
     near u u' a a' e f h =
-        abs-same (l ⊛ a ⊟ metre ⊛ u) (l ⊛ a' ⊟ metre ⊛ u') (direction-error l)
-        (difference-same (l ⊛ a) (l ⊛ a') (metre ⊛ u) (metre ⊛ u') (multiple-same l a a' f)
-        (multiple-same metre u u' e))
-        h
+        let same = difference-same (l ⊛ a) (l ⊛ a') (metre ⊛ u) (metre ⊛ u') (multiple-same l a a' f)
+        (multiple-same metre u u' e) in
+        abs-same (l ⊛ a ⊟ metre ⊛ u) (l ⊛ a' ⊟ metre ⊛ u') (direction-error l) same h
 
     length : (a b c d : Z) → a ≐ c → b ≐ d → Abs (a ⊞ b ⊟ whole (metre * metre)) (length-error * metre)
         → Abs (c ⊞ d ⊟ whole (metre * metre)) (length-error * metre)

@@ -24,6 +24,7 @@ pub mod MadePoints
 pub mod PlacementRange
 pub mod Ways
 pub mod Sentence
+pub mod Largest
 pub mod Theorem
 pub mod Witnesses
 pub mod Applied

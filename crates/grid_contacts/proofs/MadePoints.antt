@@ -56,8 +56,8 @@ coordinate-capped {x} c = record { own = c .own; cap = two (val x) (c .most) }
 
 -- a separation as the definition has it, from the local normal n and point p of a manifold and the local point of an
 -- end
-abbrev face-separation : B2Transform → Float → B2Transform → Float → B2vec2 → B2vec2 → B2vec2 → Float
-face-separation xf1 radius1 xf2 radius2 n p local =
+abbrev separation-over : B2Transform → Float → B2Transform → Float → B2vec2 → B2vec2 → B2vec2 → Float
+separation-over xf1 radius1 xf2 radius2 n p local =
     plane-separation (b2-mul-rot-by-vec2 (xf1 .q) n) (b2-mul-transform-by-vec2 xf1 p) radius1 radius2
     (b2-mul-transform-by-vec2 xf2 local)
 
@@ -101,7 +101,7 @@ module _ {xf1 xf2 : B2Transform} (g1 : GridPlacement xf1) (g2 : GridPlacement xf
   module _ (skin1 : poly1 .«m_radius» ≡ b2-polygon-radius) (skin2 : poly2 .«m_radius» ≡ b2-polygon-radius) where
     separated : (k : ℕ) → k < m .«point_count»
         → Separated (face-at corners1 edge) (contact-point g2 m k)
-        (face-separation xf1 (poly1 .«m_radius») xf2 (poly2 .«m_radius») (m .«local_normal») (m .«local_point»)
+        (separation-over xf1 (poly1 .«m_radius») xf2 (poly2 .«m_radius») (m .«local_normal») (m .«local_point»)
         (local-at m k))
     unfolding face-middle
     separated k h =

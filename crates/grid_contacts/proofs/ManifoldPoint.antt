@@ -19,7 +19,6 @@ use Rattle.floats.specs.declared.b2_math.B2vec2.{B2vec2}
 use Rattle.floats.specs.declared.b2_math.B2Transform.{B2Transform}
 use Rattle.floats.specs.B2Common.{b2-polygon-radius}
 use Rattle.floats.specs.B2Math.{b2-sub, b2-mul-rot-by-vec2, b2-mul-transform-by-vec2, b2-mul-t-transform-by-vec2}
-use Rattle.floats.proofs.Constants.{skin-is}
 use Rattle.floats.proofs.Vectors.{carry-is}
 use Rattle.contact_definitions.specs.WorldManifold.{plane-separation}
 use Rattle.grid.specs.Grid.{value-point}
@@ -32,8 +31,8 @@ use Rattle.grid_contacts.proofs.ExactTurns.{turn-exact, turn-back-exact
 use Rattle.grid_contacts.proofs.Placing.{point-capped}
 use Rattle.grid_contacts.proofs.NormalVec.{NormalVec}
 use Rattle.grid_contacts.proofs.FaceNormal.{outward, FaceNormal}
-use Rattle.grid_contacts.proofs.Skins.{skins}
-use Rattle.grid_contacts.proofs.Segment.{way, NearSegment, FaceAbs, near-size, near-moved}
+use Rattle.grid_contacts.proofs.Skins.{skins, skin-capped}
+use Rattle.grid_contacts.proofs.Segment.{way, NearSegment, FaceAbs, segment-size, near-moved}
 use Rattle.grid_contacts.proofs.Crossing.{corner-metres, end-metres, blend-error, VecNear, vec-capped}
 use Rattle.grid_contacts.proofs.Middle.{PlacedMiddle, from-middle}
 use Rattle.grid_contacts.proofs.WorldRoundings.{offset-metres, Offset, offset-near}
@@ -45,6 +44,10 @@ clip-error = 0 + blend-error + blend-error
 
 abbrev pub point-error : ℕ
 point-error = clip-error + 2 ^ 4 * tick
+
+-- the tolerance is a metre over so many parts
+abbrev parts : ℕ
+parts = point-tolerance .under
 
 -- a point that near a face, in each coordinate, lies within 1/4096 m of a point of it
 pub near-face : {k : ℕ} {f : Face} {c : Point} → NearSegment point-error k f c → NearFace point-tolerance c f
@@ -59,23 +62,23 @@ near-face {k} {f} {c} h = record {
     square : (a : Z) (n : ℕ) → Abs a n → a ⊠ a ≼ whole (n * n)
     square a n h = let m = abs-product a a n n h h .0 in omega arith
 
-    -- a factor 2 for √2
-    fits : (n m : ℕ) → 8192 * n ≤ m → 4096 * 4096 * (n * n + n * n) ≤ m * m
-    fits n m h = let q : 8192 * n * (8192 * n) ≤ m * m = mul-le-mul h h in omega arith
+    -- twice the parts of a metre, for √2
+    fits : (n m : ℕ) → 2 * parts * n ≤ m → parts * parts * (n * n + n * n) ≤ m * m
+    fits n m h = let q : 2 * parts * n * (2 * parts * n) ≤ m * m = mul-le-mul h h in omega arith
 
-    room : (k : ℕ) → 8192 * (k * point-error) ≤ k * metre
+    room : (k : ℕ) → 2 * parts * (k * point-error) ≤ k * metre
     room k = let e : k * metre ≡ k * (2 ^ 25 * tick) = ap (λ (n : ℕ). k * n) metre-ticks in omega arith
 
-    joined : (a b : Z) (k n : ℕ) → a ≼ whole n → b ≼ whole n → 4096 * 4096 * (n + n) ≤ k * metre * (k * metre)
-        → (4096 * 4096) ⊛ (a ⊞ b) ≼ (k * k) ⊛ (whole metre ⊠ whole metre)
+    joined : (a b : Z) (k n : ℕ) → a ≼ whole n → b ≼ whole n → parts * parts * (n + n) ≤ k * metre * (k * metre)
+        → (parts * parts) ⊛ (a ⊞ b) ≼ (k * k) ⊛ (whole metre ⊠ whole metre)
     joined a b k n h l r = omega arith
 
     go : (k : ℕ) (w : Point) → PointAbs w (k * point-error)
-        → (4096 * 4096) ⊛ dot w w ≼ (k * k) ⊛ (whole metre ⊠ whole metre)
+        → (parts * parts) ⊛ dot w w ≼ (k * k) ⊛ (whole metre ⊠ whole metre)
     go k w h =
-        joined (w .x ⊠ w .x) (w .y ⊠ w .y) k (k * point-error * (k * point-error))
-        (square (w .x) (k * point-error) (h .0))
-        (square (w .y) (k * point-error) (h .1)) (fits (k * point-error) (k * metre) (room k))
+        let n = k * point-error in
+        joined (w .x ⊠ w .x) (w .y ⊠ w .y) k (n * n) (square (w .x) n (h .0)) (square (w .y) n (h .1))
+        (fits n (k * metre) (room k))
 
 -- ---- the local point of a clipped end v near an edge e, in the frame of a placement
 abbrev pub position-metres : ℕ
@@ -167,7 +170,7 @@ module _ {t : B2Transform} (g : GridPlacement t) {k : ℕ} {e : Face} (e-most : 
 
     sum-most : PointAbs sum (end-metres * metre)
     sum-most =
-        let s = near-size (corner-metres * metre) e-most point-near in
+        let s = segment-size (corner-metres * metre) e-most point-near in
         (nine (sum .x) (point .x) (sum-is .0) (s .0), nine (sum .y) (point .y) (sum-is .1) (s .1))
       where
         nine : (a b : Z) → a ≐ b → Abs b (corner-metres * metre + point-error) → Abs a (end-metres * metre)
@@ -183,8 +186,7 @@ module _ {t : B2Transform} (g : GridPlacement t) {k : ℕ} {e : Face} (e-most : 
         → Separated f point (plane-separation n q r1 r2 (b2-mul-transform-by-vec2 t local))
     point-separation {r1} {r2} r1-is r2-is =
         let u = from-to (value-point q) sum in
-        let skin : Capped b2-polygon-radius 1 = record { own = skin-is .own; cap = skins .small } in
-        rw (carry-is t local, r1-is, r2-is) (separation-near f point x-offset y-offset vec N skin skin (
+        rw (carry-is t local, r1-is, r2-is) (separation-near f point x-offset y-offset vec N skin-capped skin-capped (
           apart (sum .x) (val (q .x)) (sum-most .0) (middle .x-cap .cap),
           apart (sum .y) (val (q .y)) (sum-most .1)
               (middle .y-cap .cap),
@@ -192,7 +194,7 @@ module _ {t : B2Transform} (g : GridPlacement t) {k : ℕ} {e : Face} (e-most : 
         (same-trans (dot (outward f) u) (dot (outward f) (from-to (value-point q) point)) (off-line f point)
         (dot-same (outward f) (outward f) u (from-to (value-point q) point) (vector-refl (outward f))
         (without sum point (value-point q) sum-is)) (from-middle f (value-point q) point (middle .halfway)))
-        (skins .at-most) (skins .at-least))
+        skins)
       where
         apart : (a b : Z) → Abs a (end-metres * metre) → Abs b (corner-metres * metre)
             → Abs (a ⊟ b) (offset-metres * metre)

@@ -28,7 +28,7 @@ use Rattle.grid_contacts.specs.Faces.{SeparationAtLeast}
 use Rattle.grid_contacts.proofs.Distances.{at-most-longer, at-least-shorter}
 use Rattle.grid_contacts.proofs.FaceDistance.{separation-metres, distance-error}
 use Rattle.grid_contacts.proofs.PlacedOutline.{row-place, outline-place}
-use Rattle.grid_contacts.proofs.CornerSeparation.{Computed, corner-separation, placed-separation}
+use Rattle.grid_contacts.proofs.CornerSeparation.{Measured, corner-separation, placed-separation}
 
 -- ---- the largest float is above every separation
 max-float-high : whole ((separation-metres + 1) * metre) ≼ val b2-max-float
@@ -47,7 +47,7 @@ module _ {s : Float} (capped : Capped s separation-metres) where
       go : (v w : Z) → Abs v (separation-metres * metre) → whole ((separation-metres + 1) * metre) ≼ w → opp w ≺ v
       go v w h k = let p = metre-pos in omega arith
 
--- a computed separation, less and plus the error of a distance
+-- a measured separation, less and plus the error of a distance
 abbrev lowered : Float → Length
 lowered s = exactly (val s ⊟ whole distance-error)
 
@@ -81,8 +81,8 @@ module _ {xf1 xf2 : B2Transform} (g1 : GridPlacement xf1) (g2 : GridPlacement xf
   abbrev at-corner : ℕ → ℕ → Float
   at-corner = corner-separation xf poly1 poly2
 
-  computed : (i j : ℕ) → i < n1 → j < n2 → Computed (face-at corners1 i) (corner-at corners2 j) (at-corner i j)
-  computed i j i-in j-in = placed-separation g1 g2 poly1 poly2 o1 o2 i j i-in j-in
+  measured : (i j : ℕ) → i < n1 → j < n2 → Measured (face-at corners1 i) (corner-at corners2 j) (at-corner i j)
+  measured i j i-in j-in = placed-separation g1 g2 poly1 poly2 o1 o2 i j i-in j-in
 
   some1 : 0 < n1
   some1 = let h = o1 .three in omega arith
@@ -95,18 +95,18 @@ module _ {xf1 xf2 : B2Transform} (g1 : GridPlacement xf1) (g2 : GridPlacement xf
   at-face = face-separation xf poly1 poly2
 
   finite-at : (i : ℕ) → i < n1 → (j : ℕ) → j < n2 → F32 (at-corner i j)
-  finite-at i i-in j j-in = computed i j i-in j-in .capped .own
+  finite-at i i-in j j-in = measured i j i-in j-in .capped .own
 
   deepest : (i : ℕ) (i-in : i < n1) → Least (at-corner i) n2 (finite-at i i-in) some2 (at-face i)
   unfolding at-face face-separation
   deepest i i-in =
       least-found (at-corner i) n2 (finite-at i i-in) some2
-      (λ j j-in. below-max (computed i j i-in j-in .capped))
+      (λ j j-in. below-max (measured i j i-in j-in .capped))
 
   deepest-capped : (i : ℕ) → i < n1 → Capped (at-face i) separation-metres
   deepest-capped i i-in =
       let d = deepest i i-in in
-      subst (λ (s : Float). Capped s separation-metres) (sym (d .is)) (computed i (d .place) i-in (d .inside) .capped)
+      subst (λ (s : Float). Capped s separation-metres) (sym (d .is)) (measured i (d .place) i-in (d .inside) .capped)
 
   -- ---- the face found
   found : Greatest at-face n1 (λ i i-in. deepest i i-in .own) some1 (b2-find-max-separation poly1 xf1 poly2 xf2)
@@ -139,7 +139,7 @@ module _ {xf1 xf2 : B2Transform} (g1 : GridPlacement xf1) (g2 : GridPlacement xf
           at-least-shorter (face-at corners1 i) (corner-at corners2 j) (lowered (at-corner i j)) (lowered s) (lit≤ tt)
           (lower (val s) (val (at-corner i j))
           (subst (λ (z : Float). val z ≼ val (at-corner i j)) (sym is) (deepest i i-in .lowest j j-in)))
-          (computed i j i-in j-in .near .at-least)
+          (measured i j i-in j-in .near .at-least)
 
       any-face : (i : ℕ) → i < n1 → (s : Float) → val (at-face i) ≼ val s
           → SeparationAtMost (face-at corners1 i) corners2 (raised s)
@@ -150,5 +150,5 @@ module _ {xf1 xf2 : B2Transform} (g1 : GridPlacement xf1) (g2 : GridPlacement xf
             outline-place g2 poly2 o2 j (d .inside),
             at-most-longer (face-at corners1 i) (corner-at corners2 j) (raised (at-corner i j)) (raised s) (lit≤ tt)
                 (raise (val (at-corner i j)) (val s) (subst (λ (z : Float). val z ≼ val s) (d .is) le))
-                (computed i j i-in (d .inside) .near .at-most),
+                (measured i j i-in (d .inside) .near .at-most),
           )

@@ -23,6 +23,7 @@ use Rattle.floats.specs.declared.b2_math.B2vec2.{B2vec2}
 use Rattle.floats.specs.declared.b2_math.B2Transform.{B2Transform}
 use Rattle.floats.specs.B2Math.{b2-add, b2-scale, b2-mul-rot-by-vec2, b2-mul-transform-by-vec2}
 use Rattle.floats.proofs.Vectors.{carry-is}
+use Rattle.contact_definitions.specs.WorldManifold.{middle}
 use Rattle.grid.specs.Grid.{grid-limit, GridNumber, GridPoint, value-point}
 use Rattle.grid.proofs.Exact.{steps-dyadic, counts}
 use Rattle.grid.proofs.Limits.{vector-limit}
@@ -141,9 +142,6 @@ placed-half {r} {o} c r-is c-most o-grid =
     size v c e h = omega arith
 
 -- ---- the middle of two grid points, and that middle carried
-abbrev pub middle-of : B2vec2 → B2vec2 → B2vec2
-middle-of p q = b2-scale half32 (b2-add p q)
-
 abbrev pub middle-metres : ℕ
 middle-metres = 4
 
@@ -161,7 +159,7 @@ halfway-carried to-right r m p q o v h i j = (omega arith, omega arith)
 
 module _ {p q : B2vec2} (p-grid : GridPoint p) (q-grid : GridPoint q) where
   abbrev m : B2vec2
-  m = middle-of p q
+  m = middle p q
 
   half-x : HalfSteps (m .x) (val (p .x) ⊞ val (q .x)) (p-grid .0 .count ⊞ q-grid .0 .count)
   unfolding b2-scale b2-add

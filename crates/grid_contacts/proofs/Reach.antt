@@ -9,9 +9,9 @@ use Rattle.algebra.specs.Plane.{Point}
 use Rattle.rounding.specs.Value.{val}
 use Rattle.rounding.proofs.Value.{metre-ticks}
 use Rattle.contact_definitions.specs.declared.axis.Best.{Best}
-use Rattle.grid_contacts.specs.Lengths.{exactly, _plus_, both-skins, point-tolerance, choice-tolerance}
+use Rattle.grid_contacts.specs.Lengths.{exactly, _plus_, choice-tolerance}
 use Rattle.grid_contacts.specs.Faces.{corner-at, face-at, EveryFace, SeparationAtMost}
-use Rattle.grid_contacts.specs.SecondSentence.{KeepsOff, NearLargest}
+use Rattle.grid_contacts.specs.SecondSentence.{reach, KeepsOff, NearLargest}
 use Rattle.grid_contacts.proofs.Distances.{LengthLe, at-most-longer}
 use Rattle.grid_contacts.proofs.FaceDistance.{distance-error}
 use Rattle.grid_contacts.proofs.MaxSeparation.{MaxFace}
@@ -27,9 +27,9 @@ module _ {reference other : List Point} {r : Best} (found : MaxFace reference ot
       let near = found .every (off .0) (off .1) in
       off .2 (near .0) (near .1)
       (at-most-longer (face-at reference (off .0)) (corner-at other (near .0)) (exactly (s ⊞ whole distance-error))
-      (both-skins plus point-tolerance) (lit≤ tt) (room s within) (near .2))
+      reach (lit≤ tt) (room s within) (near .2))
     where
-      room : (s : Z) → WithinSkins s → LengthLe (exactly (s ⊞ whole distance-error)) (both-skins plus point-tolerance)
+      room : (s : Z) → WithinSkins s → LengthLe (exactly (s ⊞ whole distance-error)) reach
       room s h = let t = metre-ticks in omega arith
 
   -- each face's separation is at most 1/1024 m above a level that is the error of a distance below w

@@ -32,7 +32,7 @@ use Rattle.grid_contacts.proofs.NormalVec.{NormalVec, turned-vec}
 use Rattle.grid_contacts.proofs.FaceNormal.{unit-same, unit-turned, right-of, unit-right, carried-face}
 use Rattle.grid_contacts.proofs.FaceNormal.{FaceNormal}
 use Rattle.grid_contacts.proofs.FaceNormal.{face-normal, outward-turned}
-use Rattle.grid_contacts.proofs.Skins.{two-skins, two-skins-is, total-skin}
+use Rattle.grid_contacts.proofs.Skins.{two-skins, two-skins-capped}
 use Rattle.grid_contacts.proofs.Crossing.{corner-metres}
 use Rattle.grid_contacts.proofs.ClippedEnds.{ClipLine, begin-side, end-side}
 
@@ -97,14 +97,14 @@ module _ {t : B2Transform} (g : GridPlacement t) (poly : B2polygonShape) (o : Gr
   unfolding outline-face face-along
   first-side =
       let w = point-capped corner-metres tt (carry-exact g begin-grid .steps) in
-      begin-side world-tangent (w .0) (w .1) (record { own = two-skins-is .own; cap = total-skin .small })
+      begin-side world-tangent (w .0) (w .1) two-skins-capped
 
   pub second-side : ClipLine (outline-face two-skins poly t edge .«side_normal2»)
       (outline-face two-skins poly t edge .«side_offset2»)
   unfolding outline-face face-along
   second-side =
       let w = point-capped corner-metres tt (carry-exact g end-grid .steps) in
-      end-side world-tangent (w .0) (w .1) (record { own = two-skins-is .own; cap = total-skin .small })
+      end-side world-tangent (w .0) (w .1) two-skins-capped
 
   -- ---- the normal, in the outline's frame and in the world
   abbrev pub local-normal : B2vec2

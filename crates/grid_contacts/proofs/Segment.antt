@@ -66,8 +66,8 @@ near-finer {e} {k} {f} {x} e' m wider m-pos h = record {
         scaled p q x s t = omega arith
 
 -- ---- no farther out than the ends, but for e
-pub near-size : {e k : ℕ} {f : Face} {x : Point} (n : ℕ) → FaceAbs f n → NearSegment e k f x → PointAbs x (n + e)
-near-size {e} {k} {f} {x} n most h = (
+pub segment-size : {e k : ℕ} {f : Face} {x : Point} (n : ℕ) → FaceAbs f n → NearSegment e k f x → PointAbs x (n + e)
+segment-size {e} {k} {f} {x} n most h = (
   go (f .begin .x) (f .end .x) (x .x) (most .begin-most .0) (most .end-most .0) (h .near .0),
   go (f .begin .y) (f .end .y) (x .y) (most .begin-most .1) (most .end-most .1) (h .near .1),
 )

@@ -70,17 +70,12 @@ module _ (A B : B2polygonShape) {xfA xfB : B2Transform} (gA : GridPlacement xfA)
 
     -- the kind is k, and the points touch
     some-answered : (k : B2manifoldType) → 0 < m .«point_count» → InReach A B gA gB oA oB skinA skinB
-        → m .«manifold_type» ≡ k
-        → T (manifold-in-range m)
+        → m .«manifold_type» ≡ k → T (manifold-in-range m)
         → Reported cornersA cornersB gA gB m (world-of-kind k old-world m xfA (A .«m_radius») xfB (B .«m_radius»))
         → Answered old-world (manifold-accepted m)
     some-answered k some reach kind-is in-range reported =
-        let world =
-        points-answer old-world m xfA (A .«m_radius») xfB (B .«m_radius») few some in-range (radius-in skinA)
-        (radius-in skinB) (placement-in-range gA) (placement-in-range gB)
-        ∙ ap
-        (λ (t : B2manifoldType). world-accepted (world-of-kind t old-world m xfA (A .«m_radius») xfB (B .«m_radius»)))
-        kind-is in
+        let world = points-answer old-world m xfA (A .«m_radius») xfB (B .«m_radius») few some in-range
+        (radius-in skinA) (radius-in skinB) (placement-in-range gA) (placement-in-range gB) ∙ ap of-kind kind-is in
         record {
           contact-accepted = refl;
           world-accepted = ap (λ (w : WorldAnswer). w .refusal) world;
@@ -89,6 +84,9 @@ module _ (A B : B2polygonShape) {xfA xfB : B2Transform} (gA : GridPlacement xfA)
           where-reported = λ h. subst (λ (w : WorldAnswer). Reported cornersA cornersB gA gB m (w .world)) (sym world)
               reported;
         }
+      where
+        of-kind : B2manifoldType → WorldAnswer
+        of-kind t = world-accepted (world-of-kind t old-world m xfA (A .«m_radius») xfB (B .«m_radius»))
 
     answered : WayOf m → Answered old-world (manifold-accepted m)
     answered way = by-count (m .«point_count») refl way
@@ -112,8 +110,8 @@ module _ (A B : B2polygonShape) {xfA xfB : B2Transform} (gA : GridPlacement xfA)
   taken-b = grid-taken B oB (oB .in-range (radius-in skinB))
 
   contact-is : (old : B2manifold)
-      → b2-collide-polygons old A xfA B xfB ≡ manifold-accepted
-      (polygons-manifold (with-count old 0) two-skins A xfA B xfB)
+      → b2-collide-polygons old A xfA B xfB
+      ≡ manifold-accepted (polygons-manifold (with-count old 0) two-skins A xfA B xfB)
   contact-is old =
       polygons-accepted old xfA xfB (placement-in-range gA) (placement-in-range gB) A B taken-a taken-b
       ∙ ap (λ (total : Float). manifold-accepted (polygons-manifold (with-count old 0) total A xfA B xfB))
@@ -123,8 +121,8 @@ module _ (A B : B2polygonShape) {xfA xfB : B2Transform} (gA : GridPlacement xfA)
   unfolding with-count
   outlines-sentence old old-world =
       let m = polygons-manifold (with-count old 0) two-skins A xfA B xfB in
+      let taken = ap (λ (c : ManifoldAnswer). c .refusal) (contact-is old) in
       let few : m .«point_count» ≤ 2 = subst (λ (c : ManifoldAnswer). c .manifold .«point_count» ≤ 2) (contact-is old)
-      (polygons-count-and-kind old xfA xfB A B (ap (λ (c : ManifoldAnswer). c .refusal) (contact-is old)) .at-most-two)
-      in
+      (polygons-count-and-kind old xfA xfB A B taken .at-most-two) in
       subst (Answered old-world) (sym (contact-is old))
       (answered old-world m few (way-out A B gA gB oA oB skinA skinB (with-count old 0) refl))

@@ -17,45 +17,53 @@ use Rattle.rounding.proofs.Comparison.{lt-val, not-lt-val}
 use Rattle.floats.specs.B2Common.{b2-polygon-radius}
 use Rattle.floats.proofs.Constants.{skin-count, skin-is}
 use Rattle.contact_definitions.specs.B2CollidePolygon.{tolerance}
+use Rattle.grid_contacts.specs.Lengths.{exactly, both-skins}
+use Rattle.grid_contacts.proofs.Distances.{LengthLe}
 use Rattle.grid_contacts.proofs.FaceDistance.{separation-metres}
 
--- ---- two skins
+-- ---- the skins, by value: at most 0.02 m
+abbrev pub WithinSkins : Z → Type 0
+WithinSkins v = LengthLe (exactly v) both-skins
+
+-- r is 0.02 m, short of it by less than a tick
+pub record BothSkins (r : Z) : Type 0 where
+  pub at-most : WithinSkins r
+  pub at-least : both-skins .over ≼ both-skins .under ⊛ r ⊞ whole tick
+
+pub skins : BothSkins (val b2-polygon-radius ⊞ val b2-polygon-radius)
+skins = go (val b2-polygon-radius) (skin-is .is)
+  where
+    go : (v : Z) → 2 ^ 29 ⊛ v ≐ metre ⊛ whole skin-count → BothSkins (v ⊞ v)
+    go v e = let t = metre-ticks in record { at-most = omega arith; at-least = omega arith }
+
+pub skin-capped : Capped b2-polygon-radius 1
+skin-capped = record { own = skin-is .own; cap = go (val b2-polygon-radius) (skin-is .is) }
+  where
+    go : (v : Z) → 2 ^ 29 ⊛ v ≐ metre ⊛ whole skin-count → Abs v (1 * metre)
+    go v e = omega arith
+
+-- ---- their sum in f32
 abbrev pub two-skins : Float
 two-skins = add binary32 b2-polygon-radius b2-polygon-radius
 
-pub two-skins-is : Dyadic two-skins (whole (skin-count + skin-count)) 29
+two-skins-is : Dyadic two-skins (whole (skin-count + skin-count)) 29
 two-skins-is = exact-add 29 tt skin-is skin-is (lit≤ tt, lit≤ tt)
 
--- at most 0.02 m
-abbrev pub WithinSkins : Z → Type 0
-WithinSkins v = 50 ⊛ v ≼ whole metre
-
--- twice r is 0.02 m, short of it by less than a tick
-pub record Skins (r : Z) : Type 0 where
-  pub at-most : WithinSkins (r ⊞ r)
-  pub at-least : whole metre ≼ 50 ⊛ (r ⊞ r) ⊞ whole tick
-  pub small : Abs r (1 * metre)
-
-pub skins : Skins (val b2-polygon-radius)
-skins = go (val b2-polygon-radius) (skin-is .is)
+two-skins-most : WithinSkins (val two-skins)
+two-skins-most = go (val two-skins) (two-skins-is .is)
   where
-    go : (v : Z) → 2 ^ 29 ⊛ v ≐ metre ⊛ whole skin-count → Skins v
-    go v e = let t = metre-ticks in record { at-most = omega arith; at-least = omega arith; small = omega arith }
+    go : (v : Z) → 2 ^ 29 ⊛ v ≐ metre ⊛ whole (skin-count + skin-count) → WithinSkins v
+    go v e = omega arith
 
--- f32's two skins
-pub record TotalSkin (v : Z) : Type 0 where
-  pub at-most : WithinSkins v
-  pub small : Abs v (1 * metre)
-
-pub total-skin : TotalSkin (val two-skins)
-total-skin = go (val two-skins) (two-skins-is .is)
+pub two-skins-capped : Capped two-skins 1
+two-skins-capped = record { own = two-skins-is .own; cap = go (val two-skins) (two-skins-is .is) }
   where
-    go : (v : Z) → 2 ^ 29 ⊛ v ≐ metre ⊛ whole (skin-count + skin-count) → TotalSkin v
-    go v e = record { at-most = omega arith; small = omega arith }
+    go : (v : Z) → 2 ^ 29 ⊛ v ≐ metre ⊛ whole (skin-count + skin-count) → Abs v (1 * metre)
+    go v e = omega arith
 
 -- a number that is not above two skins
 pub in-reach : (s : Float) → F32 s → T (not (lt two-skins s)) → WithinSkins (val s)
-in-reach s s-f32 t = go (val s) (val two-skins) (total-skin .at-most) (not-lt-val (two-skins-is .own) s-f32 t)
+in-reach s s-f32 t = go (val s) (val two-skins) two-skins-most (not-lt-val (two-skins-is .own) s-f32 t)
   where
     go : (s t : Z) → WithinSkins t → s ≼ t → WithinSkins s
     go s t h k = omega arith

@@ -1,9 +1,8 @@
 -- Quarter turns of whole points: a turn keeps equality by value, sizes, multiples and dot products; the reversed turn
 -- undoes it; a turn after another is a quarter turn again. Assumes nothing.
-use mathlib.Core.Path.{_≡_, refl}
 use Prim.Native.Nat.{ℕ}
 use native.Mathlib.Omega.{arith}
-use Rattle.algebra.specs.Integer.{whole, opp, _⊛_, _≐_}
+use Rattle.algebra.specs.Integer.{whole, _⊛_, _≐_}
 use Rattle.algebra.specs.Plane.{Point, SameVector, PointAbs, sum-of, from-to, dot}
 use Rattle.algebra.proofs.Plane.{vector-trans}
 use Rattle.grid_contacts.specs.Placement.{QuarterTurn, unturned, to-left, about, to-right, sine, cosine, turned}
@@ -52,18 +51,6 @@ reversed unturned = unturned
 reversed to-left = to-right
 reversed about = about
 reversed to-right = to-left
-
-pub reversed-sine : (turn : QuarterTurn) → sine (reversed turn) ≡ opp (sine turn)
-reversed-sine unturned = refl
-reversed-sine to-left = refl
-reversed-sine about = refl
-reversed-sine to-right = refl
-
-pub reversed-cosine : (turn : QuarterTurn) → cosine (reversed turn) ≡ cosine turn
-reversed-cosine unturned = refl
-reversed-cosine to-left = refl
-reversed-cosine about = refl
-reversed-cosine to-right = refl
 
 pub turn-undone : (turn : QuarterTurn) (p : Point) → SameVector (turned turn (turned (reversed turn) p)) p
 turn-undone unturned p = (omega arith, omega arith)

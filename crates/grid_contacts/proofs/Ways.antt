@@ -127,6 +127,9 @@ module _ (A B : B2polygonShape) {xfA xfB : B2Transform} (gA : GridPlacement xfA)
       axis-b : Axis
       axis-b = face-b (b .value) (point-at (B .«m_normals») (b .place)) (b .place)
 
+      chosen : Bool → Bool → Bool → Axis
+      chosen s t u = cond s (Apart (a .value)) (cond t (Apart (b .value)) (cond u axis-b axis-a))
+
       way-a : InReach → Found gA gB A B oA oB skinA skinB EFaceA false (manifold-on axis-a old two-skins A xfA B xfB)
           → Way (manifold-on axis-a old two-skins A xfA B xfB)
       way-a reach (nothing is-zero) = no-points is-zero
@@ -140,18 +143,16 @@ module _ (A B : B2polygonShape) {xfA xfB : B2Transform} (gA : GridPlacement xfA)
       go : (s t u : Bool) → (T (not s) → WithinSkins (val (a .value))) → (T (not t) → WithinSkins (val (b .value)))
           → (T (not u) → val (b .value) ≼ val (a .value) ⊞ whole choice-error)
           → (T u → val (a .value) ≼ val (b .value) ⊞ whole choice-error)
-          → Way
-          (manifold-on (cond s (Apart (a .value)) (cond t (Apart (b .value)) (cond u axis-b axis-a))) old two-skins A
-          xfA B xfB)
+          → Way (manifold-on (chosen s t u) old two-skins A xfA B xfB)
       go true t u of-a of-b a-first b-first = no-points none
       go false true u of-a of-b a-first b-first = no-points none
       go false false true of-a of-b a-first b-first =
+          let inside = row-place gB B oB (b .place) (found-b .inside) in
           way-b (record { of-a = of-a tt; of-b = of-b tt })
-          (found gB gA B A oB oA skinB skinA EFaceB true (row-place gB B oB (b .place) (found-b .inside)) old swapped-id
-          none
+          (found gB gA B A oB oA skinB skinA EFaceB true inside old swapped-id none
           (near-largest found-b found-a (b-first tt)))
       go false false false of-a of-b a-first b-first =
+          let inside = row-place gA A oA (a .place) (found-a .inside) in
           way-a (record { of-a = of-a tt; of-b = of-b tt })
-          (found gA gB A B oA oB skinA skinB EFaceA false (row-place gA A oA (a .place) (found-a .inside)) old
-          (λ id. id) none
+          (found gA gB A B oA oB skinA skinB EFaceA false inside old (λ id. id) none
           (near-largest found-a found-b (a-first tt)))

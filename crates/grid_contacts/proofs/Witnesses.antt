@@ -137,16 +137,14 @@ pub record Touches (old : B2manifold) : Type 0 where
 pub touches : (old : B2manifold) → Touches old
 unfolding b2-polygon-shape-set outline-of-welded outline-of-corners welded start next row edges long-enough fan
     too-near comes-before closer b2-cross b2-distance-vec2-squared root-digits whole-root rounded-root sqrt b2-sqrt
-    b2-add
-    b2-sub b2-neg b2-scale b2-dot b2-cross-vec-by-scalar b2-length-squared b2-length b2-normalize b2-mul-t-rot
+    b2-add b2-sub b2-neg b2-scale b2-dot b2-cross-vec-by-scalar b2-length-squared b2-length b2-normalize b2-mul-t-rot
     b2-mul-rot-by-vec2 b2-mul-t-rot-by-vec2 b2-mul-transform-by-vec2 b2-mul-t-transform-by-vec2 b2-mul-t-transform
     point-in-range radius-in-range rotation-in-range transform-in-range normal-in-range polygon-in-range least
     first-greatest first-least swapped-id with-local-point with-count with-kind clip-distance crossing clipped-by
-    clipped
-    clipped-to-sides only points-from with-points manifold-of-ends face-separation b2-find-max-separation axis-of
-    polygons-axis incident-place incident-end b2-find-incident-edge local-tangent face-middle face-along outline-face
-    within-skins outline-point outline-manifold polygons-manifold b2-collide-polygons neg add sub mul div le lt eq
-    ofBits
+    clipped clipped-to-sides only points-from with-points manifold-of-ends face-separation b2-find-max-separation
+    axis-of polygons-axis incident-place incident-end b2-find-incident-edge local-tangent face-middle face-along
+    outline-face within-skins outline-point outline-manifold polygons-manifold b2-collide-polygons neg add sub mul div
+    le lt eq ofBits
 touches old = record {
   triangle-accepted = refl;
   two-points = refl;

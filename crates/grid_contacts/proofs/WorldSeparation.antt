@@ -18,15 +18,16 @@ use Rattle.floats.specs.B2Math.{b2-add, b2-sub, b2-scale, b2-dot}
 use Rattle.contact_definitions.specs.WorldManifold.{on-face, on-other, plane-separation}
 use Rattle.grid.specs.Grid.{value-point}
 use Rattle.grid.specs.GridOutline.{normal-bound, length-error}
-use Rattle.grid_contacts.specs.Lengths.{exactly, _plus_, _less_, both-skins, point-tolerance}
+use Rattle.grid_contacts.specs.Lengths.{exactly, both-skins}
 use Rattle.grid_contacts.specs.Faces.{Face, off-line}
-use Rattle.grid_contacts.specs.SecondSentence.{NearDistance}
+use Rattle.grid_contacts.specs.SecondSentence.{distance-most, distance-least, NearDistance}
 use Rattle.grid_contacts.proofs.NormalVec.{NormalVec, dot-normal}
 use Rattle.grid_contacts.proofs.FaceNormal.{outward, FaceNormal}
 use Rattle.grid_contacts.proofs.RootBridge.{root-ticks, root-reach}
 use Rattle.grid_contacts.proofs.FaceDistance.{DistanceWithin, within-of-length, against-ticks, normal-against}
 use Rattle.grid_contacts.proofs.FaceDistance.{direction-against}
 use Rattle.grid_contacts.proofs.Distances.{LengthLe, at-most-longer, at-least-shorter}
+use Rattle.grid_contacts.proofs.Skins.{WithinSkins, BothSkins}
 use Rattle.grid_contacts.proofs.WorldRoundings.{offset-metres, Offset, move-metres, move-ticks, moved-near}
 use Rattle.grid_contacts.proofs.WorldRoundings.{across-metres, across-ticks, across-near}
 
@@ -34,6 +35,18 @@ use Rattle.grid_contacts.proofs.WorldRoundings.{across-metres, across-t
 -- the dot product, both ways across, N2 times the sum of radius and distance moved, and a tick
 abbrev surface-ticks : ℕ
 surface-ticks = 4 * 2 ^ 6 + 2 * across-ticks + 64 * (1 + move-metres) + 1
+
+-- multiplied out; a sum of four terms; and the four of which w and g are made
+spread : (d : ℕ) (g x y : Z) → g ⊠ (x ⊞ y ⊟ whole d) ≐ g ⊠ x ⊞ g ⊠ y ⊟ d ⊛ g
+spread d g x y = omega arith
+
+four-terms : (w p q r s : Z) (k l m n o : ℕ) → w ≐ p ⊞ q ⊞ r ⊟ s → Abs p k → Abs q l → Abs r m → Abs s n
+    → k + l + m + n ≤ o → Abs w o
+four-terms w p q r s k l m n o e hp hq hr hs h = omega arith
+
+gathered : (d : ℕ) (W S R A B G : Z)
+    → (d * d) ⊛ (W ⊞ G) ≐ d ⊛ (d ⊛ W ⊟ (S ⊞ R)) ⊞ (d ⊛ S ⊞ A) ⊞ (d ⊛ R ⊞ B) ⊟ (A ⊞ B ⊟ (d * d) ⊛ G)
+gathered d W S R A B G = omega arith
 
 surface-near : (a b r ρ wx wy w : Z) → Abs a normal-bound → Abs b normal-bound
     → Abs (a ⊠ a ⊞ b ⊠ b ⊟ whole (metre * metre)) (length-error * metre) → Abs r (1 * metre)
@@ -46,16 +59,15 @@ surface-near a b r ρ wx wy w a-most b-most unit r-most ρ-most x-near y-near w-
     let n = across-ticks * tick * metre * normal-bound in
     let x = across-along wx a (summed a wx x-near) a-most in
     let y = across-along wy b (summed b wy y-near) b-most in
-    let m = abs-same (g ⊠ (a ⊠ a ⊞ b ⊠ b ⊟ whole (metre * metre))) (g ⊠ (a ⊠ a) ⊞ g ⊠ (b ⊠ b) ⊟ (metre * metre) ⊛ g)
+    let one = a ⊠ a ⊞ b ⊠ b ⊟ whole (metre * metre) in
+    let m = abs-same (g ⊠ one) (g ⊠ (a ⊠ a) ⊞ g ⊠ (b ⊠ b) ⊟ (metre * metre) ⊛ g)
     ((1 + move-metres) * metre * (length-error * metre)) (spread (metre * metre) g (a ⊠ a) (b ⊠ b))
-    (abs-product g (a ⊠ a ⊞ b ⊠ b ⊟ whole (metre * metre)) ((1 + move-metres) * metre) (length-error * metre) total
-    unit)
-    in
+    (abs-product g one ((1 + move-metres) * metre) (length-error * metre) total unit) in
     abs-unscale (metre * metre) (surface-ticks * tick) (w ⊞ g) (mul-pos metre-pos metre-pos)
-    (four ((metre * metre) ⊛ (w ⊞ g)) (metre ⊛ (metre ⊛ w ⊟ (wx ⊠ a ⊞ wy ⊠ b))) (metre ⊛ (wx ⊠ a) ⊞ g ⊠ (a ⊠ a))
+    (four-terms ((metre * metre) ⊛ (w ⊞ g)) (metre ⊛ (metre ⊛ w ⊟ (wx ⊠ a ⊞ wy ⊠ b))) (metre ⊛ (wx ⊠ a) ⊞ g ⊠ (a ⊠ a))
     (metre ⊛ (wy ⊠ b) ⊞ g ⊠ (b ⊠ b)) (g ⊠ (a ⊠ a) ⊞ g ⊠ (b ⊠ b) ⊟ (metre * metre) ⊛ g)
     (metre * (4 * 2 ^ 6 * tick * metre)) n n ((1 + move-metres) * metre * (length-error * metre))
-    (metre * metre * (surface-ticks * tick)) (identity metre w (wx ⊠ a) (wy ⊠ b) (g ⊠ (a ⊠ a)) (g ⊠ (b ⊠ b)) g)
+    (metre * metre * (surface-ticks * tick)) (gathered metre w (wx ⊠ a) (wy ⊠ b) (g ⊠ (a ⊠ a)) (g ⊠ (b ⊠ b)) g)
     (abs-scale metre (4 * 2 ^ 6 * tick * metre) (metre ⊛ w ⊟ (wx ⊠ a ⊞ wy ⊠ b)) w-near) x y m room)
   where
     total : Abs (r ⊞ ρ) ((1 + move-metres) * metre)
@@ -74,17 +86,6 @@ surface-near a b r ρ wx wy w a-most b-most unit r-most ρ-most x-near y-near w-
       where
         into : (w g a : Z) → (metre ⊛ w ⊞ g ⊠ a) ⊠ a ≐ metre ⊛ (w ⊠ a) ⊞ g ⊠ (a ⊠ a)
         into w g a = omega arith
-
-    spread : (d : ℕ) (g x y : Z) → g ⊠ (x ⊞ y ⊟ whole d) ≐ g ⊠ x ⊞ g ⊠ y ⊟ d ⊛ g
-    spread d g x y = omega arith
-
-    four : (w p q r s : Z) (k l m n o : ℕ) → w ≐ p ⊞ q ⊞ r ⊟ s → Abs p k → Abs q l → Abs r m → Abs s n
-        → k + l + m + n ≤ o → Abs w o
-    four w p q r s k l m n o e hp hq hr hs h = omega arith
-
-    identity : (d : ℕ) (W S R A B G : Z)
-        → (d * d) ⊛ (W ⊞ G) ≐ d ⊛ (d ⊛ W ⊟ (S ⊞ R)) ⊞ (d ⊛ S ⊞ A) ⊞ (d ⊛ R ⊞ B) ⊟ (A ⊞ B ⊟ (d * d) ⊛ G)
-    identity d W S R A B G = omega arith
 
     room : metre * (4 * 2 ^ 6 * tick * metre) + across-ticks * tick * metre * normal-bound
         + across-ticks * tick * metre * normal-bound + (1 + move-metres) * metre * (length-error * metre)
@@ -118,22 +119,21 @@ against-line l w r1 r2 ρ s d w-near ρ-near s-near =
 separation-error : ℕ
 separation-error = (line-ticks + root-ticks) * tick
 
-near-distance : (f : Face) (c : Point) (w r : Z) → DistanceWithin f c (w ⊞ r) separation-error → 50 ⊛ r ≼ whole metre
-    → whole metre ≼ 50 ⊛ r ⊞ whole tick → NearDistance f c w
+near-distance : (f : Face) (c : Point) (w r : Z) → DistanceWithin f c (w ⊞ r) separation-error → BothSkins r
+    → NearDistance f c w
 unfolding separation-error
-near-distance f c w r near r-most r-least = record {
-  not-below = at-most-longer f c (exactly (w ⊞ r ⊞ whole separation-error))
-      (exactly w plus both-skins plus point-tolerance) (lit≤ tt) (raised w r r-most) (near .at-most);
-  not-above = at-least-shorter f c (exactly (w ⊞ r ⊟ whole separation-error))
-      (exactly w plus both-skins less point-tolerance) (lit≤ tt) (lowered w r r-least) (near .at-least);
+near-distance f c w r near skins = record {
+  at-most = at-most-longer f c (exactly (w ⊞ r ⊞ whole separation-error)) (distance-most w) (lit≤ tt)
+      (raised w r (skins .at-most)) (near .at-most);
+  at-least = at-least-shorter f c (exactly (w ⊞ r ⊟ whole separation-error)) (distance-least w) (lit≤ tt)
+      (lowered w r (skins .at-least)) (near .at-least);
 }
   where
-    raised : (w r : Z) → 50 ⊛ r ≼ whole metre
-        → LengthLe (exactly (w ⊞ r ⊞ whole separation-error)) (exactly w plus both-skins plus point-tolerance)
+    raised : (w r : Z) → WithinSkins r → LengthLe (exactly (w ⊞ r ⊞ whole separation-error)) (distance-most w)
     raised w r h = let m = metre-ticks in omega arith
 
-    lowered : (w r : Z) → whole metre ≼ 50 ⊛ r ⊞ whole tick
-        → LengthLe (exactly w plus both-skins less point-tolerance) (exactly (w ⊞ r ⊟ whole separation-error))
+    lowered : (w r : Z) → both-skins .over ≼ both-skins .under ⊛ r ⊞ whole tick
+        → LengthLe (distance-least w) (exactly (w ⊞ r ⊟ whole separation-error))
     lowered w r h = let m = metre-ticks in omega arith
 
 -- w is finite, and near the signed distance of c from f's line, less 0.02 m
@@ -150,10 +150,9 @@ module _ (f : Face) (c : Point) {r o q n : B2vec2} {r1 r2 : Float} (x-offset : O
   u = from-to (value-point q) (sum-of (value-point r) (value-point o))
 
   pub separation-near : PointAbs u (offset-metres * metre) → dot (outward f) u ≐ off-line f c
-      → 50 ⊛ (val r1 ⊞ val r2) ≼ whole metre → whole metre ≼ 50 ⊛ (val r1 ⊞ val r2) ⊞ whole tick
-      → Separated f c (plane-separation n q r1 r2 (b2-add r o))
+      → BothSkins (val r1 ⊞ val r2) → Separated f c (plane-separation n q r1 r2 (b2-add r o))
   unfolding plane-separation on-other on-face b2-sub b2-add b2-scale separation-error
-  separation-near u-most u-is skins-most skins-least =
+  separation-near u-most u-is skins =
       let l = N .length in
       let p = b2-add r o in
       let m = moved-near x-offset y-offset vec r1-cap in
@@ -175,7 +174,7 @@ module _ (f : Face) (c : Point) {r o q n : B2vec2} {r1 r2 : Float} (x-offset : O
             (abs-same d (off-line f c) (root-reach l) u-is (direction-against (N .unit) u offset-metres u-most tt))
             (abs-same (l ⊛ (w ⊞ (val r1 ⊞ val r2)) ⊟ d) (l ⊛ (w ⊞ (val r1 ⊞ val r2)) ⊟ off-line f c)
             (line-ticks * (tick * l)) (moved (l ⊛ (w ⊞ (val r1 ⊞ val r2))) d (off-line f c) u-is) line))
-            skins-most skins-least;
+            skins;
       }
     where
       moved : (s d e : Z) → d ≐ e → s ⊟ d ≐ s ⊟ e

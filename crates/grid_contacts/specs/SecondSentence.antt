@@ -26,14 +26,17 @@ use Rattle.contact_definitions.specs.B2CollidePolygon.{b2-collide-polygons}
 use Rattle.contact_definitions.specs.WorldManifold.{b2-world-manifold-initialize}
 use Rattle.grid.specs.Grid.{value-point}
 use Rattle.grid_contacts.specs.Placement.{GridPlacement, carried, placed-corners}
-use Rattle.grid_contacts.specs.Lengths.{exactly, _plus_, _less_, both-skins, point-tolerance}
+use Rattle.grid_contacts.specs.Lengths.{Length, exactly, _plus_, _less_, both-skins, point-tolerance}
 use Rattle.grid_contacts.specs.Lengths.{choice-tolerance}
 use Rattle.grid_contacts.specs.Faces.{Face, face-at, EveryFace, SomeFace, DistanceAtMost, DistanceAtLeast}
 use Rattle.grid_contacts.specs.Faces.{SeparationAtMost, SeparationAtLeast, SeparationAbove, NearBoundary}
 
 -- ---- some face of the first outline keeps the second more than 0.02 + 1/4096 m off
+abbrev pub reach : Length
+reach = both-skins plus point-tolerance
+
 abbrev pub KeepsOff : List Point → List Point → Type 0
-KeepsOff corners other = SomeFace corners (λ f. SeparationAbove f other (both-skins plus point-tolerance))
+KeepsOff corners other = SomeFace corners (λ f. SeparationAbove f other reach)
 
 -- ---- the separation of a face f of the reference outline is within 1/1024 m of the largest over all faces of both:
 -- it reaches some level, and none is above that level and 1/1024 m
@@ -44,9 +47,15 @@ pub record NearLargest (reference other : List Point) (f : Face) : Type 0 where
   pub by-other : EveryFace other (λ g. SeparationAtMost g reference (exactly level plus choice-tolerance))
 
 -- ---- w is within 1/4096 m of the signed distance of c from f's line, less 0.02 m
+abbrev pub distance-most : Z → Length
+distance-most w = exactly w plus both-skins plus point-tolerance
+
+abbrev pub distance-least : Z → Length
+distance-least w = exactly w plus both-skins less point-tolerance
+
 pub record NearDistance (f : Face) (c : Point) (w : Z) : Type 0 where
-  pub not-below : DistanceAtMost f c (exactly w plus both-skins plus point-tolerance)
-  pub not-above : DistanceAtLeast f c (exactly w plus both-skins less point-tolerance)
+  pub at-most : DistanceAtMost f c (distance-most w)
+  pub at-least : DistanceAtLeast f c (distance-least w)
 
 -- ---- a manifold point: its local point, carried by the placement of the other outline; and its world separation
 abbrev pub local-at : B2manifold → ℕ → B2vec2
