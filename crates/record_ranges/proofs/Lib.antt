@@ -1,0 +1,4 @@
+pub mod Caps
+pub mod Vectors
+pub mod Normalised
+pub mod Clipped
