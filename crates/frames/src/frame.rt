@@ -1,14 +1,15 @@
 // Any frame.
 ghost use mathlib.Core.Path.{_≡_};
 ghost use Rattle.record_definitions.specs.Frame as definitions;
-use crate::test_frames;
 use lines::fields;
 use record_definitions::frame::Change;
 use record_definitions::world::Body;
+use record_definitions::world::LARGEST_ID;
 use record_definitions::world::Pair;
 use shape_definitions::refusal;
 use shape_frames::changes;
 use shape_frames::kinds;
+use test_frames::test_frame;
 
 // By the count, of at most eight points; or 0.
 fn outline_length(count: u8) -> usize
@@ -60,7 +61,7 @@ pub fn frame(a: Body, b: Body, pair: Pair, bytes: &[u8]) -> Change
     if bytes.len() != size {
         return changes::refused(refusal::MALFORMED_FRAME, a, pair);
     }
-    if id > test_frames::LARGEST_ID {
+    if id > LARGEST_ID {
         return changes::refused(refusal::UNKNOWN_ID, a, pair);
     }
     match kind {
@@ -68,6 +69,6 @@ pub fn frame(a: Body, b: Body, pair: Pair, bytes: &[u8]) -> Change
         2 => kinds::outline_frame(a, pair, bytes),
         3 => kinds::wall_frame(a, pair, bytes),
         4 => kinds::place_frame(a, pair, bytes),
-        _ => test_frames::test_frame(id, third, a, b, pair),
+        _ => test_frame::test_frame(id, third, a, b, pair),
     }
 }

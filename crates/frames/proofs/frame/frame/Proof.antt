@@ -2,7 +2,8 @@
 use mathlib.Core.Path.{sym, _∙_}
 use native.Mathlib.Omega.{arith}
 use Rattle.frames.proofs.Lengths.{circle-length, outline-room, wall-room, place-length}
-use Rattle.frames.proofs.ByKind.{no-size, wrong-size, id-above, circle-is, outline-is, wall-is, place-is, test-is}
+use Rattle.frames.proofs.ByKind.{no-size, wrong-size, id-above}
+use Rattle.frames.proofs.ByKind.{circle-is, outline-is, wall-is, place-is, test-is}
 use borrow.Author.Needs.{needs}
 use Rattle.frames.proofs.frame.frame.Statement.{statement}
 use Rattle.frames.proofs.frame.frame.Tie as tie
@@ -30,8 +31,9 @@ returns c =
     let byte2 = c .before .before .before .before .byte2 in
     let byte = c .before .before .before .before .before .byte in
     let args = c .before .before .before .before .before .before .before .args in
-    c .refused .ensures ∙ no-size (args .a) (args .b) (args .pair) (args .bytes .now) _ _ _ _ (byte .ensures) (byte2 .ensures)
-    (byte3 .ensures) (frame-length .ensures) (if1 .taken)
+    c .refused .ensures
+    ∙ no-size (args .a) (args .b) (args .pair) (args .bytes .now) _ _ _ _
+    (byte .ensures) (byte2 .ensures) (byte3 .ensures) (frame-length .ensures) (if1 .taken)
 
 refused-requires-2 : tie.Need-refused-requires-2
 refused-requires-2 c κs = search needs
@@ -45,8 +47,9 @@ returns-2 c =
     let byte2 = c .before .before .before .before .before .byte2 in
     let byte = c .before .before .before .before .before .before .byte in
     let args = c .before .before .before .before .before .before .before .before .args in
-    c .refused2 .ensures ∙ wrong-size (args .a) (args .b) (args .pair) (args .bytes .now) _ _ _ _ (byte .ensures) (byte2 .ensures)
-    (byte3 .ensures) (frame-length .ensures) (if1 .left) (if2 .taken)
+    c .refused2 .ensures
+    ∙ wrong-size (args .a) (args .b) (args .pair) (args .bytes .now) _ _ _ _
+    (byte .ensures) (byte2 .ensures) (byte3 .ensures) (frame-length .ensures) (if1 .left) (if2 .taken)
 
 refused-requires-3 : tie.Need-refused-requires-3
 refused-requires-3 c κs = search needs
@@ -61,8 +64,9 @@ returns-3 c =
     let byte2 = c .before .before .before .before .before .before .byte2 in
     let byte = c .before .before .before .before .before .before .before .byte in
     let args = c .before .before .before .before .before .before .before .before .before .args in
-    c .refused3 .ensures ∙ id-above (args .a) (args .b) (args .pair) (args .bytes .now) _ _ _ _ (byte .ensures) (byte2 .ensures)
-    (byte3 .ensures) (frame-length .ensures) (if1 .left) (if2 .left) (if3 .taken)
+    c .refused3 .ensures
+    ∙ id-above (args .a) (args .b) (args .pair) (args .bytes .now) _ _ _ _
+    (byte .ensures) (byte2 .ensures) (byte3 .ensures) (frame-length .ensures) (if1 .left) (if2 .left) (if3 .taken)
 
 circle-frame-requires : tie.Need-circle-frame-requires
 circle-frame-requires c κs =
@@ -87,8 +91,10 @@ wall-frame-requires c κs =
     let if1 = c .before .before .before .if1 in
     let frame-length = c .before .before .before .before .frame-length in
     let byte3 = c .before .before .before .before .before .byte3 in
-    let room = wall-room _ _ _ (frame-length .ensures) (if1 .left) (c .match .keys3) in
-    (omega (arith, room .0, if2 .left), λ other. omega (arith, room .1 (λ none. other (sym (byte3 .ensures) ∙ none)), if2 .left))
+    let room = wall-room _ _ _ (frame-length .ensures) (if1 .left) (c .match .keys3) in (
+      omega (arith, room .0, if2 .left),
+      λ other. omega (arith, room .1 (λ none. other (sym (byte3 .ensures) ∙ none)), if2 .left),
+    )
 
 place-frame-requires : tie.Need-place-frame-requires
 place-frame-requires c κs =
@@ -112,8 +118,10 @@ returns-4 c =
     let byte2 = c .before .before .before .before .before .before .before .byte2 in
     let byte = c .before .before .before .before .before .before .before .before .byte in
     let args = c .before .before .before .before .before .before .before .before .before .before .args in
-    c .circle-frame .ensures ∙ circle-is (args .a) (args .b) (args .pair) (args .bytes .now) _ _ _ _ (byte .ensures) (byte2 .ensures)
-    (byte3 .ensures) (frame-length .ensures) (if1 .left) (if2 .left) (if3 .left) (match .keys1)
+    c .circle-frame .ensures
+    ∙ circle-is (args .a) (args .b) (args .pair) (args .bytes .now) _ _ _ _
+    (byte .ensures) (byte2 .ensures) (byte3 .ensures) (frame-length .ensures)
+    (if1 .left) (if2 .left) (if3 .left) (match .keys1)
 
 returns-5 : tie.Need-returns-5
 returns-5 c =
@@ -126,8 +134,10 @@ returns-5 c =
     let byte2 = c .before .before .before .before .before .before .before .byte2 in
     let byte = c .before .before .before .before .before .before .before .before .byte in
     let args = c .before .before .before .before .before .before .before .before .before .before .args in
-    c .outline-frame .ensures ∙ outline-is (args .a) (args .b) (args .pair) (args .bytes .now) _ _ _ _ (byte .ensures) (byte2 .ensures)
-    (byte3 .ensures) (frame-length .ensures) (if1 .left) (if2 .left) (if3 .left) (match .keys2)
+    c .outline-frame .ensures
+    ∙ outline-is (args .a) (args .b) (args .pair) (args .bytes .now) _ _ _ _
+    (byte .ensures) (byte2 .ensures) (byte3 .ensures) (frame-length .ensures)
+    (if1 .left) (if2 .left) (if3 .left) (match .keys2)
 
 returns-6 : tie.Need-returns-6
 returns-6 c =
@@ -140,8 +150,10 @@ returns-6 c =
     let byte2 = c .before .before .before .before .before .before .before .byte2 in
     let byte = c .before .before .before .before .before .before .before .before .byte in
     let args = c .before .before .before .before .before .before .before .before .before .before .args in
-    c .wall-frame .ensures ∙ wall-is (args .a) (args .b) (args .pair) (args .bytes .now) _ _ _ _ (byte .ensures) (byte2 .ensures)
-    (byte3 .ensures) (frame-length .ensures) (if1 .left) (if2 .left) (if3 .left) (match .keys3)
+    c .wall-frame .ensures
+    ∙ wall-is (args .a) (args .b) (args .pair) (args .bytes .now) _ _ _ _
+    (byte .ensures) (byte2 .ensures) (byte3 .ensures) (frame-length .ensures)
+    (if1 .left) (if2 .left) (if3 .left) (match .keys3)
 
 returns-7 : tie.Need-returns-7
 returns-7 c =
@@ -154,8 +166,10 @@ returns-7 c =
     let byte2 = c .before .before .before .before .before .before .before .byte2 in
     let byte = c .before .before .before .before .before .before .before .before .byte in
     let args = c .before .before .before .before .before .before .before .before .before .before .args in
-    c .place-frame .ensures ∙ place-is (args .a) (args .b) (args .pair) (args .bytes .now) _ _ _ _ (byte .ensures) (byte2 .ensures)
-    (byte3 .ensures) (frame-length .ensures) (if1 .left) (if2 .left) (if3 .left) (match .keys4)
+    c .place-frame .ensures
+    ∙ place-is (args .a) (args .b) (args .pair) (args .bytes .now) _ _ _ _
+    (byte .ensures) (byte2 .ensures) (byte3 .ensures) (frame-length .ensures)
+    (if1 .left) (if2 .left) (if3 .left) (match .keys4)
 
 returns-8 : tie.Need-returns-8
 returns-8 c =
@@ -168,9 +182,11 @@ returns-8 c =
     let byte2 = c .before .before .before .before .before .before .before .byte2 in
     let byte = c .before .before .before .before .before .before .before .before .byte in
     let args = c .before .before .before .before .before .before .before .before .before .before .args in
-    c .test-frame .ensures ∙ test-is (args .a) (args .b) (args .pair) (args .bytes .now) _ _ _ _ (byte .ensures) (byte2 .ensures)
-    (byte3 .ensures) (frame-length .ensures) (if1 .left) (if2 .left) (if3 .left) (match .rest .0 .0 .0 .1)
-    (match .rest .0 .0 .1) (match .rest .0 .1) (match .rest .1)
+    c .test-frame .ensures
+    ∙ test-is (args .a) (args .b) (args .pair) (args .bytes .now) _ _ _ _
+    (byte .ensures) (byte2 .ensures) (byte3 .ensures) (frame-length .ensures)
+    (if1 .left) (if2 .left) (if3 .left)
+    (match .rest .0 .0 .0 .1) (match .rest .0 .0 .1) (match .rest .0 .1) (match .rest .1)
 
 pub frame-spec : {M : Type 1} → statement M
 frame-spec =

@@ -2,8 +2,8 @@
 use native.Mathlib.Omega.{arith}
 use Rattle.record_definitions.specs.Touch.{touches-after}
 use borrow.Author.Needs.{needs}
-use Rattle.pair_test.proofs.touch.touches_after.Statement.{statement}
-use Rattle.pair_test.proofs.touch.touches_after.Tie as tie
+use Rattle.touch_results.proofs.touch.touches_after.Statement.{statement}
+use Rattle.touch_results.proofs.touch.touches_after.Tie as tie
 
 added-requires : tie.Need-added-requires
 added-requires c κs = search needs

@@ -5,17 +5,16 @@ use pair_test::testing;
 use record_definitions::frame::Answer;
 use record_definitions::frame::Change;
 use record_definitions::frame::Said;
+use record_definitions::touch::TestAnswer;
 use record_definitions::world::Body;
 use record_definitions::world::CIRCLE;
+use record_definitions::world::LARGEST_ID;
 use record_definitions::world::NO_BODY;
 use record_definitions::world::OUTLINE;
 use record_definitions::world::Pair;
 use record_definitions::world::WALL;
 use shape_definitions::refusal;
 use shape_frames::changes;
-
-// The largest id.
-pub const LARGEST_ID: u8 = 7;
 
 // The kinds that are tested: circle-circle, outline-circle, outline-outline, wall-circle, wall-outline.
 fn listed(a: u8, b: u8) -> bool
@@ -49,6 +48,26 @@ fn test_refusal(ida: u8, idb: u8, kinda: u8, kindb: u8) -> u8
     refusal::ACCEPTED
 }
 
+// The test's refusal, or its result.
+fn test_answered(body: Body, pair: Pair, t: TestAnswer) -> Change
+    ensures { λ r. ⌜ r ≡ definitions.test-answered body pair t ⌝ }
+{
+    let number = t.refusal;
+    if number != refusal::ACCEPTED {
+        return changes::refused(number, body, pair);
+    }
+    let touch = t.touch;
+    let kept = t.pair;
+    Change {
+        said: Said {
+            answer: Answer::Tested(touch),
+        },
+        body,
+        pair: kept,
+        forget: false,
+    }
+}
+
 // 05 a b
 pub fn test_frame(ida: u8, idb: u8, a: Body, b: Body, pair: Pair) -> Change
     ensures { λ r. ⌜ r ≡ definitions.test-change ida idb a b pair ⌝ }
@@ -57,19 +76,5 @@ pub fn test_frame(ida: u8, idb: u8, a: Body, b: Body, pair: Pair) -> Change
     if number != refusal::ACCEPTED {
         return changes::refused(number, a, pair);
     }
-    let test = testing::tested(ida, idb, a, b, pair);
-    let late = test.refusal;
-    if late != refusal::ACCEPTED {
-        return changes::refused(late, a, pair);
-    }
-    let touch = test.touch;
-    let kept = test.pair;
-    Change {
-        said: Said {
-            answer: Answer::Tested(touch),
-        },
-        body: a,
-        pair: kept,
-        forget: false,
-    }
+    test_answered(a, pair, testing::tested(ida, idb, a, b, pair))
 }

@@ -2,8 +2,8 @@
 use borrow.Author.Tests.{eq-eqb, ne-eqb}
 use Rattle.record_definitions.specs.Touch.{meet}
 use borrow.Author.Needs.{needs}
-use Rattle.pair_test.proofs.meeting.meet.Statement.{statement}
-use Rattle.pair_test.proofs.meeting.meet.Tie as tie
+use Rattle.meetings.proofs.meeting.meet.Statement.{statement}
+use Rattle.meetings.proofs.meeting.meet.Tie as tie
 
 meet-circle-requires : tie.Need-meet-circle-requires
 meet-circle-requires c κs = search needs

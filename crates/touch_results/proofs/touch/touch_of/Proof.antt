@@ -10,8 +10,8 @@ use Rattle.rounding.specs.Literals.{zero32}
 use Rattle.shape_definitions.specs.Outline.{origin}
 use Rattle.record_definitions.specs.Touch.{touch-of}
 use borrow.Author.Needs.{needs}
-use Rattle.pair_test.proofs.touch.touch_of.Statement.{statement}
-use Rattle.pair_test.proofs.touch.touch_of.Tie as tie
+use Rattle.touch_results.proofs.touch.touch_of.Statement.{statement}
+use Rattle.touch_results.proofs.touch.touch_of.Tie as tie
 
 array-copy-out-p : tie.Need-array-copy-out-p
 array-copy-out-p c = search needs

@@ -1,8 +1,8 @@
 -- By the count. Assumes nothing.
 use borrow.Author.Tests.{eq-eqb, ne-eqb}
 use borrow.Author.Needs.{needs}
-use Rattle.pair_test.proofs.touch.shown_kind.Statement.{statement}
-use Rattle.pair_test.proofs.touch.shown_kind.Tie as tie
+use Rattle.touch_results.proofs.touch.shown_kind.Statement.{statement}
+use Rattle.touch_results.proofs.touch.shown_kind.Tie as tie
 
 returns : tie.Need-returns
 returns c = simp (eq-eqb _ _ (c .if1 .taken))

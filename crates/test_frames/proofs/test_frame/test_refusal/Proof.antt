@@ -2,8 +2,8 @@
 use borrow.Author.Tests.{lt-ltb, le-ltb}
 use Rattle.record_definitions.specs.Frame.{test-refusal}
 use borrow.Author.Needs.{needs}
-use Rattle.frames.proofs.test_frames.test_refusal.Statement.{statement}
-use Rattle.frames.proofs.test_frames.test_refusal.Tie as tie
+use Rattle.test_frames.proofs.test_frame.test_refusal.Statement.{statement}
+use Rattle.test_frames.proofs.test_frame.test_refusal.Tie as tie
 
 returns : tie.Need-returns
 unfolding test-refusal

@@ -1,13 +1,11 @@
--- A test frame: refused at once, refused by the test, or answered. Assumes nothing.
+-- A test frame is refused at once, or answered as the test answers. Assumes nothing.
 use Prim.Native.Nat.{ℕ}
 use mathlib.Core.Path.{_≡_}
-use mathlib.Core.Bool.{false}
 use borrow.Author.Tests.{eq-eqb, ne-eqb}
 use Rattle.shape_definitions.specs.Refusal.{accepted}
 use Rattle.record_definitions.specs.declared.world.Body.{Body}
 use Rattle.record_definitions.specs.declared.world.Pair.{Pair}
 use Rattle.record_definitions.specs.declared.touch.TestAnswer.{TestAnswer}
-use Rattle.record_definitions.specs.declared.frame.Answer.the-variants.{Tested}
 use Rattle.record_definitions.specs.Touch.{tested}
 use Rattle.record_definitions.specs.Frame.{refused, test-refusal, test-answered, test-change}
 
@@ -21,12 +19,3 @@ module _ (ida idb : ℕ) (a b : Body) (pair : Pair) (number : ℕ)
       → test-answered a pair t ≡ test-change ida idb a b pair
   unfolding test-change
   test-run t none is = rw (← number-is, is) (simp (eq-eqb number accepted none))
-
-module _ (body : Body) (pair : Pair) (t : TestAnswer) where
-  pub answered-refused : (t .refusal ≡ accepted → ⊥) → refused (t .refusal) body pair ≡ test-answered body pair t
-  answered-refused some = simp (ne-eqb (t .refusal) accepted some)
-
-  pub answered : t .refusal ≡ accepted
-      → record { said = record { answer = Tested (t .touch) }; body = body; pair = t .pair; forget = false }
-      ≡ test-answered body pair t
-  answered none = simp (eq-eqb (t .refusal) accepted none)

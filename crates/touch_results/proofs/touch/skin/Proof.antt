@@ -1,8 +1,8 @@
 -- By the kind. Assumes nothing.
 use borrow.Author.Tests.{eq-eqb, ne-eqb}
 use Rattle.record_definitions.specs.Touch.{skin}
-use Rattle.pair_test.proofs.touch.skin.Statement.{statement}
-use Rattle.pair_test.proofs.touch.skin.Tie as tie
+use Rattle.touch_results.proofs.touch.skin.Statement.{statement}
+use Rattle.touch_results.proofs.touch.skin.Tie as tie
 
 returns : tie.Need-returns
 unfolding skin

@@ -1,8 +1,8 @@
 -- The five rows. Assumes nothing.
 use mathlib.Core.Path.{refl}
 use Rattle.record_definitions.specs.Frame.{listed}
-use Rattle.frames.proofs.test_frames.listed.Statement.{statement}
-use Rattle.frames.proofs.test_frames.listed.Tie as tie
+use Rattle.test_frames.proofs.test_frame.listed.Statement.{statement}
+use Rattle.test_frames.proofs.test_frame.listed.Tie as tie
 
 returns : tie.Need-returns
 unfolding listed
