@@ -1,6 +1,7 @@
 // Frame 05: a test of two bodies.
 ghost use mathlib.Core.Path.{_≡_};
 ghost use Rattle.record_definitions.specs.Frame as definitions;
+use bodies::changes;
 use pair_test::testing;
 use record_definitions::frame::Answer;
 use record_definitions::frame::Change;
@@ -14,7 +15,6 @@ use record_definitions::world::OUTLINE;
 use record_definitions::world::Pair;
 use record_definitions::world::WALL;
 use shape_definitions::refusal;
-use shape_frames::changes;
 
 // The kinds that are tested: circle-circle, outline-circle, outline-outline, wall-circle, wall-outline.
 fn listed(a: u8, b: u8) -> bool
