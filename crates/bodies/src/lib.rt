@@ -1,2 +1,3 @@
 // Bodies, pairs and the world, made and changed.
+pub mod changes;
 pub mod world;

@@ -1,11 +1,15 @@
 -- The lengths of frames by their kind, and the room that a reader of each has. Assumes nothing.
 use Prim.Native.Nat.{ℕ, _+_, _*_, _≤_}
-use mathlib.Core.Path.{_≡_, refl, sym, _∙_}
+use mathlib.Core.Path.{_≡_, refl, _∙_, ap₂}
+use mathlib.Core.Bool.{Bool, true, false, not, _&&_, false≢true}
+use mathlib.Core.List.{List}
 use native.Mathlib.Omega.{arith}
 use lib.Dec.{eqb, leb}
-use borrow.Author.Tests.{leb-true, eqb-true, ne-eqb}
+use lib.ListN.{length}
+use borrow.Author.Tests.{leb-true, eqb-true, eqb-false, eq-eqb, ne-eqb}
 use Rattle.algebra.proofs.Booleans.{by-test}
-use Rattle.record_definitions.specs.Frame.{outline-length, wall-length, frame-length}
+use Rattle.lines.specs.Fields.{byte-at}
+use Rattle.record_definitions.specs.Frame.{outline-length, wall-length, frame-length, well-formed}
 
 module _ (kind third : ℕ) where
   pub circle-length : kind ≡ 1 → frame-length kind third ≡ 14
@@ -34,20 +38,62 @@ module _ (kind third : ℕ) where
   no-length no-1 no-2 no-3 no-4 no-5 =
       simp (ne-eqb _ _ no-1, ne-eqb _ _ no-2, ne-eqb _ _ no-3, ne-eqb _ _ no-4, ne-eqb _ _ no-5)
 
-  -- a frame with a length
-  module _ (size : ℕ) (size-is : size ≡ frame-length kind third) (some : size ≡ 0 → ⊥) where
-    pub outline-room : kind ≡ 2 → (third ≤ 8) × (size ≡ 3 + 8 * third)
-    outline-room is =
-        by-test (leb third 8)
-        (λ few. (leb-true third 8 few, size-is ∙ outline-length-is is ∙ simp few))
-        (λ many. absurd (some (size-is ∙ outline-length-is is ∙ simp many)))
+pub read-length : (bytes : List ℕ) (kind third size : ℕ) → size ≡ frame-length kind third → kind ≡ byte-at bytes 0
+    → third ≡ byte-at bytes 2 → size ≡ frame-length (byte-at bytes 0) (byte-at bytes 2)
+read-length bytes kind third size size-is kind-is third-is = size-is ∙ ap₂ frame-length kind-is third-is
 
-    pub wall-room : kind ≡ 3 → (19 ≤ size) × ((third ≡ 0 → ⊥) → 35 ≤ size)
+-- ---- well-formed frames: some size, and that length
+module _ (bytes : List ℕ) (size : ℕ) (size-is : size ≡ frame-length (byte-at bytes 0) (byte-at bytes 2)) where
+  formed-as : (t : Bool) → not (eqb size 0) && eqb (length bytes) size ≡ t → well-formed bytes ≡ t
+  unfolding well-formed
+  formed-as t h = rw (← size-is) h
+
+  pub no-size : size ≡ 0 → well-formed bytes ≡ false
+  no-size none = formed-as false (simp (eq-eqb size 0 none))
+
+  pub wrong-size : (size ≡ 0 → ⊥) → (length bytes ≡ size → ⊥) → well-formed bytes ≡ false
+  wrong-size some other = formed-as false (simp (ne-eqb size 0 some, ne-eqb (length bytes) size other))
+
+  pub formed : (size ≡ 0 → ⊥) → length bytes ≡ size → well-formed bytes ≡ true
+  formed some right = formed-as true (simp (ne-eqb size 0 some, eq-eqb (length bytes) size right))
+
+module _ (bytes : List ℕ) where
+  abbrev size : ℕ
+  size = frame-length (byte-at bytes 0) (byte-at bytes 2)
+
+  sized-by : (none right : Bool) → eqb size 0 ≡ none → eqb (length bytes) size ≡ right → not none && right ≡ true
+      → (size ≡ 0 → ⊥) × (length bytes ≡ size)
+  sized-by true right none-is right-is both = absurd (false≢true both)
+  sized-by false false none-is right-is both = absurd (false≢true both)
+  sized-by false true none-is right-is both = (eqb-false size 0 none-is, eqb-true (length bytes) size right-is)
+
+  sized : well-formed bytes ≡ true → (size ≡ 0 → ⊥) × (length bytes ≡ size)
+  unfolding well-formed
+  sized well = sized-by (eqb size 0) (eqb (length bytes) size) refl refl well
+
+  module _ (well : well-formed bytes ≡ true) where
+    pub circle-room : byte-at bytes 0 ≡ 1 → length bytes ≡ 14
+    circle-room is = sized well .1 ∙ circle-length (byte-at bytes 0) (byte-at bytes 2) is
+
+    pub outline-room : byte-at bytes 0 ≡ 2 → (byte-at bytes 2 ≤ 8) × (length bytes ≡ 3 + 8 * byte-at bytes 2)
+    outline-room is =
+        let count = byte-at bytes 2 in
+        let size-is : size ≡ outline-length count = outline-length-is (byte-at bytes 0) count is in
+        by-test (leb count 8)
+        (λ few. (leb-true count 8 few, sized well .1 ∙ size-is ∙ simp few))
+        (λ many. absurd (sized well .0 (size-is ∙ simp many)))
+
+    pub wall-room : byte-at bytes 0 ≡ 3 → (19 ≤ length bytes) × ((byte-at bytes 2 ≡ 0 → ⊥) → 35 ≤ length bytes)
     wall-room is =
-        by-test (eqb third 0)
-        (λ two-sided. let is-19 : size ≡ 19 = size-is ∙ wall-length-is is ∙ simp two-sided in
-        (omega arith, λ other. absurd (other (eqb-true third 0 two-sided))))
-        (λ not-two. by-test (eqb third 1)
-        (λ one-sided. let is-35 : size ≡ 35 = size-is ∙ wall-length-is is ∙ simp (not-two, one-sided) in
+        let flag = byte-at bytes 2 in
+        let size-is : size ≡ wall-length flag = wall-length-is (byte-at bytes 0) flag is in
+        by-test (eqb flag 0)
+        (λ two-sided. let is-19 : length bytes ≡ 19 = sized well .1 ∙ size-is ∙ simp two-sided in
+        (omega arith, λ other. absurd (other (eqb-true flag 0 two-sided))))
+        (λ not-two. by-test (eqb flag 1)
+        (λ one-sided. let is-35 : length bytes ≡ 35 = sized well .1 ∙ size-is ∙ simp (not-two, one-sided) in
         (omega arith, λ other. omega arith))
-        (λ not-one. absurd (some (size-is ∙ wall-length-is is ∙ simp (not-two, not-one)))))
+        (λ not-one. absurd (sized well .0 (size-is ∙ simp (not-two, not-one)))))
+
+    pub place-room : byte-at bytes 0 ≡ 4 → length bytes ≡ 18
+    place-room is = sized well .1 ∙ place-length (byte-at bytes 0) (byte-at bytes 2) is

@@ -1,14 +1,16 @@
 // Any frame.
 ghost use mathlib.Core.Path.{_≡_};
 ghost use Rattle.record_definitions.specs.Frame as definitions;
-use crate::test_frames;
+ghost use Rattle.frames.specs.Refused.{frame-refusal};
+use bodies::changes;
 use lines::fields;
 use record_definitions::frame::Change;
 use record_definitions::world::Body;
+use record_definitions::world::LARGEST_ID;
 use record_definitions::world::Pair;
 use shape_definitions::refusal;
-use shape_frames::changes;
 use shape_frames::kinds;
+use test_frames::test_frame;
 
 // By the count, of at most eight points; or 0.
 fn outline_length(count: u8) -> usize
@@ -45,29 +47,38 @@ pub fn frame_length(kind: u8, third: u8) -> usize
     }
 }
 
+// Its length, then its first id; or 0.
+fn frame_refusal(bytes: &[u8]) -> u8
+    ensures { λ r. ⌜ r ≡ frame-refusal (now (bytes .entry)) ⌝ }
+{
+    let size = frame_length(fields::byte(bytes, 0), fields::byte(bytes, 2));
+    if size == 0 {
+        return refusal::MALFORMED_FRAME;
+    }
+    if bytes.len() != size {
+        return refusal::MALFORMED_FRAME;
+    }
+    if fields::byte(bytes, 1) > LARGEST_ID {
+        return refusal::UNKNOWN_ID;
+    }
+    refusal::ACCEPTED
+}
+
 // What a frame makes of the body that its first id names and of the pair, and what is said of it. The second body is
 // the one that its third byte names.
 pub fn frame(a: Body, b: Body, pair: Pair, bytes: &[u8]) -> Change
     ensures { λ r. ⌜ r ≡ definitions.change a b pair (now (bytes .entry)) ⌝ }
 {
+    let number = frame_refusal(bytes);
+    if number != refusal::ACCEPTED {
+        return changes::refused(number, a, pair);
+    }
     let kind = fields::byte(bytes, 0);
-    let id = fields::byte(bytes, 1);
-    let third = fields::byte(bytes, 2);
-    let size = frame_length(kind, third);
-    if size == 0 {
-        return changes::refused(refusal::MALFORMED_FRAME, a, pair);
-    }
-    if bytes.len() != size {
-        return changes::refused(refusal::MALFORMED_FRAME, a, pair);
-    }
-    if id > test_frames::LARGEST_ID {
-        return changes::refused(refusal::UNKNOWN_ID, a, pair);
-    }
     match kind {
         1 => kinds::circle_frame(a, pair, bytes),
         2 => kinds::outline_frame(a, pair, bytes),
         3 => kinds::wall_frame(a, pair, bytes),
         4 => kinds::place_frame(a, pair, bytes),
-        _ => test_frames::test_frame(id, third, a, b, pair),
+        _ => { test_frame::test_frame(fields::byte(bytes, 1), fields::byte(bytes, 2), a, b, pair) }
     }
 }

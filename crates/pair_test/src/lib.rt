@@ -1,4 +1,2 @@
 // A test of two bodies: contact, world points, point states and touches.
-pub mod meeting;
 pub mod testing;
-pub mod touch;

@@ -4,15 +4,15 @@ ghost use mathlib.Core.Bool.{cond};
 ghost use lib.Dec.{eqb};
 ghost use Rattle.shape_definitions.specs.Refusal.{accepted};
 ghost use Rattle.record_definitions.specs.Touch as results;
-use crate::meeting;
-use crate::touch;
 use contact_definitions::b2_collision::B2manifold;
 use contact_definitions::b2_collision::WorldAnswer;
 use contacts::point_states;
+use meetings::meeting;
 use record_definitions::touch::TestAnswer;
 use record_definitions::world::Body;
 use record_definitions::world::Pair;
 use shape_definitions::refusal;
+use touch_results::touch;
 use world_manifold::b2_collision;
 
 // The world points of a contact, with the skins of both bodies.

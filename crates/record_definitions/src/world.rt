@@ -15,6 +15,9 @@ pub const OUTLINE: u8 = 2;
 
 pub const WALL: u8 = 3;
 
+// Ids are 0 to 7.
+pub const LARGEST_ID: u8 = 7;
+
 pub struct Body {
     pub kind: u8,
     pub xf: B2Transform,

@@ -4,7 +4,7 @@ ghost use Prim.Native.Nat.{_+_, _*_, _≤_};
 ghost use lib.ListN.{length};
 ghost use Rattle.lines.specs.Fields.{byte-at};
 ghost use Rattle.record_definitions.specs.Frame.{wall-at, circle-change, outline-change, wall-change, place-change};
-use crate::changes;
+use bodies::changes;
 use bodies::world;
 use floats::ranges;
 use lines::fields;

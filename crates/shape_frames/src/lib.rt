@@ -1,3 +1,2 @@
-// The frames that define and place shapes.
-pub mod changes;
+// Frames 01 to 04: they define and place shapes.
 pub mod kinds;

@@ -1,0 +1,2 @@
+// The contact of two bodies, by their kinds.
+pub mod meeting;

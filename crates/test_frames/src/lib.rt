@@ -1,0 +1,2 @@
+// Frame 05: a test of two bodies.
+pub mod test_frame;

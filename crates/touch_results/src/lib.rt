@@ -1,0 +1,2 @@
+// The parts of a test's result.
+pub mod touch;
