@@ -2,8 +2,8 @@
 use mathlib.Core.Path.{ap₂}
 use mathlib.Core.Bool.{_&&_}
 use borrow.Author.Needs.{needs}
-use Rattle.contacts.proofs.b2_collide_edge.edge_circle_in_range.Statement.{statement}
-use Rattle.contacts.proofs.b2_collide_edge.edge_circle_in_range.Tie as tie
+use Rattle.pair_ranges.proofs.edge_pair.edge_circle_in_range.Statement.{statement}
+use Rattle.pair_ranges.proofs.edge_pair.edge_circle_in_range.Tie as tie
 
 edge-in-range-requires : tie.Need-edge-in-range-requires
 edge-in-range-requires c κs = search needs

@@ -2,8 +2,8 @@
 use mathlib.Core.Path.{ap₂}
 use mathlib.Core.Bool.{_&&_}
 use borrow.Author.Needs.{needs}
-use Rattle.contacts.proofs.answers.placements_in_range.Statement.{statement}
-use Rattle.contacts.proofs.answers.placements_in_range.Tie as tie
+use Rattle.pair_ranges.proofs.placement_pair.placements_in_range.Statement.{statement}
+use Rattle.pair_ranges.proofs.placement_pair.placements_in_range.Tie as tie
 
 transform-in-range-requires : tie.Need-transform-in-range-requires
 transform-in-range-requires c κs = search needs
