@@ -1,5 +1,9 @@
-//! Nanoseconds per call of ours, the Rust's, Box2D's and the hardware's, measured side by side in one run. usage: bench [ROUNDS]
-//! Each figure is the best of ROUNDS passes over the same operands; the passes of the contestants alternate.
+//! Nanoseconds per call of ours, the Rust's, Box2D's and the hardware's, measured side by side in one run. usage: bench [ROUNDS [WORD]]
+//! Each figure is the best of ROUNDS passes over the same operands; the passes of the contestants alternate. WORD: only
+//! the rows whose name has it.
+mod cases;
+mod contacts;
+
 use box2d_rs::b2_math::{b2_sqrt, B2vec2};
 use box2d_rs::shapes::b2_polygon_shape::B2polygonShape;
 use std::hint::black_box;
@@ -127,6 +131,11 @@ fn validates(n: usize, rounds: usize) {
     ]);
 }
 
+/// Whether the row has the word that was asked for.
+fn wanted(name: &str) -> bool {
+    std::env::args().nth(2).is_none_or(|word| name.contains(&word))
+}
+
 /// ns per call of one pass
 fn pass(call: &dyn Fn(usize) -> f32, calls: usize) -> f64 {
     let start = Instant::now();
@@ -139,6 +148,9 @@ fn pass(call: &dyn Fn(usize) -> f32, calls: usize) -> f64 {
 }
 
 fn compare(name: &str, rounds: usize, before: &dyn Fn(), contestants: &[(&str, &dyn Fn(usize) -> f32)]) {
+    if !wanted(name) {
+        return;
+    }
     // every contestant gives the same bits, or the times could not be compared
     for i in 0..256 {
         let answers: Vec<u32> = contestants.iter().map(|(_, call)| { before(); call(i).to_bits() }).collect();
@@ -206,4 +218,5 @@ fn main() {
     boxes(rounds);
     validates(4, rounds);
     validates(8, rounds);
+    contacts::run(5 * rounds);
 }

@@ -7,6 +7,7 @@ cd "$(dirname "${BASH_SOURCE[0]}")/.." || exit 1
 calls_crate=test_calls
 bench_crate=bench_calls
 record_crate=record
+contacts_crate=bench_contacts
 header=netxurbil_test_calls.h
 
 build=target/tests

@@ -1,15 +1,12 @@
 // Answers of the contact calls: refused, with the manifold that was given, or accepted. A refused call says 2 where a
 // shape's numbers are out of range, and else 6.
 ghost use mathlib.Core.Path.{_≡_};
-ghost use mathlib.Core.Bool.{_&&_, cond, not};
-ghost use Rattle.floats.specs.Ranges.{transform-in-range};
+ghost use mathlib.Core.Bool.{cond};
 ghost use Rattle.contact_definitions.specs.Manifold.{manifold-refused, manifold-accepted, miscounted};
 ghost use Rattle.shape_definitions.specs.Refusal.{shape-out-of-range, placement-out-of-range};
 use contact_definitions::b2_collision::B2manifold;
 use contact_definitions::b2_collision::ManifoldAnswer;
-use floats::b2_math::B2Transform;
 use floats::b2_settings::B2_MAX_POLYGON_VERTICES;
-use floats::ranges;
 use shape_definitions::refusal;
 
 pub fn refused(m: B2manifold, number: u8) -> ManifoldAnswer
@@ -39,14 +36,6 @@ pub fn accepted(m: B2manifold) -> ManifoldAnswer
         manifold: m,
         refusal: refusal::ACCEPTED,
     }
-}
-
-pub fn placements_in_range(a: B2Transform, b: B2Transform) -> bool
-    ensures { λ r. ⌜ r ≡ (transform-in-range a && transform-in-range b) ⌝ }
-{
-    let a_in = ranges::transform_in_range(a);
-    let b_in = ranges::transform_in_range(b);
-    a_in & b_in
 }
 
 // Whether an outline has fewer than 3 or more than 8 corners.

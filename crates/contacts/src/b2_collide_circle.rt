@@ -1,9 +1,6 @@
 // Circle against circle, and outline against circle (Box2D's b2_collide_circle.cpp).
 ghost use mathlib.Core.Path.{_≡_};
-ghost use mathlib.Core.Bool.{_&&_};
 ghost use Prim.Native.Nat.{_<_, _≤_};
-ghost use Rattle.shape_definitions.specs.Circle.{circle-in-range};
-ghost use Rattle.shape_definitions.specs.Validate.{polygon-in-range};
 ghost use Rattle.contact_definitions.specs.B2CollideCircle.{circles-manifold, b2-collide-circles};
 ghost use Rattle.contact_definitions.specs.B2CollideCircle.{b2-collide-polygon-and-circle};
 ghost use Rattle.contacts.specs.Parts.{outline-circle};
@@ -18,19 +15,12 @@ use contact_definitions::b2_collision::ManifoldAnswer;
 use floats::b2_math;
 use floats::b2_math::B2Transform;
 use floats::b2_math::B2vec2;
+use pair_ranges::circle_pair;
+use pair_ranges::outline_pair;
+use pair_ranges::placement_pair;
 use shape_definitions::b2_circle_shape::B2circleShape;
 use shape_definitions::b2_polygon_shape::B2polygonShape;
 use shape_definitions::refusal;
-use shape_ranges::circle_range;
-use shape_ranges::polygon_range;
-
-fn circles_in_range(a: B2circleShape, b: B2circleShape) -> bool
-    ensures { λ r. ⌜ r ≡ (circle-in-range a && circle-in-range b) ⌝ }
-{
-    let a_in = circle_range::circle_in_range(a);
-    let b_in = circle_range::circle_in_range(b);
-    a_in & b_in
-}
 
 // The manifold of two circles, of the given one: at the centres, where they are not farther apart than both radii.
 fn circles_manifold(
@@ -63,20 +53,12 @@ pub fn b2_collide_circles(
 ) -> ManifoldAnswer
     ensures { λ r. ⌜ r ≡ b2-collide-circles m a xfa b xfb ⌝ }
 {
-    let shapes = circles_in_range(a, b);
-    let placed = answers::placements_in_range(xfa, xfb);
+    let shapes = circle_pair::circles_in_range(a, b);
+    let placed = placement_pair::placements_in_range(xfa, xfb);
     if shapes & placed {
         return answers::accepted(circles_manifold(m, a, xfa, b, xfb));
     }
     answers::out_of_range(m, shapes)
-}
-
-fn polygon_circle_in_range(a: B2polygonShape, b: B2circleShape) -> bool
-    ensures { λ r. ⌜ r ≡ (polygon-in-range a && circle-in-range b) ⌝ }
-{
-    let a_in = polygon_range::polygon_in_range(a);
-    let b_in = circle_range::circle_in_range(b);
-    a_in & b_in
 }
 
 // The manifold of an outline and a circle, of the given one: the circle's centre is taken to the outline's frame.
@@ -123,8 +105,8 @@ pub fn b2_collide_polygon_and_circle(
     if answers::miscounted(count) {
         return answers::refused(m, refusal::COUNT_OUT_OF_RANGE);
     }
-    let shapes = polygon_circle_in_range(a, b);
-    let placed = answers::placements_in_range(xfa, xfb);
+    let shapes = outline_pair::polygon_circle_in_range(a, b);
+    let placed = placement_pair::placements_in_range(xfa, xfb);
     if shapes & placed {
         return answers::accepted(polygon_circle_manifold(m, a, xfa, b, xfb));
     }

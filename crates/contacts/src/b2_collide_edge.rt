@@ -1,9 +1,5 @@
 // Wall against circle, and wall against outline (Box2D's b2_collide_edge.cpp).
 ghost use mathlib.Core.Path.{_≡_};
-ghost use mathlib.Core.Bool.{_&&_};
-ghost use Rattle.shape_definitions.specs.Circle.{circle-in-range};
-ghost use Rattle.shape_definitions.specs.Edge.{edge-in-range};
-ghost use Rattle.shape_definitions.specs.Validate.{polygon-in-range};
 ghost use Rattle.contact_definitions.specs.B2CollideEdge.{b2-collide-edge-and-circle, b2-collide-edge-and-polygon};
 ghost use Rattle.contacts.specs.Parts.{wall-circle};
 use crate::answers;
@@ -12,23 +8,14 @@ use contact_definitions::b2_collision::B2manifold;
 use contact_definitions::b2_collision::ManifoldAnswer;
 use floats::b2_math;
 use floats::b2_math::B2Transform;
+use pair_ranges::edge_pair;
+use pair_ranges::placement_pair;
 use shape_definitions::b2_circle_shape::B2circleShape;
 use shape_definitions::b2_edge_shape::B2edgeShape;
 use shape_definitions::b2_polygon_shape::B2polygonShape;
 use shape_definitions::refusal;
-use shape_ranges::circle_range;
-use shape_ranges::edge_range;
-use shape_ranges::polygon_range;
 use wall_circle::edge_circle;
 use walls::edge_polygon;
-
-fn edge_circle_in_range(a: B2edgeShape, b: B2circleShape) -> bool
-    ensures { λ r. ⌜ r ≡ (edge-in-range a && circle-in-range b) ⌝ }
-{
-    let a_in = edge_range::edge_in_range(a);
-    let b_in = circle_range::circle_in_range(b);
-    a_in & b_in
-}
 
 // The answer for a wall and a circle in range: the circle's centre is taken to the wall's frame.
 fn wall_circle_answer(
@@ -58,20 +45,12 @@ pub fn b2_collide_edge_and_circle(
 ) -> ManifoldAnswer
     ensures { λ r. ⌜ r ≡ b2-collide-edge-and-circle m a xfa b xfb ⌝ }
 {
-    let shapes = edge_circle_in_range(a, b);
-    let placed = answers::placements_in_range(xfa, xfb);
+    let shapes = edge_pair::edge_circle_in_range(a, b);
+    let placed = placement_pair::placements_in_range(xfa, xfb);
     if shapes & placed {
         return wall_circle_answer(m, a, xfa, b, xfb);
     }
     answers::out_of_range(m, shapes)
-}
-
-fn edge_polygon_in_range(a: B2edgeShape, b: B2polygonShape) -> bool
-    ensures { λ r. ⌜ r ≡ (edge-in-range a && polygon-in-range b) ⌝ }
-{
-    let a_in = edge_range::edge_in_range(a);
-    let b_in = polygon_range::polygon_in_range(b);
-    a_in & b_in
 }
 
 // The wall's root is taken first, since all that follows waits for it.
@@ -91,8 +70,8 @@ pub fn b2_collide_edge_and_polygon(
     if answers::miscounted(count) {
         return answers::refused(m, refusal::COUNT_OUT_OF_RANGE);
     }
-    let shapes = edge_polygon_in_range(a, b);
-    let placed = answers::placements_in_range(xfa, xfb);
+    let shapes = edge_pair::edge_polygon_in_range(a, b);
+    let placed = placement_pair::placements_in_range(xfa, xfb);
     if shapes & placed {
         let xf = b2_math::b2_mul_t_transform(xfa, xfb);
         return answers::accepted(edge_polygon::edge_polygon_manifold(m, a, k, xf, b));

@@ -1,24 +1,15 @@
 // Outline against outline (Box2D's b2_collide_polygon.cpp).
 ghost use mathlib.Core.Path.{_≡_};
-ghost use mathlib.Core.Bool.{_&&_};
-ghost use Rattle.shape_definitions.specs.Validate.{polygon-in-range};
 ghost use Rattle.contact_definitions.specs.B2CollidePolygon.{b2-collide-polygons};
 use crate::answers;
 use contact_definitions::b2_collision::B2manifold;
 use contact_definitions::b2_collision::ManifoldAnswer;
 use floats::b2_math::B2Transform;
 use outline_pairs::b2_collide_polygon;
+use pair_ranges::outline_pair;
+use pair_ranges::placement_pair;
 use shape_definitions::b2_polygon_shape::B2polygonShape;
 use shape_definitions::refusal;
-use shape_ranges::polygon_range;
-
-fn polygons_in_range(a: B2polygonShape, b: B2polygonShape) -> bool
-    ensures { λ r. ⌜ r ≡ (polygon-in-range a && polygon-in-range b) ⌝ }
-{
-    let a_in = polygon_range::polygon_in_range(a);
-    let b_in = polygon_range::polygon_in_range(b);
-    a_in & b_in
-}
 
 pub fn b2_collide_polygons(
     m: B2manifold,
@@ -36,8 +27,8 @@ pub fn b2_collide_polygons(
     if wrong_a | wrong_b {
         return answers::refused(m, refusal::COUNT_OUT_OF_RANGE);
     }
-    let shapes = polygons_in_range(a, b);
-    let placed = answers::placements_in_range(xfa, xfb);
+    let shapes = outline_pair::polygons_in_range(a, b);
+    let placed = placement_pair::placements_in_range(xfa, xfb);
     if shapes & placed {
         return answers::accepted(b2_collide_polygon::polygons_manifold(m, a, xfa, b, xfb));
     }

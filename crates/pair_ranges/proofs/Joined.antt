@@ -1,0 +1,18 @@
+-- Tests of two shapes, made kind by kind, answer as those made shape by shape. Assumes nothing.
+use mathlib.Core.Path.{_≡_, refl, sym, _∙_, ap₂}
+use mathlib.Core.Bool.{Bool, true, false, _&&_, and-false, and-assoc, and-comm}
+
+pub by-shape : (x y z w : Bool) → (x && y) && (z && w) ≡ (x && z) && (y && w)
+by-shape true true z w = refl
+by-shape true false z w = sym (and-false z)
+by-shape false y z w = refl
+
+-- the last of two is done before the points of the first
+pub last-before : (a b v n : Bool) → (a && b) && (v && n) ≡ a && v && n && b
+last-before true b v n = and-comm b (v && n)
+last-before false b v n = refl
+
+-- both are done before the points of both
+pub both-before : (a b v n w m : Bool) → (a && b) && ((v && n) && (w && m)) ≡ (a && v && n) && (b && w && m)
+both-before a b v n w m =
+    by-shape a b (v && n) (w && m) ∙ ap₂ _&&_ (sym (and-assoc a v n)) (sym (and-assoc b w m))

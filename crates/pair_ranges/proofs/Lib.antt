@@ -1,0 +1,3 @@
+pub mod Fours
+pub mod Joined
+pub mod Tested
