@@ -20,8 +20,7 @@ use Rattle.floats.specs.B2Math.{b2-sub, b2-dot, b2-cross, b2-length-squared, b2
 use Rattle.floats.specs.Ranges.{point-in-range}
 use Rattle.shape_definitions.specs.declared.b2_polygon_shape.B2polygonShape.{B2polygonShape}
 use Rattle.shape_definitions.specs.Outline.{too-near, welded, comes-before, start, closer, next, row, edges}
-use Rattle.shape_definitions.specs.Outline.{long-enough}
-use Rattle.shape_definitions.specs.Outline.{fan}
+use Rattle.shape_definitions.specs.Outline.{long-enough, fan}
 use Rattle.shape_definitions.specs.Polygon.{outline-of-corners, outline-of-welded, b2-polygon-shape-set}
 use Rattle.contact_definitions.specs.declared.b2_collision.B2manifold.{B2manifold}
 use Rattle.contact_definitions.specs.declared.b2_collision.B2worldManifold.{B2worldManifold}
@@ -33,9 +32,8 @@ use Rattle.grid_contacts.specs.Faces.{Face, corner-at, face-at, off-line
 use Rattle.grid_contacts.specs.Faces.{EveryFace, SeparationAtMost}
 use Rattle.grid_contacts.specs.SecondSentence.{reach, KeepsOff, Reported, by-face-a, by-face-b, SecondSentenceOf}
 use Rattle.grid_contacts.proofs.Witnesses.{triangle, square-outline, triangle-outline, here, off, answer}
-use Rattle.grid_contacts.proofs.Witnesses.{touches}
-use Rattle.grid_contacts.proofs.Witnesses.{here-placed, beside-placed, left-placed, about-placed, right-placed}
-use Rattle.grid_contacts.proofs.Witnesses.{off-placed, grid-placed}
+use Rattle.grid_contacts.proofs.Witnesses.{touches, here-placed, beside-placed, left-placed, about-placed}
+use Rattle.grid_contacts.proofs.Witnesses.{right-placed, off-placed, grid-placed}
 use Rattle.grid_contacts.proofs.Theorem.{second-sentence}
 
 -- ---- a report speaks of every face of both outlines: none is above one level and 1/1024 m
