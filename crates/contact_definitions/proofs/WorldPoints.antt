@@ -24,9 +24,8 @@ use Rattle.contact_definitions.specs.declared.b2_collision.B2manifoldPoi
 use Rattle.contact_definitions.specs.declared.b2_collision.B2worldManifold.{B2worldManifold}
 use Rattle.contact_definitions.specs.Manifold.{default-point, manifold-point, counted-points}
 use Rattle.contact_definitions.specs.WorldManifold.{plane-separation, carried-points, world-of-face}
-use Rattle.contact_definitions.specs.WorldManifold.{world-of-kind}
-use Rattle.contact_definitions.specs.WorldManifold.{points-in-range, manifold-in-range, world-accepted}
-use Rattle.contact_definitions.specs.WorldManifold.{b2-world-manifold-initialize}
+use Rattle.contact_definitions.specs.WorldManifold.{world-of-kind, points-in-range, manifold-in-range}
+use Rattle.contact_definitions.specs.WorldManifold.{world-accepted, b2-world-manifold-initialize}
 
 -- ---- the points that a manifold counts, where it has as many
 module _ (m : B2manifold) (full : m .«point_count» ≤ length (m .points)) where

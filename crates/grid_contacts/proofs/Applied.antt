@@ -1,41 +1,36 @@
 -- The second sentence on the witnesses, whatever the manifold and the world record held before: its hypotheses are met,
 -- points are reported over a face of A and over a face of B, one and two of them, with the other outline turned by each
 -- quarter; and one square keeps another off. Assumes nothing.
-use mathlib.Core.Path.{_≡_, refl, sym, subst}
-use mathlib.Core.Bool.{not}
-use mathlib.Core.List.{List}
+use mathlib.Core.Path.{_≡_, refl, sym, ap, subst}
+use mathlib.Core.Bool.{Bool, not}
+use mathlib.Core.List.{List, [], _∷_, map}
 use mathlib.Core.Logic.{inl}
 use Prim.Native.Nat.{ℕ, zero, suc, _+_, _*_, _<_}
 use native.Mathlib.Nat.{not-le-of-lt}
 use native.Mathlib.Omega.{arith}
 use lib.Dec.{T, leb, nleb→lt, lit<}
 use lib.ListN.{length}
-use lib.Ieee.{ofBits, neg, add, sub, mul, le, lt, eq}
+use lib.Ieee.{ofBits}
 use Rattle.algebra.specs.Integer.{Z, _⊛_}
 use Rattle.algebra.specs.Plane.{Point}
-use Rattle.algebra.specs.Squares.{signed-square, OverRootLe}
+use Rattle.algebra.specs.Squares.{signed-square}
 use Rattle.rounding.specs.Value.{metre, val}
+use Rattle.floats.specs.declared.b2_math.B2vec2.{B2vec2}
 use Rattle.floats.specs.declared.b2_math.B2Transform.{B2Transform}
-use Rattle.floats.specs.B2Math.{b2-sub, b2-dot, b2-cross, b2-length-squared, b2-distance-vec2-squared}
-use Rattle.floats.specs.Ranges.{point-in-range}
 use Rattle.shape_definitions.specs.declared.b2_polygon_shape.B2polygonShape.{B2polygonShape}
-use Rattle.shape_definitions.specs.Outline.{too-near, welded, comes-before, start, closer, next, row, edges}
-use Rattle.shape_definitions.specs.Outline.{long-enough}
-use Rattle.shape_definitions.specs.Outline.{fan}
-use Rattle.shape_definitions.specs.Polygon.{outline-of-corners, outline-of-welded, b2-polygon-shape-set}
 use Rattle.contact_definitions.specs.declared.b2_collision.B2manifold.{B2manifold}
 use Rattle.contact_definitions.specs.declared.b2_collision.B2worldManifold.{B2worldManifold}
 use Rattle.contact_definitions.specs.WorldManifold.{b2-world-manifold-initialize}
-use Rattle.grid.proofs.Controls.{points, square, grid-list, skinned, computed}
-use Rattle.grid_contacts.specs.Placement.{GridPlacement, placed-corners}
+use Rattle.grid.specs.Grid.{values}
+use Rattle.grid.proofs.Controls.{points, minus-zero, one, square, grid-list, skinned, computed}
+use Rattle.grid_contacts.specs.Placement.{GridPlacement, carried, placed-corners}
 use Rattle.grid_contacts.specs.Lengths.{exactly, _plus_, choice-tolerance}
 use Rattle.grid_contacts.specs.Faces.{Face, corner-at, face-at, off-line, squared-length, DistanceAbove}
 use Rattle.grid_contacts.specs.Faces.{EveryFace, SeparationAtMost}
 use Rattle.grid_contacts.specs.SecondSentence.{reach, KeepsOff, Reported, by-face-a, by-face-b, SecondSentenceOf}
 use Rattle.grid_contacts.proofs.Witnesses.{triangle, square-outline, triangle-outline, here, off, answer}
-use Rattle.grid_contacts.proofs.Witnesses.{touches}
-use Rattle.grid_contacts.proofs.Witnesses.{here-placed, beside-placed, left-placed, about-placed, right-placed}
-use Rattle.grid_contacts.proofs.Witnesses.{off-placed, grid-placed}
+use Rattle.grid_contacts.proofs.Witnesses.{touches, here-placed, beside-placed, left-placed, about-placed}
+use Rattle.grid_contacts.proofs.Witnesses.{right-placed, off-placed, grid-placed}
 use Rattle.grid_contacts.proofs.Theorem.{second-sentence}
 
 -- ---- a report speaks of every face of both outlines: none is above one level and 1/1024 m
@@ -94,45 +89,45 @@ module _ (old : B2manifold) (old-world : B2worldManifold) where
       square-and-triangle .where-reported (subst (λ (n : ℕ). 0 < n) (sym (touches old .one-point)) (lit< tt))
 
 -- ---- the face x = 1 of a square keeps a square at x = 2 off
-farther : (d : Z) (t : ℕ) (a : Z) (b : ℕ)
-    → T (not (leb (((b * b) ⊛ signed-square d) .0 + (t ⊛ signed-square a) .1)
-    ((t ⊛ signed-square a) .0 + ((b * b) ⊛ signed-square d) .1)))
-    → ¬ OverRootLe d t a b
-farther d t a b far h = not-le-of-lt (nleb→lt _ _ far) h
+-- the corners of the built square, by bits, and carried
+abbrev corners-of : {t : B2Transform} → GridPlacement t → List Point
+corners-of g = map (carried g) (values (points ((one, 0) ∷ (one, one) ∷ (minus-zero, one) ∷ (0, 0) ∷ [])))
 
-abbrev near-corners : List Point
-near-corners = placed-corners here-placed square-outline
-
-abbrev far-corners : List Point
-far-corners = placed-corners off-placed square-outline
+square-corners-are : {t : B2Transform} (g : GridPlacement t) → placed-corners g square-outline ≡ corners-of g
+square-corners-are g = ap (λ (l : List B2vec2). map (carried g) (values l)) (computed skinned .square-corners)
 
 abbrev right-face : Face
-right-face = face-at near-corners 0
+right-face = face-at (corners-of here-placed) 0
 
-far-corner : (j : ℕ)
-    → T (not (leb (((reach .under * reach .under) ⊛ signed-square (off-line right-face (corner-at far-corners j))) .0
-    + (squared-length right-face ⊛ signed-square (reach .over)) .1)
-    ((squared-length right-face ⊛ signed-square (reach .over)) .0
-    + ((reach .under * reach .under) ⊛ signed-square (off-line right-face (corner-at far-corners j))) .1)))
-    → DistanceAbove right-face (corner-at far-corners j) reach
-far-corner j far =
-    farther (off-line right-face (corner-at far-corners j)) (squared-length right-face) (reach .over) (reach .under) far
+abbrev far : ℕ → Point
+far j = corner-at (corners-of off-placed) j
 
-kept-off : KeepsOff near-corners far-corners
-unfolding b2-polygon-shape-set outline-of-welded outline-of-corners welded start next row edges long-enough fan
-    too-near comes-before closer point-in-range b2-sub b2-dot b2-cross b2-length-squared b2-distance-vec2-squared le
-    lt eq neg add sub mul ofBits metre val here-placed off-placed grid-placed
-kept-off = (0, lit< tt, each)
+-- corner j is farther off than 0.02 + 1/4096 m, by a computed test
+abbrev is-farther : ℕ → Bool
+is-farther j =
+    let distance = (reach .under * reach .under) ⊛ signed-square (off-line right-face (far j)) in
+    let limit = squared-length right-face ⊛ signed-square (reach .over) in
+    not (leb (distance .0 + limit .1) (limit .0 + distance .1))
+
+farther : (j : ℕ) → T (is-farther j) → DistanceAbove right-face (far j) reach
+farther j t h = not-le-of-lt (nleb→lt _ _ t) h
+
+corners-kept-off : KeepsOff (corners-of here-placed) (corners-of off-placed)
+unfolding ofBits metre val here-placed off-placed grid-placed
+corners-kept-off = (0, lit< tt, each)
   where
     four : (j : ℕ) → suc (suc (suc (suc j))) < 4 → ⊥
     four j h = omega arith
 
-    each : (j : ℕ) → j < length far-corners → DistanceAbove right-face (corner-at far-corners j) reach
-    each zero h = far-corner 0 tt
-    each (suc zero) h = far-corner 1 tt
-    each (suc (suc zero)) h = far-corner 2 tt
-    each (suc (suc (suc zero))) h = far-corner 3 tt
+    each : (j : ℕ) → j < length (corners-of off-placed) → DistanceAbove right-face (far j) reach
+    each zero h = farther 0 tt
+    each (suc zero) h = farther 1 tt
+    each (suc (suc zero)) h = farther 2 tt
+    each (suc (suc (suc zero))) h = farther 3 tt
     each (suc (suc (suc (suc j)))) h = absurd (four j h)
+
+kept-off : KeepsOff (placed-corners here-placed square-outline) (placed-corners off-placed square-outline)
+kept-off = rw (square-corners-are here-placed, square-corners-are off-placed) corners-kept-off
 
 no-point-off : (old : B2manifold) (old-world : B2worldManifold)
     → answer old square-outline here square-outline off .«point_count» ≡ 0

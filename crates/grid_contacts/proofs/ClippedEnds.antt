@@ -52,13 +52,13 @@ crossing-fraction {a} {b} a-cap b-cap t =
     go own (inl h) =
         let p = h .0 in
         let n = h .1 in
-        let l =
-        sub-above (a-cap .own) (b-cap .own) (a-cap .own) own (omega arith) in inl (omega arith, (l, omega arith))
+        let l = sub-above (a-cap .own) (b-cap .own) (a-cap .own) own (omega arith) in
+        inl (omega arith, (l, omega arith))
     go own (inr h) =
         let p = h .0 in
         let n = h .1 in
-        let l =
-        sub-below (a-cap .own) (b-cap .own) (a-cap .own) own (omega arith) in inr (omega arith, (l, omega arith))
+        let l = sub-below (a-cap .own) (b-cap .own) (a-cap .own) own (omega arith) in
+        inr (omega arith, (l, omega arith))
 
 -- ---- a line to clip to
 pub record ClipLine (normal : B2vec2) (offset : Float) : Type 0 where
@@ -78,8 +78,7 @@ abbrev pub EachNear : ℕ → ℕ → Face → List B2clipVertex → Type 0
 EachNear e k f ends = (end : B2clipVertex) → List·Memᴰ end ends → VecNear e k f (end .v)
 
 module _ {e k : ℕ} {f : Face} (f-most : FaceAbs f (corner-metres * metre)) (low : e ≤ metre) {normal : B2vec2}
-    {offset : Float}
-    (line : ClipLine normal offset) (index : ℕ) where
+    {offset : Float} (line : ClipLine normal offset) (index : ℕ) where
   -- an end of the segment, at the finer scale
   finer : (v : B2vec2) → VecNear e k f v → VecNear (e + blend-error) (metre * k) f v
   finer v h = record {

@@ -20,8 +20,7 @@ use Rattle.grid.specs.GridOutline.{GridOutline}
 use Rattle.grid_contacts.specs.Placement.{GridPlacement, turned, carried, placed-corners}
 use Rattle.grid_contacts.specs.Faces.{Face, corner-at, face-at}
 use Rattle.grid_contacts.proofs.Turns.{turned-same, turned-abs, turned-dot}
-use Rattle.grid_contacts.proofs.Placing.{point-capped, frame-turning, gap, gap-exact, gap-turned}
-use Rattle.grid_contacts.proofs.Placing.{frame-vector}
+use Rattle.grid_contacts.proofs.Placing.{point-capped, frame-turning, gap, gap-exact, gap-turned, frame-vector}
 use Rattle.grid_contacts.proofs.NormalVec.{turned-vec, normal-dot, dot-capped}
 use Rattle.grid_contacts.proofs.FaceNormal.{carried-face, placed-normal, stored-vec}
 use Rattle.grid_contacts.proofs.FaceDistance.{DistanceWithin, gap-metres, separation-metres, dot-ticks}

@@ -68,10 +68,8 @@ blend-near {i} {w0} {w1} a b sum i-cap i-is w0-cap w1-cap =
     let M = val (mul binary32 i (sub binary32 w1 w0)) in
     record {
       own = w .capped .own;
-      err =
-          three-roundings a b M D (val (blend i w0 w1)) (val w0) (val w1) sum (d .err)
-          (by-part M (val i) D i-is (m .err))
-          (w .err);
+      err = three-roundings a b M D (val (blend i w0 w1)) (val w0) (val w1) sum (d .err)
+          (by-part M (val i) D i-is (m .err)) (w .err);
     }
   where
     by-part : (m i d : Z) → i ≐ whole a → Abs (metre ⊛ m ⊟ i ⊠ d) (rounding-error * metre)
@@ -121,7 +119,6 @@ crossing-near {e} {k} {f} {i} {v0} {v1} unit f-most low near0 near1 =
     record {
       x-own = x .own;
       y-own = y .own;
-      near =
-          near-between (record { x = val (blend i (v0 .x) (v1 .x)); y = val (blend i (v0 .y) (v1 .y)) }) blend-error a
-          b sum (near0 .near) (near1 .near) (x .err) (y .err);
+      near = near-between (record { x = val (blend i (v0 .x) (v1 .x)); y = val (blend i (v0 .y) (v1 .y)) })
+          blend-error a b sum (near0 .near) (near1 .near) (x .err) (y .err);
     }

@@ -15,8 +15,7 @@ use Rattle.rounding.specs.Literals.{one32}
 use Rattle.rounding.proofs.Value.{metre-ticks}
 use Rattle.floats.specs.declared.b2_math.B2vec2.{B2vec2}
 use Rattle.floats.specs.declared.b2_math.B2Transform.{B2Transform}
-use Rattle.floats.specs.B2Math.{b2-cross-vec-by-scalar}
-use Rattle.floats.specs.B2Math.{b2-mul-transform-by-vec2, b2-mul-t-transform-by-vec2}
+use Rattle.floats.specs.B2Math.{b2-cross-vec-by-scalar, b2-mul-transform-by-vec2, b2-mul-t-transform-by-vec2}
 use Rattle.shape_definitions.specs.declared.b2_polygon_shape.B2polygonShape.{B2polygonShape}
 use Rattle.shape_definitions.specs.Outline.{point-at, place-after}
 use Rattle.shape_definitions.proofs.Edges.{after-in}
@@ -29,9 +28,8 @@ use Rattle.contact_definitions.specs.Manifold.{default-point, with-local-point}
 use Rattle.contact_definitions.specs.ReferenceFace.{clipped-to-sides, only, points-from, with-points, manifold-of-ends}
 use Rattle.contact_definitions.specs.Clip.{clipped}
 use Rattle.contact_definitions.specs.B2CollidePolygon.{incident-place, incident-end, b2-find-incident-edge}
-use Rattle.contact_definitions.specs.B2CollidePolygon.{local-tangent}
-use Rattle.contact_definitions.specs.B2CollidePolygon.{face-middle, outline-face, within-skins, outline-point}
-use Rattle.contact_definitions.specs.B2CollidePolygon.{outline-manifold}
+use Rattle.contact_definitions.specs.B2CollidePolygon.{local-tangent, face-middle, outline-face, within-skins}
+use Rattle.contact_definitions.specs.B2CollidePolygon.{outline-point, outline-manifold}
 use Rattle.contact_definitions.proofs.Extremes.{least-place-in}
 use Rattle.contact_definitions.proofs.Ends.{MadeOf, only-some, point-made}
 use Rattle.grid.specs.Grid.{GridPoint, value-point}

@@ -34,8 +34,7 @@ use Rattle.grid.specs.GridOutline.{normal-bound, GridOutline}
 use Rattle.grid_contacts.specs.Placement.{GridPlacement, carried, placed-corners}
 use Rattle.grid_contacts.specs.Lengths.{point-tolerance}
 use Rattle.grid_contacts.specs.Faces.{Face, face-at, NearFace, NearBoundary}
-use Rattle.grid_contacts.specs.SecondSentence.{NearLargest, local-at, contact-point, separation-at}
-use Rattle.grid_contacts.specs.SecondSentence.{Touching}
+use Rattle.grid_contacts.specs.SecondSentence.{NearLargest, local-at, contact-point, separation-at, Touching}
 use Rattle.grid_contacts.proofs.NormalVec.{Coordinate}
 use Rattle.grid_contacts.proofs.FaceNormal.{carried-face}
 use Rattle.grid_contacts.proofs.PlacedOutline.{outline-place, placed-face}
@@ -54,8 +53,7 @@ coordinate-capped {x} c = record { own = c .own; cap = two (val x) (c .most) }
     two : (v : Z) → Abs v normal-bound → Abs v (2 * metre)
     two v h = omega (arith, metre-ticks)
 
--- a separation as the definition has it, from the local normal n and point p of a manifold and the local point of an
--- end
+-- a separation as the definition has it, from the local normal n and point p of a manifold and an end's local point
 abbrev separation-over : B2Transform → Float → B2Transform → Float → B2vec2 → B2vec2 → B2vec2 → Float
 separation-over xf1 radius1 xf2 radius2 n p local =
     plane-separation (b2-mul-rot-by-vec2 (xf1 .q) n) (b2-mul-transform-by-vec2 xf1 p) radius1 radius2
@@ -64,8 +62,7 @@ separation-over xf1 radius1 xf2 radius2 n p local =
 -- ---- points made over face `edge` of outline 1
 module _ {xf1 xf2 : B2Transform} (g1 : GridPlacement xf1) (g2 : GridPlacement xf2) (poly1 poly2 : B2polygonShape)
     (o1 : GridOutline poly1) (o2 : GridOutline poly2) (edge : ℕ) (edge-in : edge < poly1 .«m_count»)
-    {old m : B2manifold}
-    (M : Made (incident-face g1 g2 poly1 poly2 o1 o2 edge edge-in) poly1 edge xf2 old m) where
+    {old m : B2manifold} (M : Made (incident-face g1 g2 poly1 poly2 o1 o2 edge edge-in) poly1 edge xf2 old m) where
   abbrev corners1 : List Point
   corners1 = placed-corners g1 poly1
 

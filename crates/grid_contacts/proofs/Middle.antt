@@ -27,8 +27,7 @@ use Rattle.contact_definitions.specs.WorldManifold.{middle}
 use Rattle.grid.specs.Grid.{grid-limit, GridNumber, GridPoint, value-point}
 use Rattle.grid.proofs.Exact.{steps-dyadic, counts}
 use Rattle.grid.proofs.Limits.{vector-limit}
-use Rattle.grid_contacts.specs.Placement.{QuarterTurn, unturned, to-left, about, to-right, turned}
-use Rattle.grid_contacts.specs.Placement.{GridPlacement}
+use Rattle.grid_contacts.specs.Placement.{QuarterTurn, unturned, to-left, about, to-right, turned, GridPlacement}
 use Rattle.grid_contacts.specs.Faces.{Face, off-line}
 use Rattle.grid_contacts.proofs.Turns.{turned-abs, turned-multiple}
 use Rattle.grid_contacts.proofs.ExactTurns.{turn-exact}

@@ -30,8 +30,7 @@ use Rattle.grid_contacts.proofs.ExactTurns.{turn-exact}
 use Rattle.grid_contacts.proofs.Placing.{point-capped, carry-exact}
 use Rattle.grid_contacts.proofs.NormalVec.{NormalVec, turned-vec}
 use Rattle.grid_contacts.proofs.FaceNormal.{unit-same, unit-turned, right-of, unit-right, carried-face}
-use Rattle.grid_contacts.proofs.FaceNormal.{FaceNormal}
-use Rattle.grid_contacts.proofs.FaceNormal.{face-normal, outward-turned}
+use Rattle.grid_contacts.proofs.FaceNormal.{FaceNormal, face-normal, outward-turned}
 use Rattle.grid_contacts.proofs.Skins.{two-skins, two-skins-capped}
 use Rattle.grid_contacts.proofs.Crossing.{corner-metres}
 use Rattle.grid_contacts.proofs.ClippedEnds.{ClipLine, begin-side, end-side}

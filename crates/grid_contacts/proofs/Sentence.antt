@@ -19,8 +19,7 @@ use Rattle.contact_definitions.specs.declared.b2_collision.B2worldManifold.{B2w
 use Rattle.contact_definitions.specs.declared.b2_collision.ManifoldAnswer.{ManifoldAnswer}
 use Rattle.contact_definitions.specs.declared.b2_collision.WorldAnswer.{WorldAnswer}
 use Rattle.contact_definitions.specs.Manifold.{with-count, manifold-accepted}
-use Rattle.contact_definitions.specs.B2CollidePolygon.{polygons-manifold}
-use Rattle.contact_definitions.specs.B2CollidePolygon.{b2-collide-polygons}
+use Rattle.contact_definitions.specs.B2CollidePolygon.{polygons-manifold, b2-collide-polygons}
 use Rattle.contact_definitions.specs.WorldManifold.{world-of-kind, manifold-in-range, world-accepted}
 use Rattle.contact_definitions.specs.WorldManifold.{b2-world-manifold-initialize}
 use Rattle.contact_definitions.proofs.WorldPoints.{no-points-answer, points-answer}
@@ -28,8 +27,7 @@ use Rattle.contact_definitions.proofs.Theorem.{polygons-count-and-kind}
 use Rattle.grid.specs.GridOutline.{GridOutline}
 use Rattle.grid.proofs.ContactRanges.{Taken, grid-taken, polygons-accepted}
 use Rattle.grid_contacts.specs.Placement.{GridPlacement, placed-corners}
-use Rattle.grid_contacts.specs.SecondSentence.{Reported, by-face-a, by-face-b}
-use Rattle.grid_contacts.specs.SecondSentence.{SecondSentence, SecondSentenceOf}
+use Rattle.grid_contacts.specs.SecondSentence.{Reported, by-face-a, by-face-b, SecondSentence, SecondSentenceOf}
 use Rattle.grid_contacts.proofs.Skins.{two-skins}
 use Rattle.grid_contacts.proofs.PlacementRange.{placement-in-range}
 use Rattle.grid_contacts.proofs.Ways.{InReach, never-off, Way, no-points, over-a, over-b, way-out}

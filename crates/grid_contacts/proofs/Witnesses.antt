@@ -23,8 +23,7 @@ use Rattle.floats.specs.B2Math.{b2-mul-t-transform-by-vec2, b2-mul-t-transform}
 use Rattle.floats.specs.Ranges.{point-in-range, radius-in-range, rotation-in-range, transform-in-range, normal-in-range}
 use Rattle.shape_definitions.specs.declared.b2_polygon_shape.B2polygonShape.{B2polygonShape}
 use Rattle.shape_definitions.specs.Outline.{too-near, welded, comes-before, start, closer, next, row, edges}
-use Rattle.shape_definitions.specs.Outline.{long-enough}
-use Rattle.shape_definitions.specs.Outline.{fan}
+use Rattle.shape_definitions.specs.Outline.{long-enough, fan}
 use Rattle.shape_definitions.specs.Polygon.{outline-of-corners, outline-of-welded, b2-polygon-shape-set}
 use Rattle.shape_definitions.specs.Validate.{polygon-in-range}
 use Rattle.contact_definitions.specs.declared.b2_collision.B2manifold.{B2manifold}
@@ -35,14 +34,13 @@ use Rattle.contact_definitions.specs.Manifold.{swapped-id, with-local-point, wi
 use Rattle.contact_definitions.specs.ReferenceFace.{clipped-to-sides, only, points-from, with-points, manifold-of-ends}
 use Rattle.contact_definitions.specs.B2CollidePolygon.{face-separation, b2-find-max-separation, axis-of, polygons-axis}
 use Rattle.contact_definitions.specs.B2CollidePolygon.{incident-place, incident-end, b2-find-incident-edge}
-use Rattle.contact_definitions.specs.B2CollidePolygon.{local-tangent}
-use Rattle.contact_definitions.specs.B2CollidePolygon.{face-middle, face-along, outline-face, within-skins}
-use Rattle.contact_definitions.specs.B2CollidePolygon.{outline-point}
-use Rattle.contact_definitions.specs.B2CollidePolygon.{outline-manifold, polygons-manifold, b2-collide-polygons}
+use Rattle.contact_definitions.specs.B2CollidePolygon.{local-tangent, face-middle, face-along, outline-face}
+use Rattle.contact_definitions.specs.B2CollidePolygon.{within-skins, outline-point, outline-manifold, polygons-manifold}
+use Rattle.contact_definitions.specs.B2CollidePolygon.{b2-collide-polygons}
 use Rattle.grid.specs.Demand3.{refusal-of, outline-from}
 use Rattle.grid.proofs.Controls.{at, points, minus-zero, half, one, two, square, on-grid, grid-number, skinned}
-use Rattle.grid_contacts.specs.Placement.{QuarterTurn, unturned, to-left, about, to-right, sine, cosine}
-use Rattle.grid_contacts.specs.Placement.{Turning, GridPlacement}
+use Rattle.grid_contacts.specs.Placement.{QuarterTurn, unturned, to-left, about, to-right, sine, cosine, Turning}
+use Rattle.grid_contacts.specs.Placement.{GridPlacement}
 
 -- ---- placements by the bit patterns of position, sine and cosine; they are on the grid by computed tests
 abbrev pub placed : ℕ → ℕ → ℕ → ℕ → B2Transform

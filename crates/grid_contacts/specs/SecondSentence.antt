@@ -67,15 +67,18 @@ contact-point placed m k = carried placed (value-point (local-at m k))
 abbrev pub separation-at : B2worldManifold → ℕ → Float
 separation-at world k = getD (world .separations) k zero32
 
--- ---- what holds of the points of m and their world points: one face of the reference outline serves all of them.
--- Each number is finite (a NaN would have the value 0)
+-- ---- what holds of the points of m and of their world points. Each number is finite: a NaN would have the value 0
 pub record Touching (reference other : List Point) {t : B2Transform} (placed : GridPlacement t) (m : B2manifold)
     (world : B2worldManifold) : Type 0 where
+  -- "one face of the reference outline has an exact separation within 1/1024 m of the largest over all faces of both,
   pub place : ℕ
   pub inside : place < length reference
   pub near-largest : NearLargest reference other (face-at reference place)
+  -- every manifold point lies within 1/4096 m of the other outline's boundary,
   pub point-finite : (k : ℕ) → k < m .«point_count» → F32 (local-at m k .x) × F32 (local-at m k .y)
   pub on-boundary : (k : ℕ) → k < m .«point_count» → NearBoundary point-tolerance other (contact-point placed m k)
+  -- and its world separation is within 1/4096 m of that point's exact signed distance from that same face's line, less
+  -- 0.02 m"
   pub separation-finite : (k : ℕ) → k < m .«point_count» → F32 (separation-at world k)
   pub near-distance : (k : ℕ) → k < m .«point_count»
       → NearDistance (face-at reference place) (contact-point placed m k) (val (separation-at world k))
@@ -86,7 +89,8 @@ pub data Reported (a b : List Point) {ta tb : B2Transform} (placedA : GridPlacem
   by-face-a : m .«manifold_type» ≡ EFaceA → Touching a b placedB m world → Reported a b placedA placedB m world
   by-face-b : m .«manifold_type» ≡ EFaceB → Touching b a placedA m world → Reported a b placedA placedB m world
 
--- ---- the sentence, a part for each clause, of what the two calls answer
+-- ---- the sentence, a part for each clause, of what the two calls answer: neither refuses; "no point is reported where
+-- some face keeps the other outline more than 0.02 + 1/4096 m off; where points are reported, .."
 pub record SecondSentence (a b : List Point) {ta tb : B2Transform} (placedA : GridPlacement ta)
     (placedB : GridPlacement tb) (contact : ManifoldAnswer) (world : WorldAnswer) : Type 0 where
   pub contact-accepted : contact .refusal ≡ accepted
