@@ -2,3 +2,5 @@ pub mod Caps
 pub mod Vectors
 pub mod Normalised
 pub mod Clipped
+pub mod Manifolds
+pub mod Shapes
