@@ -4,3 +4,4 @@ pub mod Normalised
 pub mod Clipped
 pub mod Manifolds
 pub mod Shapes
+pub mod CircleCalls
