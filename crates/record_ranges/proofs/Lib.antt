@@ -5,3 +5,4 @@ pub mod Clipped
 pub mod Manifolds
 pub mod Shapes
 pub mod CircleCalls
+pub mod FaceCalls
