@@ -6,3 +6,4 @@ pub mod Manifolds
 pub mod Shapes
 pub mod CircleCalls
 pub mod FaceCalls
+pub mod WallCalls
