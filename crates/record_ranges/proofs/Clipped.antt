@@ -90,7 +90,7 @@ module _ (end0 end1 : B2clipVertex) (d0 d1 : Float) (index : ℕ) (k : ℕ) (fin
       (caps-sub (end1 .v) (end0 .v) k next end1-caps end0-caps))
 
 -- ---- ends in a row
-pub EndsCap : List B2clipVertex → ℕ → Type 0
+unfoldable pub EndsCap : List B2clipVertex → ℕ → Type 0
 EndsCap [] k = Unit {0}
 EndsCap (end ∷ ends) k = Caps (end .v) k × EndsCap ends k
 

@@ -9,6 +9,7 @@ use Rattle.floats.specs.declared.b2_math.B2vec2.{B2vec2}
 use Rattle.floats.specs.B2Math.{b2-add, b2-sub, b2-neg, b2-scale, b2-dot, b2-cross-vec-by-scalar, b2-mul-t-rot}
 use Rattle.floats.specs.B2Math.{b2-mul-rot-by-vec2, b2-mul-t-rot-by-vec2, b2-mul-transform-by-vec2}
 use Rattle.floats.specs.B2Math.{b2-mul-t-transform-by-vec2, b2-mul-t-transform}
+use Rattle.contact_definitions.specs.EdgeAxis.{right-of}
 use Rattle.record_ranges.proofs.Caps.{Cap, cap-widen, cap-neg, cap-add, cap-sub, cap-mul}
 
 pub record Caps (v : B2vec2) (k : ℕ) : Type 0 where
@@ -94,3 +95,11 @@ pub caps-carried-back : (t : B2Transform) (v : B2vec2) (j k : ℕ) → T (leb (s
 unfolding b2-mul-t-transform-by-vec2
 caps-carried-back t v j k low more most g h =
     caps-turned-back (t .q) (b2-sub v (t .p)) j (suc k) more most (g .turn) (caps-sub v (t .p) k low h (g .position))
+
+pub placed-widen : (t : B2Transform) (j k l : ℕ) → T (leb k l) → Placed t j k → Placed t j l
+placed-widen t j k l wider h = record { turn = h .turn; position = caps-widen k l wider (h .position) }
+
+-- the vector on the right of another
+pub right-caps : (e : B2vec2) (k : ℕ) → Caps e k → Caps (right-of e) k
+unfolding right-of
+right-caps e k h = record { x-cap = h .y-cap; y-cap = cap-neg k (h .x-cap) }
