@@ -5,8 +5,33 @@ use std::os::fd::AsRawFd;
 use std::process::{Command, Stdio};
 
 const FIONREAD: u64 = 0x541b;
+const POLLERR: i16 = 8;
+
+#[repr(C)]
+struct Poll {
+    descriptor: i32,
+    asked: i16,
+    met: i16,
+}
+
 extern "C" {
     fn ioctl(descriptor: i32, request: u64, count: *mut i32) -> i32;
+    fn poll(list: *mut Poll, length: u64, milliseconds: i32) -> i32;
+}
+
+/// Waits until what was written to a pipe has been read; false where nobody will.
+fn read_by_now(descriptor: i32) -> bool {
+    loop {
+        let (mut unread, mut pipe) = (0, Poll { descriptor, asked: 0, met: 0 });
+        if unsafe { ioctl(descriptor, FIONREAD, &mut unread) } != 0 || unread == 0 {
+            return true;
+        }
+        unsafe { poll(&mut pipe, 1, 0) };
+        if pipe.met & POLLERR != 0 {
+            return false;
+        }
+        std::thread::yield_now();
+    }
 }
 
 /// The sizes of the pieces of an input: the whole, single characters, about a line, or any up to 64 KiB.
@@ -49,9 +74,8 @@ pub fn run(program: &str, input: &[u8], random: &mut Random) -> (Vec<u8>, bool) 
                     return false;
                 }
                 rest = after;
-                let mut unread = 1;
-                while unsafe { ioctl(pipe.as_raw_fd(), FIONREAD, &mut unread) } == 0 && unread > 0 && !rest.is_empty() {
-                    std::thread::yield_now();
+                if !rest.is_empty() && !read_by_now(pipe.as_raw_fd()) {
+                    return false;
                 }
             }
             true
