@@ -77,15 +77,17 @@ module _ (old : B2manifold) (old-world : B2worldManifold) where
   reported-right = two-squares right-placed (touches old .two-turned-right)
 
   -- a square and a triangle
-  square-and-triangle : SecondSentenceOf square-outline triangle-outline here-placed here-placed old old-world
+  abbrev Sentence : B2polygonShape → B2polygonShape → Type 0
+  Sentence A B = SecondSentenceOf A B here-placed here-placed old old-world
+
+  square-and-triangle : Sentence square-outline triangle-outline
   square-and-triangle =
-      subst (λ (B : B2polygonShape). SecondSentenceOf square-outline B here-placed here-placed old old-world)
-      (built .triangle-built)
-      (subst (λ (A : B2polygonShape). SecondSentenceOf A (outline-from skinned (points triangle)) here-placed here-placed
-      old old-world) (built .square-built)
-      (second-sentence skinned skinned refl refl (points square) (points triangle) (grid-list square tt)
+      let built-both = second-sentence skinned skinned refl refl (points square) (points triangle) (grid-list square tt)
       (grid-list triangle tt) (computed skinned .square-accepted) (built .triangle-accepted) here-placed here-placed old
-      old-world))
+      old-world in
+      subst (Sentence square-outline) (built .triangle-built)
+      (subst (λ (A : B2polygonShape). Sentence A (outline-from skinned (points triangle))) (built .square-built)
+      built-both)
 
   reported-triangle : ReportedOf square-outline triangle-outline here-placed here-placed
   reported-triangle =
