@@ -1,9 +1,9 @@
 -- The second sentence on the witnesses, whatever the manifold and the world record held before: its hypotheses are met,
 -- points are reported over a face of A and over a face of B, one and two of them, with the other outline turned by each
 -- quarter; and one square keeps another off. Assumes nothing.
-use mathlib.Core.Path.{_≡_, refl, sym, ap, subst}
+use mathlib.Core.Path.{_≡_, refl, sym, subst}
 use mathlib.Core.Bool.{Bool, not}
-use mathlib.Core.List.{List, [], _∷_, map}
+use mathlib.Core.List.{List}
 use mathlib.Core.Logic.{inl}
 use Prim.Native.Nat.{ℕ, zero, suc, _+_, _*_, _<_}
 use native.Mathlib.Nat.{not-le-of-lt}
@@ -15,20 +15,19 @@ use Rattle.algebra.specs.Integer.{Z, _⊛_}
 use Rattle.algebra.specs.Plane.{Point}
 use Rattle.algebra.specs.Squares.{signed-square}
 use Rattle.rounding.specs.Value.{metre, val}
-use Rattle.floats.specs.declared.b2_math.B2vec2.{B2vec2}
 use Rattle.floats.specs.declared.b2_math.B2Transform.{B2Transform}
 use Rattle.shape_definitions.specs.declared.b2_polygon_shape.B2polygonShape.{B2polygonShape}
 use Rattle.contact_definitions.specs.declared.b2_collision.B2manifold.{B2manifold}
 use Rattle.contact_definitions.specs.declared.b2_collision.B2worldManifold.{B2worldManifold}
 use Rattle.contact_definitions.specs.WorldManifold.{b2-world-manifold-initialize}
-use Rattle.grid.specs.Grid.{values}
-use Rattle.grid.proofs.Controls.{points, minus-zero, one, square, grid-list, skinned, computed}
-use Rattle.grid_contacts.specs.Placement.{GridPlacement, carried, placed-corners}
+use Rattle.grid.specs.Demand3.{outline-from}
+use Rattle.grid.proofs.Controls.{points, square, grid-list, skinned, computed}
+use Rattle.grid_contacts.specs.Placement.{GridPlacement, placed-corners}
 use Rattle.grid_contacts.specs.Lengths.{exactly, _plus_, choice-tolerance}
 use Rattle.grid_contacts.specs.Faces.{Face, corner-at, face-at, off-line, squared-length, DistanceAbove}
 use Rattle.grid_contacts.specs.Faces.{EveryFace, SeparationAtMost}
 use Rattle.grid_contacts.specs.SecondSentence.{reach, KeepsOff, Reported, by-face-a, by-face-b, SecondSentenceOf}
-use Rattle.grid_contacts.proofs.Witnesses.{triangle, square-outline, triangle-outline, here, off, answer}
+use Rattle.grid_contacts.proofs.Witnesses.{built, triangle, square-outline, triangle-outline, here, off, answer}
 use Rattle.grid_contacts.proofs.Witnesses.{touches, here-placed, beside-placed, left-placed, about-placed}
 use Rattle.grid_contacts.proofs.Witnesses.{right-placed, off-placed, grid-placed}
 use Rattle.grid_contacts.proofs.Theorem.{second-sentence}
@@ -55,9 +54,10 @@ module _ (old : B2manifold) (old-world : B2worldManifold) where
   squares : {xf : B2Transform} (placed : GridPlacement xf)
       → SecondSentenceOf square-outline square-outline here-placed placed old old-world
   squares placed =
-      second-sentence skinned skinned refl refl (points square) (points square) (grid-list square tt)
-      (grid-list square tt)
-      (computed skinned .square-accepted) (computed skinned .square-accepted) here-placed placed old old-world
+      subst (λ (A : B2polygonShape). SecondSentenceOf A A here-placed placed old old-world) (built .square-built)
+      (second-sentence skinned skinned refl refl (points square) (points square) (grid-list square tt)
+      (grid-list square tt) (computed skinned .square-accepted) (computed skinned .square-accepted) here-placed placed
+      old old-world)
 
   two-squares : {xf : B2Transform} (placed : GridPlacement xf)
       → answer old square-outline here square-outline xf .«point_count» ≡ 2
@@ -77,30 +77,28 @@ module _ (old : B2manifold) (old-world : B2worldManifold) where
   reported-right = two-squares right-placed (touches old .two-turned-right)
 
   -- a square and a triangle
-  square-and-triangle : SecondSentenceOf square-outline triangle-outline here-placed here-placed old old-world
+  abbrev Sentence : B2polygonShape → B2polygonShape → Type 0
+  Sentence A B = SecondSentenceOf A B here-placed here-placed old old-world
+
+  square-and-triangle : Sentence square-outline triangle-outline
   square-and-triangle =
-      second-sentence skinned skinned refl refl (points square) (points triangle) (grid-list square tt)
-      (grid-list triangle tt) (computed skinned .square-accepted) (touches old .triangle-accepted) here-placed
-      here-placed
-      old old-world
+      let built-both = second-sentence skinned skinned refl refl (points square) (points triangle) (grid-list square tt)
+      (grid-list triangle tt) (computed skinned .square-accepted) (built .triangle-accepted) here-placed here-placed old
+      old-world in
+      subst (Sentence square-outline) (built .triangle-built)
+      (subst (λ (A : B2polygonShape). Sentence A (outline-from skinned (points triangle))) (built .square-built)
+      built-both)
 
   reported-triangle : ReportedOf square-outline triangle-outline here-placed here-placed
   reported-triangle =
       square-and-triangle .where-reported (subst (λ (n : ℕ). 0 < n) (sym (touches old .one-point)) (lit< tt))
 
 -- ---- the face x = 1 of a square keeps a square at x = 2 off
--- the corners of the built square, by bits, and carried
-abbrev corners-of : {t : B2Transform} → GridPlacement t → List Point
-corners-of g = map (carried g) (values (points ((one, 0) ∷ (one, one) ∷ (minus-zero, one) ∷ (0, 0) ∷ [])))
-
-square-corners-are : {t : B2Transform} (g : GridPlacement t) → placed-corners g square-outline ≡ corners-of g
-square-corners-are g = ap (λ (l : List B2vec2). map (carried g) (values l)) (computed skinned .square-corners)
-
 abbrev right-face : Face
-right-face = face-at (corners-of here-placed) 0
+right-face = face-at (placed-corners here-placed square-outline) 0
 
 abbrev far : ℕ → Point
-far j = corner-at (corners-of off-placed) j
+far j = corner-at (placed-corners off-placed square-outline) j
 
 -- corner j is farther off than 0.02 + 1/4096 m, by a computed test
 abbrev is-farther : ℕ → Bool
@@ -112,22 +110,19 @@ is-farther j =
 farther : (j : ℕ) → T (is-farther j) → DistanceAbove right-face (far j) reach
 farther j t h = not-le-of-lt (nleb→lt _ _ t) h
 
-corners-kept-off : KeepsOff (corners-of here-placed) (corners-of off-placed)
+kept-off : KeepsOff (placed-corners here-placed square-outline) (placed-corners off-placed square-outline)
 unfolding ofBits metre val here-placed off-placed grid-placed
-corners-kept-off = (0, lit< tt, each)
+kept-off = (0, lit< tt, each)
   where
     four : (j : ℕ) → suc (suc (suc (suc j))) < 4 → ⊥
     four j h = omega arith
 
-    each : (j : ℕ) → j < length (corners-of off-placed) → DistanceAbove right-face (far j) reach
+    each : (j : ℕ) → j < length (placed-corners off-placed square-outline) → DistanceAbove right-face (far j) reach
     each zero h = farther 0 tt
     each (suc zero) h = farther 1 tt
     each (suc (suc zero)) h = farther 2 tt
     each (suc (suc (suc zero))) h = farther 3 tt
     each (suc (suc (suc (suc j)))) h = absurd (four j h)
-
-kept-off : KeepsOff (placed-corners here-placed square-outline) (placed-corners off-placed square-outline)
-kept-off = rw (square-corners-are here-placed, square-corners-are off-placed) corners-kept-off
 
 no-point-off : (old : B2manifold) (old-world : B2worldManifold)
     → answer old square-outline here square-outline off .«point_count» ≡ 0

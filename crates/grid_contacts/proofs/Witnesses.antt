@@ -1,28 +1,32 @@
--- Witnesses for the second sentence, computed by antt from the definitions, for every old manifold: two unit squares
--- that overlap, the second unturned and turned by each quarter (two points, face A), a square and a triangle (one
--- point, face B), and the placements of these and of two squares 1 m apart, on the grid with zeros of both signs.
--- Assumes nothing.
+-- Witnesses for the second sentence, computed by antt from the definitions: a square and a triangle that the builder
+-- makes of grid lists; for every old manifold, two squares that overlap, the second unturned and turned by each quarter
+-- (two points, face A), and a square and the triangle (one point, face B); and that the placements of these, and of a
+-- square 1 m off, are on the grid, with zeros of both signs. Assumes nothing.
 use mathlib.Core.Path.{_≡_, refl}
 use mathlib.Core.List.{List, [], _∷_}
 use mathlib.Core.Bool.{Bool, _&&_}
 use Prim.Native.Nat.{ℕ, _^_}
 use lib.Dec.{T, ltb}
+use lib.ListN.{length, replicate}
 use lib.Ieee.{binary32, ofBits, neg, add, sub, mul, div, le, lt, eq}
 use mir.Facts.{and-yes}
 use Rattle.algebra.specs.Integer.{Z, signed, _⊛_, _≐_, _≐?_}
+use Rattle.algebra.specs.Buffer.{over}
 use Rattle.algebra.proofs.Integer.{same-of-test}
 use Rattle.rounding.specs.Value.{metre, F32, val}
 use Rattle.rounding.proofs.Value.{metre-is}
 use Rattle.rounding.proofs.Literals.{bits-sign, bits-field, bits-units, bits-f32, bits-val}
 use Rattle.sqrt.specs.Sqrt.{root-digits, whole-root, rounded-root, sqrt}
+use Rattle.floats.specs.declared.b2_math.B2vec2.{B2vec2}
 use Rattle.floats.specs.declared.b2_math.B2Transform.{B2Transform}
+use Rattle.floats.specs.B2Common.{b2-polygon-radius}
 use Rattle.floats.specs.B2Math.{rot, b2-sqrt, b2-add, b2-sub, b2-neg, b2-scale, b2-dot, b2-cross, b2-length-squared}
 use Rattle.floats.specs.B2Math.{b2-cross-vec-by-scalar, b2-length, b2-distance-vec2-squared, b2-normalize, b2-mul-t-rot}
 use Rattle.floats.specs.B2Math.{b2-mul-rot-by-vec2, b2-mul-t-rot-by-vec2, b2-mul-transform-by-vec2}
 use Rattle.floats.specs.B2Math.{b2-mul-t-transform-by-vec2, b2-mul-t-transform}
 use Rattle.floats.specs.Ranges.{point-in-range, radius-in-range, rotation-in-range, transform-in-range, normal-in-range}
 use Rattle.shape_definitions.specs.declared.b2_polygon_shape.B2polygonShape.{B2polygonShape}
-use Rattle.shape_definitions.specs.Outline.{too-near, welded, comes-before, start, closer, next, row, edges}
+use Rattle.shape_definitions.specs.Outline.{origin, too-near, welded, comes-before, start, closer, next, row, edges}
 use Rattle.shape_definitions.specs.Outline.{long-enough, fan}
 use Rattle.shape_definitions.specs.Polygon.{outline-of-corners, outline-of-welded, b2-polygon-shape-set}
 use Rattle.shape_definitions.specs.Validate.{polygon-in-range}
@@ -82,21 +86,49 @@ grid-placed turn x y s c x-on y-on t = record {
   turning = turning-of-bits turn s c t;
 }
 
--- ---- the outlines: the unit square, and a triangle whose long face goes through its corner (1, 1)
-abbrev pub triangle : List (ℕ × ℕ)
-triangle = (two, 0) ∷ (two, two) ∷ (0, two) ∷ []
+-- ---- the outlines, by the bit patterns of corners, normals and centroid: the unit square, and a triangle whose long
+-- face goes through its corner (1, 1). The builder makes them
+abbrev filled : List (ℕ × ℕ) → List B2vec2
+filled l = over (points l) (replicate 8 origin)
 
-abbrev pub square-outline : B2polygonShape
-square-outline = outline-from skinned (points square)
-
-abbrev pub triangle-outline : B2polygonShape
-triangle-outline = outline-from skinned (points triangle)
-
-abbrev three-halves : ℕ
-three-halves = 0x3fc0_0000
+abbrev outline-by : List (ℕ × ℕ) → List (ℕ × ℕ) → B2vec2 → B2polygonShape
+outline-by corners normals centroid = record {
+  «m_radius» = b2-polygon-radius;
+  «m_centroid» = centroid;
+  «m_vertices» = filled corners;
+  «m_normals» = filled normals;
+  «m_count» = length corners;
+}
 
 abbrev minus-one : ℕ
 minus-one = 0xbf80_0000
+
+abbrev pub square-outline : B2polygonShape
+square-outline =
+    outline-by ((one, 0) ∷ (one, one) ∷ (minus-zero, one) ∷ (0, 0) ∷ [])
+    ((one, minus-zero) ∷ (0, one) ∷ (minus-one, minus-zero) ∷ (0, minus-one) ∷ []) (at half half)
+
+abbrev pub triangle : List (ℕ × ℕ)
+triangle = (two, 0) ∷ (two, two) ∷ (0, two) ∷ []
+
+abbrev pub triangle-outline : B2polygonShape
+triangle-outline =
+    outline-by triangle ((one, minus-zero) ∷ (0, one) ∷ (0xbf35_04f3, 0xbf35_04f3) ∷ []) (at 0x3faa_aaaa 0x3faa_aaab)
+
+pub record Built : Type 0 where
+  pub triangle-accepted : refusal-of skinned (points triangle) ≡ 0
+  pub square-built : outline-from skinned (points square) ≡ square-outline
+  pub triangle-built : outline-from skinned (points triangle) ≡ triangle-outline
+
+pub built : Built
+unfolding b2-polygon-shape-set outline-of-welded outline-of-corners welded start next row edges long-enough fan
+    too-near comes-before closer point-in-range b2-cross b2-distance-vec2-squared root-digits whole-root rounded-root
+    sqrt b2-sqrt b2-add b2-sub b2-scale b2-dot b2-cross-vec-by-scalar b2-length-squared b2-length b2-normalize neg add
+    sub mul div le lt eq ofBits
+built = record { triangle-accepted = refl; square-built = refl; triangle-built = refl }
+
+abbrev three-halves : ℕ
+three-halves = 0x3fc0_0000
 
 -- A stands at the origin; B beside it, by each turn, so that the two overlap by half; and B 1 m off. Zeros of both
 -- signs
@@ -123,7 +155,6 @@ abbrev pub answer : B2manifold → B2polygonShape → B2Transform → B2polygonS
 answer old A xfA B xfB = b2-collide-polygons old A xfA B xfB .manifold
 
 pub record Touches (old : B2manifold) : Type 0 where
-  pub triangle-accepted : refusal-of skinned (points triangle) ≡ 0
   pub two-points : answer old square-outline here square-outline beside .«point_count» ≡ 2
   pub on-face-a : answer old square-outline here square-outline beside .«manifold_type» ≡ EFaceA
   pub two-turned-left : answer old square-outline here square-outline beside-left .«point_count» ≡ 2
@@ -133,18 +164,16 @@ pub record Touches (old : B2manifold) : Type 0 where
   pub on-face-b : answer old square-outline here triangle-outline here .«manifold_type» ≡ EFaceB
 
 pub touches : (old : B2manifold) → Touches old
-unfolding b2-polygon-shape-set outline-of-welded outline-of-corners welded start next row edges long-enough fan
-    too-near comes-before closer b2-cross b2-distance-vec2-squared root-digits whole-root rounded-root sqrt b2-sqrt
-    b2-add b2-sub b2-neg b2-scale b2-dot b2-cross-vec-by-scalar b2-length-squared b2-length b2-normalize b2-mul-t-rot
-    b2-mul-rot-by-vec2 b2-mul-t-rot-by-vec2 b2-mul-transform-by-vec2 b2-mul-t-transform-by-vec2 b2-mul-t-transform
-    point-in-range radius-in-range rotation-in-range transform-in-range normal-in-range polygon-in-range least
-    first-greatest first-least swapped-id with-local-point with-count with-kind clip-distance crossing clipped-by
-    clipped clipped-to-sides only points-from with-points manifold-of-ends face-separation b2-find-max-separation
-    axis-of polygons-axis incident-place incident-end b2-find-incident-edge local-tangent face-middle face-along
-    outline-face within-skins outline-point outline-manifold polygons-manifold b2-collide-polygons neg add sub mul div
-    le lt eq ofBits
+unfolding root-digits whole-root rounded-root sqrt b2-sqrt b2-add b2-sub b2-neg b2-scale b2-dot
+    b2-cross-vec-by-scalar b2-length-squared b2-length b2-normalize b2-mul-t-rot b2-mul-rot-by-vec2
+    b2-mul-t-rot-by-vec2 b2-mul-transform-by-vec2 b2-mul-t-transform-by-vec2 b2-mul-t-transform point-in-range
+    radius-in-range rotation-in-range transform-in-range normal-in-range polygon-in-range least first-greatest
+    first-least swapped-id with-local-point with-count with-kind clip-distance crossing clipped-by clipped
+    clipped-to-sides only points-from with-points manifold-of-ends face-separation b2-find-max-separation axis-of
+    polygons-axis incident-place incident-end b2-find-incident-edge local-tangent face-middle face-along outline-face
+    within-skins outline-point outline-manifold polygons-manifold b2-collide-polygons neg add sub mul div le lt eq
+    ofBits
 touches old = record {
-  triangle-accepted = refl;
   two-points = refl;
   on-face-a = refl;
   two-turned-left = refl;
