@@ -39,7 +39,9 @@ use Rattle.record_definitions.proofs.Changes.{by-choice}
 use Rattle.record_ranges.proofs.Caps.{Cap}
 use Rattle.record_ranges.proofs.Vectors.{Caps, Turns, Placed}
 use Rattle.record_ranges.proofs.Shapes.{zero-cap, one-cap, origin-caps, CircleCaps, WallCaps, OutlineCaps, AtPlace}
-use Rattle.record_ranges.proofs.Outlines.{Each, built-caps, blank-outline-caps}
+use Rattle.record_ranges.proofs.Outlines.{Each, built-caps, blank-outline-caps, skin-taken, built-radius}
+use Rattle.floats.specs.B2Common.{b2-polygon-radius}
+use native.Mathlib.Omega.{arith}
 
 pub record CappedBody (body : Body) : Type 0 where
   pub place : AtPlace (body .xf)
@@ -93,3 +95,108 @@ unfolding placement-at transform-in-range
 placement-caps bytes taken =
     let each = both (point-in-range (vector-at bytes 2)) (rotation-in-range (rotation-at bytes 10)) taken in
     record { turn = turn-caps bytes 10 (each .1); position = point-caps bytes 2 (each .0) }
+
+-- ---- bodies that frames make
+unplaced-caps : AtPlace unplaced
+unplaced-caps =
+    record { turn = record { sine = zero-cap 0; cosine = one-cap }; position = origin-caps 20 }
+
+blank-wall-caps : WallCaps blank-wall
+blank-wall-caps = record { from = origin-caps 20; to = origin-caps 20 }
+
+holds : (t : Bool) → T t → t ≡ true
+holds true h = refl
+holds false h = absurd h
+
+skin-is-taken : radius-in-range b2-polygon-radius ≡ true
+skin-is-taken = holds (radius-in-range b2-polygon-radius) skin-taken
+
+pub blank-capped : CappedBody blank-body
+unfolding blank-body skin
+blank-capped = record {
+  place = unplaced-caps;
+  circle = record { centre = origin-caps 20 };
+  outline = blank-outline-caps;
+  wall = blank-wall-caps;
+  skin-taken = skin-is-taken;
+}
+
+circle-capped : (bytes : List ℕ) → circle-in-range (circle-at bytes) ≡ true → CappedBody (circle-body (circle-at bytes))
+unfolding circle-body circle-in-range skin
+circle-capped bytes taken =
+    let each = both (radius-in-range (float-at bytes 10)) (point-in-range (vector-at bytes 2)) taken in
+    record {
+      place = unplaced-caps;
+      circle = record { centre = point-caps bytes 2 (each .1) };
+      outline = blank-outline-caps;
+      wall = blank-wall-caps;
+      skin-taken = each .0;
+    }
+
+outline-capped : (bytes : List ℕ) (n : ℕ)
+    → b2-polygon-shape-set blank-outline (points-at bytes 3 n) .refusal ≡ accepted
+    → b2-polygon-shape-set blank-outline (points-at bytes 3 n) .shape .«m_radius» ≡ b2-polygon-radius
+    → CappedBody (outline-body (b2-polygon-shape-set blank-outline (points-at bytes 3 n) .shape))
+unfolding outline-body skin
+outline-capped bytes n taken radius-is = record {
+  place = unplaced-caps;
+  circle = record { centre = origin-caps 20 };
+  outline = built-caps (points-at bytes 3 n) (points-caps bytes 3 n) taken;
+  wall = blank-wall-caps;
+  skin-taken = rw radius-is skin-is-taken;
+}
+
+-- the walls of a frame
+WallIf : EdgeAnswer → Type 0
+WallIf answer = answer .refusal ≡ accepted → WallCaps (answer .shape) × (radius-in-range (answer .shape .«m_radius») ≡ true)
+
+two-sided-caps : (v1 v2 : B2vec2) → (point-in-range v1 ≡ true → Caps v1 20) → (point-in-range v2 ≡ true → Caps v2 20)
+    → WallIf (b2-set-two-sided blank-wall v1 v2)
+unfolding b2-set-two-sided WallIf
+two-sided-caps v1 v2 h g =
+    by-choice WallIf (point-in-range v1 && point-in-range v2) _ _
+    (λ inside taken. let each = both (point-in-range v1) (point-in-range v2) inside in
+    (record { from = h (each .0); to = g (each .1) }, skin-is-taken))
+    (λ out taken. let never : _≡_ {A = ℕ} 2 0 = taken in absurd (omega arith))
+
+one-sided-caps : (v0 v1 v2 v3 : B2vec2) → (point-in-range v1 ≡ true → Caps v1 20) → (point-in-range v2 ≡ true → Caps v2 20)
+    → WallIf (b2-set-one-sided blank-wall v0 v1 v2 v3)
+unfolding b2-set-one-sided WallIf
+one-sided-caps v0 v1 v2 v3 h g =
+    by-choice WallIf (point-in-range v0 && point-in-range v1 && point-in-range v2 && point-in-range v3) _ _
+    (λ inside taken.
+    let last = both (point-in-range v0 && point-in-range v1 && point-in-range v2) (point-in-range v3) inside in
+    let third = both (point-in-range v0 && point-in-range v1) (point-in-range v2) (last .0) in
+    (record { from = h (both (point-in-range v0) (point-in-range v1) (third .0) .1); to = g (third .1) }, skin-is-taken))
+    (λ out taken. let never : _≡_ {A = ℕ} 2 0 = taken in absurd (omega arith))
+
+wall-at-caps : (bytes : List ℕ) → WallIf (wall-at bytes)
+unfolding wall-at
+wall-at-caps bytes =
+    either WallIf (eqb (byte-at bytes 2) 0) _ _
+    (two-sided-caps (vector-at bytes 3) (vector-at bytes 11) (point-caps bytes 3) (point-caps bytes 11))
+    (one-sided-caps (vector-at bytes 3) (vector-at bytes 11) (vector-at bytes 19) (vector-at bytes 27)
+    (point-caps bytes 11) (point-caps bytes 19))
+
+wall-capped : (bytes : List ℕ) → wall-at bytes .refusal ≡ accepted → CappedBody (wall-body (wall-at bytes .shape))
+unfolding wall-body skin WallIf
+wall-capped bytes taken =
+    let caps = wall-at-caps bytes taken in
+    record {
+      place = unplaced-caps;
+      circle = record { centre = origin-caps 20 };
+      outline = blank-outline-caps;
+      wall = caps .0;
+      skin-taken = caps .1;
+    }
+
+placed-capped : (body : Body) (bytes : List ℕ) → CappedBody body → transform-in-range (placement-at bytes 2) ≡ true
+    → CappedBody (placed body (placement-at bytes 2))
+unfolding placed skin
+placed-capped body bytes h taken = record {
+  place = placement-caps bytes taken;
+  circle = h .circle;
+  outline = h .outline;
+  wall = h .wall;
+  skin-taken = h .skin-taken;
+}

@@ -166,3 +166,23 @@ blank-outline-caps = record {
   corner = each-at (replicate 8 origin) 20 (origins 8 20);
   normal = each-at (replicate 8 origin) 2 (origins 8 2);
 }
+
+-- the builder keeps the radius, refused or not
+Skinned : PolygonAnswer → Type 0
+Skinned answer = answer .shape .«m_radius» ≡ b2-polygon-radius
+
+row-radius : (ps : List B2vec2) (walked : Option (List ℕ)) → Skinned (outline-of-row blank-outline ps walked)
+unfolding outline-of-corners Skinned
+row-radius ps none = refl
+row-radius ps (some places) =
+    let corners = map (point-at ps) places in
+    either Skinned (ltb (length places) 3) _ _ refl
+    (either Skinned (long-enough (edges corners) && lt b2-epsilon (fan corners .area)) _ _ refl refl)
+
+pub built-radius : (points : List B2vec2)
+    → b2-polygon-shape-set blank-outline points .shape .«m_radius» ≡ b2-polygon-radius
+unfolding b2-polygon-shape-set outline-of-welded Skinned
+built-radius points =
+    either Skinned (ltb (length points) 3 || ltb 8 (length points)) _ _ refl
+    (either Skinned (not (all-points point-in-range points)) _ _ refl
+    (either Skinned (ltb (length (welded points)) 3) _ _ refl (row-radius (welded points) (row (welded points)))))
