@@ -7,3 +7,5 @@ pub mod Shapes
 pub mod CircleCalls
 pub mod FaceCalls
 pub mod WallCalls
+pub mod Outlines
+pub mod Bodies

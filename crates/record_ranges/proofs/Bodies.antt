@@ -1,0 +1,202 @@
+-- Bodies as frames make them have shapes and placements of at most 2^20 m, and skins within the range. Assumes nothing.
+use Prim.Native.Nat.{ℕ, zero, suc, _+_, _*_, _^_, _≤_}
+use mathlib.Core.Path.{_≡_, refl, sym, subst}
+use mathlib.Core.Bool.{Bool, true, false, not, cond, _&&_, false≢true}
+use native.Mathlib.Nat.{le-trans, le-of-eq}
+use mathlib.Core.List.{List, [], _∷_}
+use lib.Dec.{T, eqb, ltb}
+use lib.Ieee.{Float, binary32, neg, le, ofBits}
+use lib.Ieee.Bits.{ofBits-fits}
+use lib.Ieee.Fits.{and-l, and-r}
+use lib.ListN.{getD, replicate}
+use borrow.Author.Tests.{eqb-true, not-false}
+use Rattle.rounding.specs.Literals.{one32}
+use Rattle.rounding.specs.Value.{metre, mag, val}
+use Rattle.rounding.proofs.Value.{mag-abs}
+use Rattle.floats.specs.declared.b2_math.B2Transform.{B2Transform}
+use Rattle.floats.specs.declared.b2_math.B2vec2.{B2vec2}
+use Rattle.floats.specs.Ranges.{within, point-in-range, radius-in-range, rotation-in-range, transform-in-range}
+use Rattle.floats.specs.Ranges.{shape-limit}
+use Rattle.floats.proofs.RangeValue.{Bounded, Limit, limit-value, limit-vec2, one-limit-is, shape-limit-is}
+use Rattle.lines.specs.Fields.{byte-at, number-at, float-at, vector-at, points-at, rotation-at, placement-at}
+use Rattle.shape_definitions.specs.Circle.{circle-in-range}
+use Rattle.shape_definitions.specs.Edge.{b2-set-one-sided, b2-set-two-sided, edge-in-range}
+use Rattle.shape_definitions.specs.declared.b2_edge_shape.EdgeAnswer.{EdgeAnswer}
+use Rattle.shape_definitions.specs.Polygon.{all-points, b2-polygon-shape-set}
+use Rattle.shape_definitions.specs.Refusal.{accepted}
+use Rattle.contact_definitions.proofs.Counts.{either}
+use Rattle.record_definitions.specs.declared.world.Body.{Body}
+use Rattle.record_definitions.specs.declared.world.Pair.{Pair}
+use Rattle.record_definitions.specs.declared.world.World.{World}
+use Rattle.record_definitions.specs.declared.frame.Change.{Change}
+use Rattle.record_definitions.specs.World.{no-body, unplaced, blank-outline, blank-wall, blank-body, circle-body}
+use Rattle.record_definitions.specs.World.{outline-body, wall-body, placed, fresh-world, body-at, pair-at}
+use Rattle.record_definitions.specs.Touch.{skin, tested}
+use Rattle.record_definitions.specs.Frame.{well-formed, largest-id, circle-at, circle-change, outline-change, wall-at}
+use Rattle.record_definitions.specs.Frame.{wall-change, place-change, test-refusal, test-change, change-of-kind, change}
+use Rattle.record_definitions.specs.Step.{first-place, second-place, changed, change-in, after-frame}
+use Rattle.record_definitions.proofs.Changes.{by-choice}
+use Rattle.record_ranges.proofs.Caps.{Cap}
+use Rattle.record_ranges.proofs.Vectors.{Caps, Turns, Placed}
+use Rattle.record_ranges.proofs.Shapes.{zero-cap, one-cap, origin-caps, CircleCaps, WallCaps, OutlineCaps, AtPlace}
+use Rattle.record_ranges.proofs.Outlines.{Each, built-caps, blank-outline-caps, skin-taken, built-radius}
+use Rattle.floats.specs.B2Common.{b2-polygon-radius}
+use native.Mathlib.Omega.{arith}
+
+pub record CappedBody (body : Body) : Type 0 where
+  pub place : AtPlace (body .xf)
+  pub circle : CircleCaps (body .circle)
+  pub outline : OutlineCaps (body .outline)
+  pub wall : WallCaps (body .wall)
+  pub skin-taken : radius-in-range (skin body) ≡ true
+
+-- ---- numbers read from frames
+bounded-cap : (x : Float) (k h : ℕ) → h * metre ≤ 2 ^ k * metre → Bounded x (h * metre) → Cap x k
+bounded-cap x k h fits b = record { own = b .own; size = le-trans (mag-abs x (h * metre) (b .abs)) fits }
+
+point-caps : (bytes : List ℕ) (at : ℕ) → point-in-range (vector-at bytes at) ≡ true → Caps (vector-at bytes at) 20
+unfolding vector-at point-in-range
+point-caps bytes at taken =
+    let both = limit-vec2 {v = vector-at bytes at} shape-limit-is (ofBits-fits binary32 (number-at bytes at))
+    (ofBits-fits binary32 (number-at bytes (at + 4))) (subst T (sym taken) tt) in
+    record {
+      x-cap = bounded-cap (float-at bytes at) 20 (2 ^ 20) (le-of-eq refl) (both .0);
+      y-cap = bounded-cap (float-at bytes (at + 4)) 20 (2 ^ 20) (le-of-eq refl) (both .1);
+    }
+
+both : (s t : Bool) → s && t ≡ true → (s ≡ true) × (t ≡ true)
+both true true e = (refl, refl)
+both true false e = absurd (false≢true e)
+both false t e = absurd (false≢true e)
+
+points-caps : (bytes : List ℕ) (at n : ℕ) → all-points point-in-range (points-at bytes at n) ≡ true
+    → Each (points-at bytes at n) 20
+unfolding points-at Each
+points-caps bytes at zero taken = tt
+points-caps bytes at (suc n) taken =
+    let first = both (point-in-range (vector-at bytes at)) (all-points point-in-range (points-at bytes (at + 8) n)) taken in
+    (point-caps bytes at (first .0), points-caps bytes (at + 8) n (first .1))
+
+turn-caps : (bytes : List ℕ) (at : ℕ) → rotation-in-range (rotation-at bytes at) ≡ true → Turns (rotation-at bytes at) 0
+unfolding rotation-at rotation-in-range
+turn-caps bytes at taken =
+    let s = float-at bytes at in
+    let c = float-at bytes (at + 4) in
+    let each = both (within one32 s) (within one32 c) taken in
+    record {
+      sine = bounded-cap s 0 1 (le-of-eq refl)
+          (limit-value one-limit-is (ofBits-fits binary32 (number-at bytes at)) (subst T (sym (each .0)) tt));
+      cosine = bounded-cap c 0 1 (le-of-eq refl)
+          (limit-value one-limit-is (ofBits-fits binary32 (number-at bytes (at + 4))) (subst T (sym (each .1)) tt));
+    }
+
+placement-caps : (bytes : List ℕ) → transform-in-range (placement-at bytes 2) ≡ true → AtPlace (placement-at bytes 2)
+unfolding placement-at transform-in-range
+placement-caps bytes taken =
+    let each = both (point-in-range (vector-at bytes 2)) (rotation-in-range (rotation-at bytes 10)) taken in
+    record { turn = turn-caps bytes 10 (each .1); position = point-caps bytes 2 (each .0) }
+
+-- ---- bodies that frames make
+unplaced-caps : AtPlace unplaced
+unplaced-caps =
+    record { turn = record { sine = zero-cap 0; cosine = one-cap }; position = origin-caps 20 }
+
+blank-wall-caps : WallCaps blank-wall
+blank-wall-caps = record { from = origin-caps 20; to = origin-caps 20 }
+
+holds : (t : Bool) → T t → t ≡ true
+holds true h = refl
+holds false h = absurd h
+
+skin-is-taken : radius-in-range b2-polygon-radius ≡ true
+skin-is-taken = holds (radius-in-range b2-polygon-radius) skin-taken
+
+pub blank-capped : CappedBody blank-body
+unfolding blank-body skin
+blank-capped = record {
+  place = unplaced-caps;
+  circle = record { centre = origin-caps 20 };
+  outline = blank-outline-caps;
+  wall = blank-wall-caps;
+  skin-taken = skin-is-taken;
+}
+
+circle-capped : (bytes : List ℕ) → circle-in-range (circle-at bytes) ≡ true → CappedBody (circle-body (circle-at bytes))
+unfolding circle-body circle-in-range skin
+circle-capped bytes taken =
+    let each = both (radius-in-range (float-at bytes 10)) (point-in-range (vector-at bytes 2)) taken in
+    record {
+      place = unplaced-caps;
+      circle = record { centre = point-caps bytes 2 (each .1) };
+      outline = blank-outline-caps;
+      wall = blank-wall-caps;
+      skin-taken = each .0;
+    }
+
+outline-capped : (bytes : List ℕ) (n : ℕ)
+    → b2-polygon-shape-set blank-outline (points-at bytes 3 n) .refusal ≡ accepted
+    → b2-polygon-shape-set blank-outline (points-at bytes 3 n) .shape .«m_radius» ≡ b2-polygon-radius
+    → CappedBody (outline-body (b2-polygon-shape-set blank-outline (points-at bytes 3 n) .shape))
+unfolding outline-body skin
+outline-capped bytes n taken radius-is = record {
+  place = unplaced-caps;
+  circle = record { centre = origin-caps 20 };
+  outline = built-caps (points-at bytes 3 n) (points-caps bytes 3 n) taken;
+  wall = blank-wall-caps;
+  skin-taken = rw radius-is skin-is-taken;
+}
+
+-- the walls of a frame
+WallIf : EdgeAnswer → Type 0
+WallIf answer = answer .refusal ≡ accepted → WallCaps (answer .shape) × (radius-in-range (answer .shape .«m_radius») ≡ true)
+
+two-sided-caps : (v1 v2 : B2vec2) → (point-in-range v1 ≡ true → Caps v1 20) → (point-in-range v2 ≡ true → Caps v2 20)
+    → WallIf (b2-set-two-sided blank-wall v1 v2)
+unfolding b2-set-two-sided WallIf
+two-sided-caps v1 v2 h g =
+    by-choice WallIf (point-in-range v1 && point-in-range v2) _ _
+    (λ inside taken. let each = both (point-in-range v1) (point-in-range v2) inside in
+    (record { from = h (each .0); to = g (each .1) }, skin-is-taken))
+    (λ out taken. let never : _≡_ {A = ℕ} 2 0 = taken in absurd (omega arith))
+
+one-sided-caps : (v0 v1 v2 v3 : B2vec2) → (point-in-range v1 ≡ true → Caps v1 20) → (point-in-range v2 ≡ true → Caps v2 20)
+    → WallIf (b2-set-one-sided blank-wall v0 v1 v2 v3)
+unfolding b2-set-one-sided WallIf
+one-sided-caps v0 v1 v2 v3 h g =
+    by-choice WallIf (point-in-range v0 && point-in-range v1 && point-in-range v2 && point-in-range v3) _ _
+    (λ inside taken.
+    let last = both (point-in-range v0 && point-in-range v1 && point-in-range v2) (point-in-range v3) inside in
+    let third = both (point-in-range v0 && point-in-range v1) (point-in-range v2) (last .0) in
+    (record { from = h (both (point-in-range v0) (point-in-range v1) (third .0) .1); to = g (third .1) }, skin-is-taken))
+    (λ out taken. let never : _≡_ {A = ℕ} 2 0 = taken in absurd (omega arith))
+
+wall-at-caps : (bytes : List ℕ) → WallIf (wall-at bytes)
+unfolding wall-at
+wall-at-caps bytes =
+    either WallIf (eqb (byte-at bytes 2) 0) _ _
+    (two-sided-caps (vector-at bytes 3) (vector-at bytes 11) (point-caps bytes 3) (point-caps bytes 11))
+    (one-sided-caps (vector-at bytes 3) (vector-at bytes 11) (vector-at bytes 19) (vector-at bytes 27)
+    (point-caps bytes 11) (point-caps bytes 19))
+
+wall-capped : (bytes : List ℕ) → wall-at bytes .refusal ≡ accepted → CappedBody (wall-body (wall-at bytes .shape))
+unfolding wall-body skin WallIf
+wall-capped bytes taken =
+    let caps = wall-at-caps bytes taken in
+    record {
+      place = unplaced-caps;
+      circle = record { centre = origin-caps 20 };
+      outline = blank-outline-caps;
+      wall = caps .0;
+      skin-taken = caps .1;
+    }
+
+placed-capped : (body : Body) (bytes : List ℕ) → CappedBody body → transform-in-range (placement-at bytes 2) ≡ true
+    → CappedBody (placed body (placement-at bytes 2))
+unfolding placed skin
+placed-capped body bytes h taken = record {
+  place = placement-caps bytes taken;
+  circle = h .circle;
+  outline = h .outline;
+  wall = h .wall;
+  skin-taken = h .skin-taken;
+}
