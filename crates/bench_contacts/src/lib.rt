@@ -5,15 +5,13 @@ ghost use Prim.Native.Nat.{_<_};
 use crate::manifolds::Manifold;
 use crate::points::Clip;
 use crate::points::States;
-use contacts::b2_collide_circle;
-use contacts::b2_collide_edge;
-use contacts::b2_collide_polygon;
 use contacts::b2_collision;
 use contacts::point_states;
 
 mod manifolds;
 mod points;
 mod shapes;
+mod steps;
 
 // The case of a number.
 fn case(k: u32) -> usize
@@ -30,10 +28,7 @@ pub extern "C" fn pass_circles(old: Manifold, a: &[f32], b: &[f32], order: &[u32
     let mut i = 0usize;
     while i < order.len() {
         let k = case(order[i]);
-        let m = answer.manifold;
-        let p = all_a[k];
-        let q = all_b[k];
-        answer = b2_collide_circle::b2_collide_circles(m, p.shape, p.place, q.shape, q.place);
+        answer = steps::circles(answer, all_a[k], all_b[k]);
         i += 1;
     }
     manifolds::answer_out(answer)
@@ -53,16 +48,7 @@ pub extern "C" fn pass_polygon_and_circle(
     let mut i = 0usize;
     while i < order.len() {
         let k = case(order[i]);
-        let m = answer.manifold;
-        let p = all_a[k];
-        let q = all_b[k];
-        answer = b2_collide_circle::b2_collide_polygon_and_circle(
-            m,
-            p.shape,
-            p.place,
-            q.shape,
-            q.place,
-        );
+        answer = steps::polygon_and_circle(answer, all_a[k], all_b[k]);
         i += 1;
     }
     manifolds::answer_out(answer)
@@ -83,10 +69,7 @@ pub extern "C" fn pass_polygons(
     let mut i = 0usize;
     while i < order.len() {
         let k = case(order[i]);
-        let m = answer.manifold;
-        let p = all_a[k];
-        let q = all_b[k];
-        answer = b2_collide_polygon::b2_collide_polygons(m, p.shape, p.place, q.shape, q.place);
+        answer = steps::polygons(answer, all_a[k], all_b[k]);
         i += 1;
     }
     manifolds::answer_out(answer)
@@ -106,10 +89,7 @@ pub extern "C" fn pass_edge_and_circle(
     let mut i = 0usize;
     while i < order.len() {
         let k = case(order[i]);
-        let m = answer.manifold;
-        let p = all_a[k];
-        let q = all_b[k];
-        answer = b2_collide_edge::b2_collide_edge_and_circle(m, p.shape, p.place, q.shape, q.place);
+        answer = steps::edge_and_circle(answer, all_a[k], all_b[k]);
         i += 1;
     }
     manifolds::answer_out(answer)
@@ -130,16 +110,7 @@ pub extern "C" fn pass_edge_and_polygon(
     let mut i = 0usize;
     while i < order.len() {
         let k = case(order[i]);
-        let m = answer.manifold;
-        let p = all_a[k];
-        let q = all_b[k];
-        answer = b2_collide_edge::b2_collide_edge_and_polygon(
-            m,
-            p.shape,
-            p.place,
-            q.shape,
-            q.place,
-        );
+        answer = steps::edge_and_polygon(answer, all_a[k], all_b[k]);
         i += 1;
     }
     manifolds::answer_out(answer)

@@ -25,30 +25,24 @@ best-at index separation = record { place = index; value = separation }
 
 module _ (vs ns : List B2vec2) (count : ℕ) (c : B2vec2) (radius : Float) where
   -- the best face of the places below i is `index`, and c is out of none of them by more than the radius
-  pub record SoFar (index : ℕ) (separation : Float) (v1 normal : B2vec2) (i : ℕ) : Type 0 where
+  pub record SoFar (index : ℕ) (separation : Float) (i : ℕ) : Type 0 where
     pub vs-eight : length vs ≡ 8
     pub ns-eight : length ns ≡ 8
     pub few : count ≤ 8
     pub done : i ≤ count
     pub in-count : index < count
-    pub v1-is : v1 ≡ point-at vs index
-    pub normal-is : normal ≡ point-at ns index
     pub none-out : some-below (λ k. lt radius (out-of-face vs ns c k)) i ≡ false
     pub best-is : scan is-greater (best-at index separation) (map (valued (out-of-face vs ns c)) (places i (count - i)))
         ≡ first-greatest (out-of-face vs ns c) count
 
-  pub sides-begin : (v n d : B2vec2) → length vs ≡ 8 → length ns ≡ 8 → 0 < count → count ≤ 8 → v ≡ getD vs 0 d
-      → n ≡ getD ns 0 d
-      → SoFar 0 (neg b2-max-float) v n 0
+  pub sides-begin : length vs ≡ 8 → length ns ≡ 8 → 0 < count → count ≤ 8 → SoFar 0 (neg b2-max-float) 0
   unfolding some-below first-greatest
-  sides-begin v n d vs-eight ns-eight some few v-is n-is = record {
+  sides-begin vs-eight ns-eight some few = record {
     vs-eight = vs-eight;
     ns-eight = ns-eight;
     few = few;
     done = omega arith;
     in-count = some;
-    v1-is = v-is ∙ getD-within vs 0 d _ (omega arith);
-    normal-is = n-is ∙ getD-within ns 0 d _ (omega arith);
     none-out = refl;
     best-is = ap (λ (k : ℕ). scan is-greater (best-at 0 (neg b2-max-float))
         (map (valued (out-of-face vs ns c)) (places 0 k)))
@@ -56,8 +50,7 @@ module _ (vs ns : List B2vec2) (count : ℕ) (c : B2vec2) (radius : Float) where
   }
 
   -- v and n are read at place i, and s is how far c is out of that face
-  module _ (index : ℕ) (separation : Float) (v1 normal : B2vec2) (i : ℕ) (so-far : SoFar index separation v1 normal i)
-      (within : i < count)
+  module _ (index : ℕ) (separation : Float) (i : ℕ) (so-far : SoFar index separation i) (within : i < count)
       (v n d e : B2vec2) (s : Float) (v-is : v ≡ getD vs i d) (n-is : n ≡ getD ns i d) (e-is : e ≡ b2-sub c v)
       (s-is : s ≡ b2-dot n e) where
     v-here : v ≡ point-at vs i
@@ -94,15 +87,13 @@ module _ (vs ns : List B2vec2) (count : ℕ) (c : B2vec2) (radius : Float) where
           (first-greatest (out-of-face vs ns c) count) i count
           (so-far .best-is) _ within refl
 
-      pub side-taken : lt separation s ≡ true → SoFar i s v n (i + 1)
+      pub side-taken : lt separation s ≡ true → SoFar i s (i + 1)
       side-taken more = record {
         vs-eight = so-far .vs-eight;
         ns-eight = so-far .ns-eight;
         few = so-far .few;
         done = omega arith;
         in-count = within;
-        v1-is = v-here;
-        normal-is = n-here;
         none-out = none;
         best-is = ap (λ (x : Float). scan is-greater (best-at i x)
             (map (valued (out-of-face vs ns c)) (places (i + 1) (count - (i + 1)))))
@@ -113,15 +104,13 @@ module _ (vs ns : List B2vec2) (count : ℕ) (c : B2vec2) (radius : Float) where
             ∙ stepped;
       }
 
-      pub side-left : lt separation s ≡ false → SoFar index separation v1 normal (i + 1)
+      pub side-left : lt separation s ≡ false → SoFar index separation (i + 1)
       side-left less = record {
         vs-eight = so-far .vs-eight;
         ns-eight = so-far .ns-eight;
         few = so-far .few;
         done = omega arith;
         in-count = so-far .in-count;
-        v1-is = so-far .v1-is;
-        normal-is = so-far .normal-is;
         none-out = none;
         best-is = ap (λ (t : Bool). scan is-greater (cond t (valued (out-of-face vs ns c) i) (best-at index separation))
             (map (valued (out-of-face vs ns c)) (places (i + 1) (count - (i + 1)))))
@@ -129,10 +118,10 @@ module _ (vs ns : List B2vec2) (count : ℕ) (c : B2vec2) (radius : Float) where
             ∙ stepped;
       }
 
-  -- all places are done: v2 is the corner after the best face's first
-  pub side-found : (index : ℕ) (separation : Float) (v1 normal : B2vec2) (i next : ℕ) (v2 d : B2vec2)
-      → SoFar index separation v1 normal i → count ≤ i → next < count → next ≡ place-after count index
-      → v2 ≡ getD vs next d
+  -- all places are done: the best face's first corner and normal are read, and the corner after
+  pub side-found : (index : ℕ) (separation : Float) (i next : ℕ) (v1 v2 normal d : B2vec2)
+      → SoFar index separation i → count ≤ i → next < count → next ≡ place-after count index
+      → v1 ≡ getD vs index d → v2 ≡ getD vs next d → normal ≡ getD ns index d
       → SideOf vs ns count c radius (record {
         outside = false;
         separation = separation;
@@ -140,10 +129,12 @@ module _ (vs ns : List B2vec2) (count : ℕ) (c : B2vec2) (radius : Float) where
         v2 = v2;
         normal = normal;
       })
-  side-found index separation v1 normal i next v2 d so-far past next-in next-is v2-is =
+  side-found index separation i next v1 v2 normal d so-far past next-in next-is v1-is v2-is normal-is =
       let eight = so-far .vs-eight in
+      let eight-normals = so-far .ns-eight in
       let few = so-far .few in
       let done = so-far .done in
+      let in-count = so-far .in-count in
       let all : i ≡ count = omega arith in
       let best = scanned-all is-greater (valued (out-of-face vs ns c)) (best-at index separation)
       (first-greatest (out-of-face vs ns c) count) i count (so-far .best-is) past in
@@ -151,9 +142,9 @@ module _ (vs ns : List B2vec2) (count : ℕ) (c : B2vec2) (radius : Float) where
         outside-is = sym (ap (some-below (λ k. lt radius (out-of-face vs ns c k))) (sym all) ∙ so-far .none-out);
         face = λ _. record {
           separation-is = ap (λ (b : Best). b .value) best;
-          v1-is = so-far .v1-is ∙ ap (λ (b : Best). point-at vs (b .place)) best;
+          v1-is = v1-is ∙ getD-within vs index d _ (omega arith) ∙ ap (λ (b : Best). point-at vs (b .place)) best;
           v2-is = v2-is ∙ getD-within vs next d _ (omega arith) ∙ ap (point-at vs) next-is
               ∙ ap (λ (b : Best). point-at vs (place-after count (b .place))) best;
-          normal-is = so-far .normal-is ∙ ap (λ (b : Best). point-at ns (b .place)) best;
+          normal-is = normal-is ∙ getD-within ns index d _ (omega arith) ∙ ap (λ (b : Best). point-at ns (b .place)) best;
         };
       }

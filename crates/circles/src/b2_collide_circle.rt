@@ -35,18 +35,24 @@ pub fn farther_than(radius: f32, p: B2vec2, q: B2vec2) -> bool
     b2_math::b2_distance_vec2_squared(p, q) > radius * radius
 }
 
+// The scan keeps the place alone, so that it is compiled to conditional moves: which face is the best is not to be
+// foreseen.
 fn circle_side(vs: [B2vec2; 8], ns: [B2vec2; 8], count: usize, c: B2vec2, radius: f32) -> Side
     requires { ⌜ (0 < count) × (count ≤ 8) ⌝ }
     ensures { λ r. ⌜ SideOf vs ns count c radius r ⌝ }
 {
     let mut separation: f32 = -B2_MAX_FLOAT;
     let mut index = 0usize;
-    let mut v1 = vs[0];
-    let mut normal = ns[0];
     let mut i = 0usize;
     while i < count {
-        let v = vs[i];
-        let n = ns[i];
+        let v = B2vec2 {
+            x: vs[i].x,
+            y: vs[i].y,
+        };
+        let n = B2vec2 {
+            x: ns[i].x,
+            y: ns[i].y,
+        };
         let s = b2_math::b2_dot(n, b2_math::b2_sub(c, v));
         if s > radius {
             return Side {
@@ -60,13 +66,22 @@ fn circle_side(vs: [B2vec2; 8], ns: [B2vec2; 8], count: usize, c: B2vec2, radius
         if s > separation {
             separation = s;
             index = i;
-            v1 = v;
-            normal = n;
         }
         i += 1;
     }
     let next = outline::after(index, count);
-    let v2 = vs[next];
+    let v1 = B2vec2 {
+        x: vs[index].x,
+        y: vs[index].y,
+    };
+    let v2 = B2vec2 {
+        x: vs[next].x,
+        y: vs[next].y,
+    };
+    let normal = B2vec2 {
+        x: ns[index].x,
+        y: ns[index].y,
+    };
     Side {
         outside: false,
         separation: separation,

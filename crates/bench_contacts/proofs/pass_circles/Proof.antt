@@ -35,20 +35,20 @@ shared-slice-read-case c = search needs
 case-requires : tie.Need-case-requires Inv-loop μ-loop
 case-requires c κs = search needs
 
-mul-p : tie.Need-mul-p Inv-loop μ-loop
-mul-p c = search needs
+mul-circles : tie.Need-mul-circles Inv-loop μ-loop
+mul-circles c = search needs
 
-array-copy-out-p : tie.Need-array-copy-out-p Inv-loop μ-loop
-array-copy-out-p c = search needs
+array-copy-out-circles : tie.Need-array-copy-out-circles Inv-loop μ-loop
+array-copy-out-circles c = search needs
 
-mul-q : tie.Need-mul-q Inv-loop μ-loop
-mul-q c = search needs
+mul-circles-2 : tie.Need-mul-circles-2 Inv-loop μ-loop
+mul-circles-2 c = search needs
 
-array-copy-out-q : tie.Need-array-copy-out-q Inv-loop μ-loop
-array-copy-out-q c = search needs
+array-copy-out-circles-2 : tie.Need-array-copy-out-circles-2 Inv-loop μ-loop
+array-copy-out-circles-2 c = search needs
 
-b2-collide-circles-requires : tie.Need-b2-collide-circles-requires Inv-loop μ-loop
-b2-collide-circles-requires c κs = search needs
+circles-requires : tie.Need-circles-requires Inv-loop μ-loop
+circles-requires c κs = search needs
 
 add-i : tie.Need-add-i Inv-loop μ-loop
 add-i c = search needs
@@ -78,11 +78,11 @@ pass-circles-spec =
     mul-case
     shared-slice-read-case
     case-requires
-    mul-p
-    array-copy-out-p
-    mul-q
-    array-copy-out-q
-    b2-collide-circles-requires
+    mul-circles
+    array-copy-out-circles
+    mul-circles-2
+    array-copy-out-circles-2
+    circles-requires
     add-i
     loop-less
     loop-again

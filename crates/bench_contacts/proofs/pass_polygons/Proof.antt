@@ -35,20 +35,20 @@ shared-slice-read-case c = search needs
 case-requires : tie.Need-case-requires Inv-loop μ-loop
 case-requires c κs = search needs
 
-mul-p : tie.Need-mul-p Inv-loop μ-loop
-mul-p c = search needs
+mul-polygons : tie.Need-mul-polygons Inv-loop μ-loop
+mul-polygons c = search needs
 
-array-copy-out-p : tie.Need-array-copy-out-p Inv-loop μ-loop
-array-copy-out-p c = search needs
+array-copy-out-polygons : tie.Need-array-copy-out-polygons Inv-loop μ-loop
+array-copy-out-polygons c = search needs
 
-mul-q : tie.Need-mul-q Inv-loop μ-loop
-mul-q c = search needs
+mul-polygons-2 : tie.Need-mul-polygons-2 Inv-loop μ-loop
+mul-polygons-2 c = search needs
 
-array-copy-out-q : tie.Need-array-copy-out-q Inv-loop μ-loop
-array-copy-out-q c = search needs
+array-copy-out-polygons-2 : tie.Need-array-copy-out-polygons-2 Inv-loop μ-loop
+array-copy-out-polygons-2 c = search needs
 
-b2-collide-polygons-requires : tie.Need-b2-collide-polygons-requires Inv-loop μ-loop
-b2-collide-polygons-requires c κs = search needs
+polygons-requires : tie.Need-polygons-requires Inv-loop μ-loop
+polygons-requires c κs = search needs
 
 add-i : tie.Need-add-i Inv-loop μ-loop
 add-i c = search needs
@@ -78,11 +78,11 @@ pass-polygons-spec =
     mul-case
     shared-slice-read-case
     case-requires
-    mul-p
-    array-copy-out-p
-    mul-q
-    array-copy-out-q
-    b2-collide-polygons-requires
+    mul-polygons
+    array-copy-out-polygons
+    mul-polygons-2
+    array-copy-out-polygons-2
+    polygons-requires
     add-i
     loop-less
     loop-again

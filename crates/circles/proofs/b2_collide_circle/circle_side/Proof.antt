@@ -2,42 +2,45 @@
 use mathlib.Core.Path.{refl}
 use mathlib.Core.Logic.{⊎-elim}
 use Prim.Native.Nat.{_-_}
-use native.Mathlib.Omega.{arith}
 use borrow.Author.Needs.{needs}
 use Rattle.circles.proofs.Sides.{SoFar, sides-begin, side-outside, side-taken, side-left, side-found}
 use Rattle.circles.proofs.b2_collide_circle.circle_side.Statement.{statement}
 use Rattle.circles.proofs.b2_collide_circle.circle_side.Tie as tie
 
 abbrev Inv-loop : tie.InvT-loop
-Inv-loop count c radius vs ns separation₀ index₀ v1₀ normal₀ i₀ separation index v1 normal i =
-    SoFar vs ns count c radius index separation v1 normal i
+Inv-loop count c radius vs ns separation₀ index₀ i₀ separation index i =
+    SoFar vs ns count c radius index separation i
 
 abbrev μ-loop : tie.MeasureT-loop
-μ-loop count c radius vs ns separation₀ index₀ v1₀ normal₀ i₀ separation index v1 normal i = count - i
-
-array-copy-out-v1 : tie.Need-array-copy-out-v1 Inv-loop μ-loop
-array-copy-out-v1 c = search needs
-
-array-copy-out-normal : tie.Need-array-copy-out-normal Inv-loop μ-loop
-array-copy-out-normal c = search needs
+μ-loop count c radius vs ns separation₀ index₀ i₀ separation index i = count - i
 
 loop-holds : tie.Need-loop-holds Inv-loop μ-loop
 loop-holds c =
-    let start = c .before .before in
-    sides-begin _ _ _ _ _ _ _ _ (start .good .0 .1 .0 .1) (start .good .1 .0 .1 .0 .1) (start .pre .0) (start .pre .1)
-    refl refl
+    sides-begin _ _ _ _ _ (c .good .0 .1 .0 .1) (c .good .1 .0 .1 .0 .1) (c .pre .0) (c .pre .1)
 
-mul-v : tie.Need-mul-v Inv-loop μ-loop
-mul-v c = search needs
+mul-t19 : tie.Need-mul-t19 Inv-loop μ-loop
+mul-t19 c = search needs
 
-array-copy-out-v : tie.Need-array-copy-out-v Inv-loop μ-loop
-array-copy-out-v c = search needs
+element-copy-out-t22 : tie.Need-element-copy-out-t22 Inv-loop μ-loop
+element-copy-out-t22 c = search needs
 
-mul-n : tie.Need-mul-n Inv-loop μ-loop
-mul-n c = search needs
+mul-t23 : tie.Need-mul-t23 Inv-loop μ-loop
+mul-t23 c = search needs
 
-array-copy-out-n : tie.Need-array-copy-out-n Inv-loop μ-loop
-array-copy-out-n c = search needs
+element-copy-out-t26 : tie.Need-element-copy-out-t26 Inv-loop μ-loop
+element-copy-out-t26 c = search needs
+
+mul-t19-2 : tie.Need-mul-t19-2 Inv-loop μ-loop
+mul-t19-2 c = search needs
+
+element-copy-out-t26-2 : tie.Need-element-copy-out-t26-2 Inv-loop μ-loop
+element-copy-out-t26-2 c = search needs
+
+mul-t23-2 : tie.Need-mul-t23-2 Inv-loop μ-loop
+mul-t23-2 c = search needs
+
+element-copy-out-t22-2 : tie.Need-element-copy-out-t22-2 Inv-loop μ-loop
+element-copy-out-t22-2 c = search needs
 
 b2-sub-requires : tie.Need-b2-sub-requires Inv-loop μ-loop
 b2-sub-requires c κs = search needs
@@ -49,10 +52,9 @@ returns : tie.Need-returns Inv-loop μ-loop
 returns c =
     let dot = c .before in
     let sub = dot .before in
-    let turn = sub .before .before .before in
-    side-outside _ _ _ _ _ _ _ _ _ _ (turn .before .loop .inv) (turn .loop-test .taken) _ _ _ _ _ refl refl
-    (sub .b2-sub .ensures)
-    (dot .b2-dot .ensures) (c .if1 .taken)
+    let turn = sub .before in
+    side-outside _ _ _ _ _ _ _ _ (turn .before .loop .inv) (turn .loop-test .taken) _ _ _ _ _ refl refl
+    (sub .b2-sub .ensures) (dot .b2-dot .ensures) (c .if1 .taken)
 
 add-i : tie.Need-add-i Inv-loop μ-loop
 add-i c = search needs
@@ -65,31 +67,58 @@ loop-again c =
     let near = c .before in
     let dot = near .before in
     let sub = dot .before in
-    let turn = sub .before .before .before in
+    let turn = sub .before in
     ⊎-elim
-    (λ w. rw (w .1, w .2, w .3, w .4) (side-taken _ _ _ _ _ _ _ _ _ _ (turn .before .loop .inv)
-    (turn .loop-test .taken) _ _ _ _ _ refl refl
-    (sub .b2-sub .ensures) (dot .b2-dot .ensures) (near .if1 .left) (w .0 .taken)))
-    (λ w. rw (w .1, w .2, w .3, w .4) (side-left _ _ _ _ _ _ _ _ _ _ (turn .before .loop .inv)
-    (turn .loop-test .taken) _ _ _ _ _ refl refl
-    (sub .b2-sub .ensures) (dot .b2-dot .ensures) (near .if1 .left) (w .0 .left)))
+    (λ w. rw (w .1, w .2) (side-taken _ _ _ _ _ _ _ _ (turn .before .loop .inv) (turn .loop-test .taken) _ _ _ _ _
+    refl refl (sub .b2-sub .ensures) (dot .b2-dot .ensures) (near .if1 .left) (w .0 .taken)))
+    (λ w. rw (w .1, w .2) (side-left _ _ _ _ _ _ _ _ (turn .before .loop .inv) (turn .loop-test .taken) _ _ _ _ _
+    refl refl (sub .b2-sub .ensures) (dot .b2-dot .ensures) (near .if1 .left) (w .0 .left)))
     (c .if2 .came)
 
 after-requires : tie.Need-after-requires Inv-loop μ-loop
 after-requires c κs = search needs
 
-mul-v2 : tie.Need-mul-v2 Inv-loop μ-loop
-mul-v2 c = search needs
+mul-t32 : tie.Need-mul-t32 Inv-loop μ-loop
+mul-t32 c = search needs
 
-array-copy-out-v2 : tie.Need-array-copy-out-v2 Inv-loop μ-loop
-array-copy-out-v2 c = search needs
+element-copy-out-t35 : tie.Need-element-copy-out-t35 Inv-loop μ-loop
+element-copy-out-t35 c = search needs
+
+mul-t36 : tie.Need-mul-t36 Inv-loop μ-loop
+mul-t36 c = search needs
+
+element-copy-out-t39 : tie.Need-element-copy-out-t39 Inv-loop μ-loop
+element-copy-out-t39 c = search needs
+
+mul-t32-2 : tie.Need-mul-t32-2 Inv-loop μ-loop
+mul-t32-2 c = search needs
+
+element-copy-out-t39-2 : tie.Need-element-copy-out-t39-2 Inv-loop μ-loop
+element-copy-out-t39-2 c = search needs
+
+mul-t36-2 : tie.Need-mul-t36-2 Inv-loop μ-loop
+mul-t36-2 c = search needs
+
+element-copy-out-t35-2 : tie.Need-element-copy-out-t35-2 Inv-loop μ-loop
+element-copy-out-t35-2 c = search needs
+
+mul-t32-3 : tie.Need-mul-t32-3 Inv-loop μ-loop
+mul-t32-3 c = search needs
+
+element-copy-out-t35-3 : tie.Need-element-copy-out-t35-3 Inv-loop μ-loop
+element-copy-out-t35-3 c = search needs
+
+mul-t36-3 : tie.Need-mul-t36-3 Inv-loop μ-loop
+mul-t36-3 c = search needs
+
+element-copy-out-t39-3 : tie.Need-element-copy-out-t39-3 Inv-loop μ-loop
+element-copy-out-t39-3 c = search needs
 
 returns-2 : tie.Need-returns-2 Inv-loop μ-loop
 returns-2 c =
-    let after = c .before in
-    let loop = after .before in
-    side-found _ _ _ _ _ _ _ _ _ _ _ _ _ (loop .before .loop .inv) (loop .loop-test .left) (after .after .ensures .0)
-    (after .after .ensures .1) refl
+    let loop = c .before in
+    side-found _ _ _ _ _ _ _ _ _ _ _ _ _ (loop .before .loop .inv) (loop .loop-test .left) (c .after .ensures .0)
+    (c .after .ensures .1) refl refl refl
 
 pub circle-side-spec : {M : Type 1} → statement M
 circle-side-spec =
@@ -97,13 +126,15 @@ circle-side-spec =
     (tie.spec
     Inv-loop
     μ-loop
-    array-copy-out-v1
-    array-copy-out-normal
     loop-holds
-    mul-v
-    array-copy-out-v
-    mul-n
-    array-copy-out-n
+    mul-t19
+    element-copy-out-t22
+    mul-t23
+    element-copy-out-t26
+    mul-t19-2
+    element-copy-out-t26-2
+    mul-t23-2
+    element-copy-out-t22-2
     b2-sub-requires
     b2-dot-requires
     returns
@@ -111,6 +142,16 @@ circle-side-spec =
     loop-less
     loop-again
     after-requires
-    mul-v2
-    array-copy-out-v2
+    mul-t32
+    element-copy-out-t35
+    mul-t36
+    element-copy-out-t39
+    mul-t32-2
+    element-copy-out-t39-2
+    mul-t36-2
+    element-copy-out-t35-2
+    mul-t32-3
+    element-copy-out-t35-3
+    mul-t36-3
+    element-copy-out-t39-3
     returns-2)
