@@ -4,13 +4,13 @@ use mathlib.Core.Path.{_≡_, refl, sym, ap, _∙_, subst}
 use native.Mathlib.Nat.{le-trans, le-of-eq, lt-of-le-of-lt, mul-le-mul, mul-one, one-mul, mul-assoc, mul-mul-mul-comm, pow-succ'}
 use native.Mathlib.Omega.{arith}
 use lib.Dec.{T, leb, leb→le, lit<}
-use lib.Pow.{pow-add, pow-pos, pow-mono}
+use lib.Pow.{pow-add, pow-mono}
 use lib.Ieee.{Float, binary32, neg, add, sub, mul}
 use lib.Ieee.Scale.{overflow}
-use Rattle.algebra.specs.Integer.{Z, _⊞_, _⊟_, _⊠_, Abs}
+use Rattle.algebra.specs.Integer.{Z, Abs}
 use Rattle.algebra.proofs.Magnitude.{abs-sum, abs-difference, abs-product}
 use Rattle.rounding.specs.Value.{metre, F32, mag, val}
-use Rattle.rounding.proofs.Value.{metre-is, metre-pos, metre-power, abs-mag, mag-neg, neg-f32}
+use Rattle.rounding.proofs.Value.{metre-is, metre-power, abs-mag, mag-neg, neg-f32}
 use Rattle.rounding.proofs.Rounding.{rounded, rounded-exact}
 use Rattle.rounding.proofs.Operations.{Rounds, add-rounds, sub-rounds, mul-rounds}
 use Rattle.rounding.proofs.Rounds.{rounds-f32, rounds-mag, size-le}

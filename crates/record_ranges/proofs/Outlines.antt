@@ -1,26 +1,26 @@
 -- An outline that the builder accepts has corners of at most 2^20 m and normals of at most 4 m, past its count too.
 -- Assumes nothing.
-use Prim.Native.Nat.{ℕ, zero, suc, _*_, _^_, _≤_}
+use Prim.Native.Nat.{ℕ, zero, suc, _*_, _^_}
 use mathlib.Core.Path.{_≡_, refl}
-use mathlib.Core.Bool.{Bool, true, false, not, cond, _&&_, _||_}
+use mathlib.Core.Bool.{Bool, true, false, not, _&&_, _||_}
 use mathlib.Core.List.{List, [], _∷_, _++_, map}
 use mathlib.Core.Option.{Option, none, some}
 use native.Mathlib.Omega.{arith}
 use lib.Dec.{T, ltb}
-use lib.Ieee.{Float, binary32, ofBits, le, lt}
+use lib.Ieee.{binary32, ofBits, le, lt}
 use lib.Ieee.Bits.{ofBits-fits}
 use Rattle.algebra.specs.Integer.{Z, whole, _≼_, Abs}
-use Rattle.rounding.specs.Value.{metre, mag, val}
+use Rattle.rounding.specs.Value.{metre, val}
 use Rattle.rounding.proofs.Value.{mag-abs}
 use Rattle.floats.proofs.RangeValue.{radius-value}
-use lib.ListN.{length, getD, drop, replicate}
+use lib.ListN.{length, drop, replicate}
 use borrow.Author.Tests.{not-false}
 use Rattle.algebra.specs.Buffer.{over}
 use Rattle.algebra.specs.Loops.{near-any, keep-unless, weld}
 use Rattle.rounding.specs.Literals.{one32}
 use Rattle.floats.specs.declared.b2_math.B2vec2.{B2vec2}
 use Rattle.floats.specs.B2Common.{b2-epsilon, b2-polygon-radius}
-use Rattle.floats.specs.B2Math.{b2-sub, b2-normalize, b2-cross-vec-by-scalar}
+use Rattle.floats.specs.B2Math.{b2-cross-vec-by-scalar}
 use Rattle.floats.specs.Ranges.{point-in-range, radius-in-range}
 use Rattle.shape_definitions.specs.declared.b2_polygon_shape.B2polygonShape.{B2polygonShape}
 use Rattle.shape_definitions.specs.declared.b2_polygon_shape.PolygonAnswer.{PolygonAnswer}
