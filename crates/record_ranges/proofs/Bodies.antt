@@ -28,7 +28,8 @@ use Rattle.record_definitions.specs.Frame.{circle-at, wall-at}
 use Rattle.record_definitions.proofs.Changes.{by-choice}
 use Rattle.record_ranges.proofs.Caps.{Cap}
 use Rattle.record_ranges.proofs.Vectors.{Caps, Turns}
-use Rattle.record_ranges.proofs.Shapes.{zero-cap, one-cap, origin-caps, CircleCaps, WallCaps, OutlineCaps, AtPlace}
+use Rattle.record_ranges.proofs.Shapes.{zero-cap, one-cap, origin-caps, CircleCaps, WallCaps, OutlineCaps}
+use Rattle.record_ranges.proofs.Shapes.{AtPlace}
 use Rattle.record_ranges.proofs.Outlines.{Each, built-caps, blank-outline-caps, skin-taken}
 use Rattle.floats.specs.B2Common.{b2-polygon-radius}
 use native.Mathlib.Omega.{arith}
@@ -64,7 +65,8 @@ points-caps : (bytes : List ℕ) (at n : ℕ) → all-points point-in-range (poi
 unfolding points-at Each
 points-caps bytes at zero taken = tt
 points-caps bytes at (suc n) taken =
-    let first = both (point-in-range (vector-at bytes at)) (all-points point-in-range (points-at bytes (at + 8) n)) taken in
+    let later = all-points point-in-range (points-at bytes (at + 8) n) in
+    let first = both (point-in-range (vector-at bytes at)) later taken in
     (point-caps bytes at (first .0), points-caps bytes (at + 8) n (first .1))
 
 turn-caps : (bytes : List ℕ) (at : ℕ) → rotation-in-range (rotation-at bytes at) ≡ true → Turns (rotation-at bytes at) 0
@@ -111,7 +113,8 @@ blank-capped = record {
   skin-taken = skin-is-taken;
 }
 
-pub circle-capped : (bytes : List ℕ) → circle-in-range (circle-at bytes) ≡ true → CappedBody (circle-body (circle-at bytes))
+pub circle-capped : (bytes : List ℕ) → circle-in-range (circle-at bytes) ≡ true
+    → CappedBody (circle-body (circle-at bytes))
 unfolding circle-body circle-in-range skin
 circle-capped bytes taken =
     let each = both (radius-in-range (float-at bytes 10)) (point-in-range (vector-at bytes 2)) taken in
@@ -138,7 +141,8 @@ outline-capped bytes n taken radius-is = record {
 
 -- the walls of a frame
 WallIf : EdgeAnswer → Type 0
-WallIf answer = answer .refusal ≡ accepted → WallCaps (answer .shape) × (radius-in-range (answer .shape .«m_radius») ≡ true)
+WallIf answer =
+    answer .refusal ≡ accepted → WallCaps (answer .shape) × (radius-in-range (answer .shape .«m_radius») ≡ true)
 
 two-sided-caps : (v1 v2 : B2vec2) → (point-in-range v1 ≡ true → Caps v1 20) → (point-in-range v2 ≡ true → Caps v2 20)
     → WallIf (b2-set-two-sided blank-wall v1 v2)
@@ -149,15 +153,16 @@ two-sided-caps v1 v2 h g =
     (record { from = h (each .0); to = g (each .1) }, skin-is-taken))
     (λ out taken. let never : _≡_ {A = ℕ} 2 0 = taken in absurd (omega arith))
 
-one-sided-caps : (v0 v1 v2 v3 : B2vec2) → (point-in-range v1 ≡ true → Caps v1 20) → (point-in-range v2 ≡ true → Caps v2 20)
-    → WallIf (b2-set-one-sided blank-wall v0 v1 v2 v3)
+one-sided-caps : (v0 v1 v2 v3 : B2vec2) → (point-in-range v1 ≡ true → Caps v1 20)
+    → (point-in-range v2 ≡ true → Caps v2 20) → WallIf (b2-set-one-sided blank-wall v0 v1 v2 v3)
 unfolding b2-set-one-sided WallIf
 one-sided-caps v0 v1 v2 v3 h g =
     by-choice WallIf (point-in-range v0 && point-in-range v1 && point-in-range v2 && point-in-range v3) _ _
     (λ inside taken.
     let last = both (point-in-range v0 && point-in-range v1 && point-in-range v2) (point-in-range v3) inside in
     let third = both (point-in-range v0 && point-in-range v1) (point-in-range v2) (last .0) in
-    (record { from = h (both (point-in-range v0) (point-in-range v1) (third .0) .1); to = g (third .1) }, skin-is-taken))
+    let first = both (point-in-range v0) (point-in-range v1) (third .0) in
+    (record { from = h (first .1); to = g (third .1) }, skin-is-taken))
     (λ out taken. let never : _≡_ {A = ℕ} 2 0 = taken in absurd (omega arith))
 
 wall-at-caps : (bytes : List ℕ) → WallIf (wall-at bytes)

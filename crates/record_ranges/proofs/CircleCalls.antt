@@ -61,7 +61,8 @@ module _ (m : B2manifold) (h : Ranged m) (c : B2vec2) (c-caps : Caps c 24) (radi
       let normal = b2-normalize (b2-sub c v) .v in
       either Ranged (farther radius c v) _ _ h
       (one-ranged m EFaceA normal v centre default-id h
-      (caps-widen 2 3 tt (normalised-caps (b2-sub c v) 25 tt tt (caps-sub c v 24 tt c-caps (caps-widen 20 24 tt v-caps))))
+      (caps-widen 2 3 tt
+      (normalised-caps (b2-sub c v) 25 tt tt (caps-sub c v 24 tt c-caps (caps-widen 20 24 tt v-caps))))
       (caps-widen 20 30 tt v-caps) (caps-widen 20 30 tt centre-caps))
 
   at-face : (v1 v2 normal : B2vec2) (separation : Float) → Caps v1 20 → Caps v2 20 → Caps normal 2
@@ -100,7 +101,8 @@ module _ (m : B2manifold) (h : Ranged m) (c : B2vec2) (c-caps : Caps c 24) (radi
       let n = right-of (b2-sub b a) in
       let n-caps = right-caps (b2-sub b a) 21 (caps-sub b a 20 tt b-caps a-caps) in
       let side = cond (lt offset zero32) (b2-neg n) n in
-      let side-caps = either (λ (w : B2vec2). Caps w 21) (lt offset zero32) (b2-neg n) n (caps-neg n 21 n-caps) n-caps in
+      let side-caps = either (λ (w : B2vec2). Caps w 21) (lt offset zero32) (b2-neg n) n (caps-neg n 21 n-caps)
+      n-caps in
       either Ranged
       (farther radius c (b2-scale (div binary32 one32 den) (b2-add (b2-scale u a) (b2-scale v b)))) _ _ h
       (one-ranged m EFaceA (b2-normalize side .v) a centre _ h

@@ -56,7 +56,8 @@ module _ {d0 d1 : Float} (d0-f32 : F32 d0) (d1-f32 : F32 d1) (span-f32 : F32 (su
 
       go : Opposite (val d0) (val d1) → Between (val d0) (val (sub binary32 d0 d1))
       go (inl h) =
-          let up = ordered-results d0-f32 d1-f32 d0-f32 .difference-above span-f32 (farther-up (val d0) (val d1) (h .1)) in
+          let up = ordered-results d0-f32 d1-f32 d0-f32 .difference-above span-f32
+          (farther-up (val d0) (val d1) (h .1)) in
           inl (not-below (val d0) (h .0), (up, outward (val d0) (val d1) (val (sub binary32 d0 d1)) (h .0) up))
       go (inr h) =
           let down = ordered-results d0-f32 d1-f32 d0-f32 .difference-below span-f32
@@ -125,7 +126,8 @@ module _ (normal : B2vec2) (offset : Float) (index k : ℕ) (side : Side normal 
       (cap-widen 33 40 tt (cap-dot normal (end .v) 5 27 tt tt (side .normal-caps) (caps-widen k 27 within h)))
       (side .offset-cap)
 
-  pub clipped-caps : (ends : List B2clipVertex) → EndsCap ends k → EndsCap (clipped ends normal offset index) (suc (suc k))
+  pub clipped-caps : (ends : List B2clipVertex) → EndsCap ends k
+      → EndsCap (clipped ends normal offset index) (suc (suc k))
   unfolding EndsCap clipped clipped-by
   clipped-caps [] h = tt
   clipped-caps (end ∷ []) h = tt

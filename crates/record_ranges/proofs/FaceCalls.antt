@@ -53,8 +53,9 @@ module _ (total : Float) (poly : B2polygonShape) (xf : B2Transform) (i : ℕ) (t
   along : (v : B2vec2) → Caps v 20
       → Cap (b2-dot (b2-mul-rot-by-vec2 (xf .q) (local-tangent poly i)) (b2-mul-transform-by-vec2 xf v)) 39
   along v h =
-      cap-widen 26 39 tt (cap-dot (b2-mul-rot-by-vec2 (xf .q) (local-tangent poly i)) (b2-mul-transform-by-vec2 xf v) 3 22
-      tt tt turned-tangent (corner-there xf v place h))
+      let tangent = b2-mul-rot-by-vec2 (xf .q) (local-tangent poly i) in
+      cap-widen 26 39 tt
+      (cap-dot tangent (b2-mul-transform-by-vec2 xf v) 3 22 tt tt turned-tangent (corner-there xf v place h))
 
   side-1 : Side (outline-face total poly xf i .«side_normal1») (outline-face total poly xf i .«side_offset1»)
   unfolding outline-face face-along

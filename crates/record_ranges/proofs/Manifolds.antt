@@ -73,7 +73,8 @@ one-ranged m kind normal point centre id h normal-caps point-caps centre-caps = 
 
 -- points made of clipped ends
 module _ (near : B2clipVertex → Bool) (made : B2manifoldPoint → B2clipVertex → B2manifoldPoint)
-    (made-caps : (old : B2manifoldPoint) (end : B2clipVertex) → Caps (end .v) 27 → Caps (made old end .«local_point») 30)
+    (made-caps : (old : B2manifoldPoint) (end : B2clipVertex) → Caps (end .v) 27
+    → Caps (made old end .«local_point») 30)
   where
     kept : (t : Bool) (end : B2clipVertex) (rest : List B2clipVertex) → Caps (end .v) 27 → EndsCap rest 27
         → EndsCap (cond t (end ∷ rest) rest) 27

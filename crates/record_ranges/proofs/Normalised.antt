@@ -154,7 +154,8 @@ module _ (v : B2vec2) (k : ℕ) (low : T (leb (k + k) 100)) (more : T (leb (suc 
 
     squared-large : metre < mag c → metre ≤ mag squared
     squared-large big =
-        at-least (val (mul binary32 c c)) (val squared) (mag squared) (rw one-val at (one-below big)) below squared-value
+        at-least (val (mul binary32 c c)) (val squared) (mag squared) (rw one-val at (one-below big)) below
+        squared-value
       where
         at-least : (a b : Z) (m : ℕ) → whole metre ≼ a → a ≼ b → b ≐ whole m → metre ≤ m
         at-least a b m g f e = omega arith
@@ -185,7 +186,8 @@ module _ (v : B2vec2) (k : ℕ) (low : T (leb (k + k) 100)) (more : T (leb (suc 
     at-most-twice : 0 < mag squared → mag c ≤ 2 * mag root
     at-most-twice some =
         let law = sqrt-law squared-f32 (positive some) .law in
-        let square-mag : mag (mul binary32 c c) ≤ mag squared = mag-mono (mul binary32 c c) squared square-not-neg below in
+        let square-mag : mag (mul binary32 c c) ≤ mag squared =
+        mag-mono (mul binary32 c c) squared square-not-neg below in
         let half : mag c * mag c ≤ 2 * (mag squared * metre) =
         half-square (mag c * mag c) (mag (mul binary32 c c)) (mag squared) (val (mul binary32 c c)) (val c ⊠ val c)
         (least-is (mul binary32 c c) square-not-neg) (square-is c) square-mag some

@@ -124,7 +124,8 @@ skin-taken = tt
 skin-cap : Cap (blank-outline .«m_radius») 20
 skin-cap =
     let r = radius-value {r = b2-polygon-radius} (ofBits-fits binary32 0x3c23_d70a) skin-taken in
-    record { own = r .own; size = mag-abs b2-polygon-radius (2 ^ 20 * metre) (sized (val b2-polygon-radius) (r .low) (r .high)) }
+    let low-to-high = sized (val b2-polygon-radius) (r .low) (r .high) in
+    record { own = r .own; size = mag-abs b2-polygon-radius (2 ^ 20 * metre) low-to-high }
   where
     sized : (a : Z) → whole 0 ≼ a → a ≼ whole (2 ^ 20 * metre) → Abs a (2 ^ 20 * metre)
     sized a g f = omega arith
@@ -135,7 +136,8 @@ corners-caps corners h =
     either CapsIf (long-enough (edges corners) && lt b2-epsilon (fan corners .area)) _ _
     (λ taken. record {
       radius = skin-cap;
-      corner = each-at (over corners (replicate 8 origin)) 20 (each-over corners (replicate 8 origin) 20 h (origins 8 20));
+      corner = each-at (over corners (replicate 8 origin)) 20
+          (each-over corners (replicate 8 origin) 20 h (origins 8 20));
       normal = each-at (over (map normal-of-edge (edges corners)) (replicate 8 origin)) 2
           (each-over (map normal-of-edge (edges corners)) (replicate 8 origin) 2
           (each-normal (edges corners) (each-edges corners h)) (origins 8 2));

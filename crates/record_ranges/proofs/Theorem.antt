@@ -1,5 +1,5 @@
--- The headline law of this crate: in no world that lines reach is a test refused with 9 (or with 6 or 7), so what is
--- left, after 10 to 13, is 2 and 8. Bodies only cite. Assumes nothing.
+-- The headline law of this crate: after any lines, no test is refused with 9, and with neither 6 nor 7
+-- (`test-refusals`). Assumes nothing.
 use Prim.Native.Nat.{ℕ}
 use mathlib.Core.Path.{_≡_, refl, subst}
 use mathlib.Core.Bool.{not, _||_}

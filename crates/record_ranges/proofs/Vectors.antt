@@ -78,13 +78,14 @@ pub caps-carried : (t : B2Transform) (v : B2vec2) (j k : ℕ) → T (leb (j + k)
     → Caps (b2-mul-transform-by-vec2 t v) (suc (suc (j + k)))
 unfolding b2-mul-transform-by-vec2
 caps-carried t v j k low more most g h =
-    let turned = caps-turned (t .q) v j k low more (g .turn) h in
     record {
       x-cap = cap-add (suc (j + k)) most
-          (cap-sub (j + k) more (cap-mul j k low (g .turn .cosine) (h .x-cap)) (cap-mul j k low (g .turn .sine) (h .y-cap)))
+          (cap-sub (j + k) more (cap-mul j k low (g .turn .cosine) (h .x-cap))
+          (cap-mul j k low (g .turn .sine) (h .y-cap)))
           (g .position .x-cap);
       y-cap = cap-add (suc (j + k)) most
-          (cap-add (j + k) more (cap-mul j k low (g .turn .sine) (h .x-cap)) (cap-mul j k low (g .turn .cosine) (h .y-cap)))
+          (cap-add (j + k) more (cap-mul j k low (g .turn .sine) (h .x-cap))
+          (cap-mul j k low (g .turn .cosine) (h .y-cap)))
           (g .position .y-cap);
     }
 

@@ -203,5 +203,5 @@ wall-outline-ranged m edge xf poly h wall place caps =
     let centroid = b2-mul-transform-by-vec2 xf (poly .«m_centroid») in
     let offset1 = b2-dot (right-of edge1) (b2-sub centroid (edge .«m_vertex1»)) in
     either Ranged (edge .«m_one_sided» && lt offset1 zero32) _ _ h
-    (on-axis-ranged edge xf poly radius wall place caps (edge-polygon-axis radius edge edge1 xf poly) m edge1 h edge1-caps
-    (axis-caps radius edge edge1 xf poly edge1-caps))
+    (on-axis-ranged edge xf poly radius wall place caps (edge-polygon-axis radius edge edge1 xf poly) m edge1 h
+    edge1-caps (axis-caps radius edge edge1 xf poly edge1-caps))
