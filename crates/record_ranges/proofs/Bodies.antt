@@ -1,45 +1,36 @@
 -- Bodies as frames make them have shapes and placements of at most 2^20 m, and skins within the range. Assumes nothing.
 use Prim.Native.Nat.{ℕ, zero, suc, _+_, _*_, _^_, _≤_}
 use mathlib.Core.Path.{_≡_, refl, sym, subst}
-use mathlib.Core.Bool.{Bool, true, false, not, cond, _&&_, false≢true}
+use mathlib.Core.Bool.{Bool, true, false, _&&_, false≢true}
 use native.Mathlib.Nat.{le-trans, le-of-eq}
-use mathlib.Core.List.{List, [], _∷_}
-use lib.Dec.{T, eqb, ltb}
-use lib.Ieee.{Float, binary32, neg, le, ofBits}
+use mathlib.Core.List.{List}
+use lib.Dec.{T, eqb}
+use lib.Ieee.{Float, binary32}
 use lib.Ieee.Bits.{ofBits-fits}
-use lib.Ieee.Fits.{and-l, and-r}
-use lib.ListN.{getD, replicate}
-use borrow.Author.Tests.{eqb-true, not-false}
 use Rattle.rounding.specs.Literals.{one32}
-use Rattle.rounding.specs.Value.{metre, mag, val}
+use Rattle.rounding.specs.Value.{metre}
 use Rattle.rounding.proofs.Value.{mag-abs}
-use Rattle.floats.specs.declared.b2_math.B2Transform.{B2Transform}
 use Rattle.floats.specs.declared.b2_math.B2vec2.{B2vec2}
 use Rattle.floats.specs.Ranges.{within, point-in-range, radius-in-range, rotation-in-range, transform-in-range}
-use Rattle.floats.specs.Ranges.{shape-limit}
-use Rattle.floats.proofs.RangeValue.{Bounded, Limit, limit-value, limit-vec2, one-limit-is, shape-limit-is}
+use Rattle.floats.proofs.RangeValue.{Bounded, limit-value, limit-vec2, one-limit-is, shape-limit-is}
 use Rattle.lines.specs.Fields.{byte-at, number-at, float-at, vector-at, points-at, rotation-at, placement-at}
 use Rattle.shape_definitions.specs.Circle.{circle-in-range}
-use Rattle.shape_definitions.specs.Edge.{b2-set-one-sided, b2-set-two-sided, edge-in-range}
+use Rattle.shape_definitions.specs.Edge.{b2-set-one-sided, b2-set-two-sided}
 use Rattle.shape_definitions.specs.declared.b2_edge_shape.EdgeAnswer.{EdgeAnswer}
 use Rattle.shape_definitions.specs.Polygon.{all-points, b2-polygon-shape-set}
 use Rattle.shape_definitions.specs.Refusal.{accepted}
 use Rattle.contact_definitions.proofs.Counts.{either}
 use Rattle.record_definitions.specs.declared.world.Body.{Body}
-use Rattle.record_definitions.specs.declared.world.Pair.{Pair}
-use Rattle.record_definitions.specs.declared.world.World.{World}
-use Rattle.record_definitions.specs.declared.frame.Change.{Change}
-use Rattle.record_definitions.specs.World.{no-body, unplaced, blank-outline, blank-wall, blank-body, circle-body}
-use Rattle.record_definitions.specs.World.{outline-body, wall-body, placed, fresh-world, body-at, pair-at}
-use Rattle.record_definitions.specs.Touch.{skin, tested}
-use Rattle.record_definitions.specs.Frame.{well-formed, largest-id, circle-at, circle-change, outline-change, wall-at}
-use Rattle.record_definitions.specs.Frame.{wall-change, place-change, test-refusal, test-change, change-of-kind, change}
-use Rattle.record_definitions.specs.Step.{first-place, second-place, changed, change-in, after-frame}
+use Rattle.record_definitions.specs.World.{unplaced, blank-outline, blank-wall, blank-body, circle-body}
+use Rattle.record_definitions.specs.World.{outline-body, wall-body, placed}
+use Rattle.record_definitions.specs.Touch.{skin}
+use Rattle.record_definitions.specs.Frame.{circle-at, wall-at}
 use Rattle.record_definitions.proofs.Changes.{by-choice}
 use Rattle.record_ranges.proofs.Caps.{Cap}
-use Rattle.record_ranges.proofs.Vectors.{Caps, Turns, Placed}
-use Rattle.record_ranges.proofs.Shapes.{zero-cap, one-cap, origin-caps, CircleCaps, WallCaps, OutlineCaps, AtPlace}
-use Rattle.record_ranges.proofs.Outlines.{Each, built-caps, blank-outline-caps, skin-taken, built-radius}
+use Rattle.record_ranges.proofs.Vectors.{Caps, Turns}
+use Rattle.record_ranges.proofs.Shapes.{zero-cap, one-cap, origin-caps, CircleCaps, WallCaps, OutlineCaps}
+use Rattle.record_ranges.proofs.Shapes.{AtPlace}
+use Rattle.record_ranges.proofs.Outlines.{Each, built-caps, blank-outline-caps, skin-taken}
 use Rattle.floats.specs.B2Common.{b2-polygon-radius}
 use native.Mathlib.Omega.{arith}
 
@@ -74,7 +65,8 @@ points-caps : (bytes : List ℕ) (at n : ℕ) → all-points point-in-range (poi
 unfolding points-at Each
 points-caps bytes at zero taken = tt
 points-caps bytes at (suc n) taken =
-    let first = both (point-in-range (vector-at bytes at)) (all-points point-in-range (points-at bytes (at + 8) n)) taken in
+    let later = all-points point-in-range (points-at bytes (at + 8) n) in
+    let first = both (point-in-range (vector-at bytes at)) later taken in
     (point-caps bytes at (first .0), points-caps bytes (at + 8) n (first .1))
 
 turn-caps : (bytes : List ℕ) (at : ℕ) → rotation-in-range (rotation-at bytes at) ≡ true → Turns (rotation-at bytes at) 0
@@ -121,7 +113,8 @@ blank-capped = record {
   skin-taken = skin-is-taken;
 }
 
-circle-capped : (bytes : List ℕ) → circle-in-range (circle-at bytes) ≡ true → CappedBody (circle-body (circle-at bytes))
+pub circle-capped : (bytes : List ℕ) → circle-in-range (circle-at bytes) ≡ true
+    → CappedBody (circle-body (circle-at bytes))
 unfolding circle-body circle-in-range skin
 circle-capped bytes taken =
     let each = both (radius-in-range (float-at bytes 10)) (point-in-range (vector-at bytes 2)) taken in
@@ -133,7 +126,7 @@ circle-capped bytes taken =
       skin-taken = each .0;
     }
 
-outline-capped : (bytes : List ℕ) (n : ℕ)
+pub outline-capped : (bytes : List ℕ) (n : ℕ)
     → b2-polygon-shape-set blank-outline (points-at bytes 3 n) .refusal ≡ accepted
     → b2-polygon-shape-set blank-outline (points-at bytes 3 n) .shape .«m_radius» ≡ b2-polygon-radius
     → CappedBody (outline-body (b2-polygon-shape-set blank-outline (points-at bytes 3 n) .shape))
@@ -148,7 +141,8 @@ outline-capped bytes n taken radius-is = record {
 
 -- the walls of a frame
 WallIf : EdgeAnswer → Type 0
-WallIf answer = answer .refusal ≡ accepted → WallCaps (answer .shape) × (radius-in-range (answer .shape .«m_radius») ≡ true)
+WallIf answer =
+    answer .refusal ≡ accepted → WallCaps (answer .shape) × (radius-in-range (answer .shape .«m_radius») ≡ true)
 
 two-sided-caps : (v1 v2 : B2vec2) → (point-in-range v1 ≡ true → Caps v1 20) → (point-in-range v2 ≡ true → Caps v2 20)
     → WallIf (b2-set-two-sided blank-wall v1 v2)
@@ -159,15 +153,16 @@ two-sided-caps v1 v2 h g =
     (record { from = h (each .0); to = g (each .1) }, skin-is-taken))
     (λ out taken. let never : _≡_ {A = ℕ} 2 0 = taken in absurd (omega arith))
 
-one-sided-caps : (v0 v1 v2 v3 : B2vec2) → (point-in-range v1 ≡ true → Caps v1 20) → (point-in-range v2 ≡ true → Caps v2 20)
-    → WallIf (b2-set-one-sided blank-wall v0 v1 v2 v3)
+one-sided-caps : (v0 v1 v2 v3 : B2vec2) → (point-in-range v1 ≡ true → Caps v1 20)
+    → (point-in-range v2 ≡ true → Caps v2 20) → WallIf (b2-set-one-sided blank-wall v0 v1 v2 v3)
 unfolding b2-set-one-sided WallIf
 one-sided-caps v0 v1 v2 v3 h g =
     by-choice WallIf (point-in-range v0 && point-in-range v1 && point-in-range v2 && point-in-range v3) _ _
     (λ inside taken.
     let last = both (point-in-range v0 && point-in-range v1 && point-in-range v2) (point-in-range v3) inside in
     let third = both (point-in-range v0 && point-in-range v1) (point-in-range v2) (last .0) in
-    (record { from = h (both (point-in-range v0) (point-in-range v1) (third .0) .1); to = g (third .1) }, skin-is-taken))
+    let first = both (point-in-range v0) (point-in-range v1) (third .0) in
+    (record { from = h (first .1); to = g (third .1) }, skin-is-taken))
     (λ out taken. let never : _≡_ {A = ℕ} 2 0 = taken in absurd (omega arith))
 
 wall-at-caps : (bytes : List ℕ) → WallIf (wall-at bytes)
@@ -178,7 +173,7 @@ wall-at-caps bytes =
     (one-sided-caps (vector-at bytes 3) (vector-at bytes 11) (vector-at bytes 19) (vector-at bytes 27)
     (point-caps bytes 11) (point-caps bytes 19))
 
-wall-capped : (bytes : List ℕ) → wall-at bytes .refusal ≡ accepted → CappedBody (wall-body (wall-at bytes .shape))
+pub wall-capped : (bytes : List ℕ) → wall-at bytes .refusal ≡ accepted → CappedBody (wall-body (wall-at bytes .shape))
 unfolding wall-body skin WallIf
 wall-capped bytes taken =
     let caps = wall-at-caps bytes taken in
@@ -190,7 +185,7 @@ wall-capped bytes taken =
       skin-taken = caps .1;
     }
 
-placed-capped : (body : Body) (bytes : List ℕ) → CappedBody body → transform-in-range (placement-at bytes 2) ≡ true
+pub placed-capped : (body : Body) (bytes : List ℕ) → CappedBody body → transform-in-range (placement-at bytes 2) ≡ true
     → CappedBody (placed body (placement-at bytes 2))
 unfolding placed skin
 placed-capped body bytes h taken = record {

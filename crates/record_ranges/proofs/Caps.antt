@@ -1,16 +1,17 @@
 -- Finite numbers of at most 2^k m in size: sums, differences, products and vectors of them. Assumes nothing.
 use Prim.Native.Nat.{ℕ, suc, _+_, _*_, _^_, _≤_, _<_}
 use mathlib.Core.Path.{_≡_, refl, sym, ap, _∙_, subst}
-use native.Mathlib.Nat.{le-trans, le-of-eq, lt-of-le-of-lt, mul-le-mul, mul-one, one-mul, mul-assoc, mul-mul-mul-comm, pow-succ'}
+use native.Mathlib.Nat.{le-trans, le-of-eq, lt-of-le-of-lt, mul-le-mul, mul-one, one-mul, mul-assoc, mul-mul-mul-comm}
+use native.Mathlib.Nat.{pow-succ'}
 use native.Mathlib.Omega.{arith}
 use lib.Dec.{T, leb, leb→le, lit<}
-use lib.Pow.{pow-add, pow-pos, pow-mono}
+use lib.Pow.{pow-add, pow-mono}
 use lib.Ieee.{Float, binary32, neg, add, sub, mul}
 use lib.Ieee.Scale.{overflow}
-use Rattle.algebra.specs.Integer.{Z, _⊞_, _⊟_, _⊠_, Abs}
+use Rattle.algebra.specs.Integer.{Z, Abs}
 use Rattle.algebra.proofs.Magnitude.{abs-sum, abs-difference, abs-product}
 use Rattle.rounding.specs.Value.{metre, F32, mag, val}
-use Rattle.rounding.proofs.Value.{metre-is, metre-pos, metre-power, abs-mag, mag-neg, neg-f32}
+use Rattle.rounding.proofs.Value.{metre-is, metre-power, abs-mag, mag-neg, neg-f32}
 use Rattle.rounding.proofs.Rounding.{rounded, rounded-exact}
 use Rattle.rounding.proofs.Operations.{Rounds, add-rounds, sub-rounds, mul-rounds}
 use Rattle.rounding.proofs.Rounds.{rounds-f32, rounds-mag, size-le}
@@ -68,7 +69,8 @@ module _ {x y : Float} where
   pub cap-sub : (k : ℕ) → T (leb (suc k) 100) → Cap x k → Cap y k → Cap (sub binary32 x y) (suc k)
   cap-sub k low h g =
       rounds-cap (suc k) (mag x + mag y) low (sub-rounds (h .own) (g .own))
-      (abs-difference (val x) (val y) (mag x) (mag y) (abs-mag x) (abs-mag y)) (twice k (mag x) (mag y) (h .size) (g .size))
+      (abs-difference (val x) (val y) (mag x) (mag y) (abs-mag x) (abs-mag y))
+      (twice k (mag x) (mag y) (h .size) (g .size))
 
   pub cap-mul : (j k : ℕ) → T (leb (j + k) 100) → Cap x j → Cap y k → Cap (mul binary32 x y) (j + k)
   cap-mul j k low h g =

@@ -2,8 +2,7 @@
 -- Assumes nothing.
 use Prim.Native.Nat.{ℕ}
 use mathlib.Core.Bool.{Bool, cond, _&&_}
-use lib.Dec.{T, leb}
-use lib.Ieee.{Float, binary32, add, div, neg, le, lt}
+use lib.Ieee.{Float, binary32, add, div, le, lt}
 use Rattle.rounding.specs.Literals.{zero32, half32, one32}
 use Rattle.floats.specs.declared.b2_math.B2Transform.{B2Transform}
 use Rattle.floats.specs.declared.b2_math.B2vec2.{B2vec2}
@@ -13,10 +12,10 @@ use Rattle.floats.specs.B2Math.{b2-mul-t-transform-by-vec2}
 use Rattle.shape_definitions.specs.declared.b2_circle_shape.B2circleShape.{B2circleShape}
 use Rattle.shape_definitions.specs.declared.b2_edge_shape.B2edgeShape.{B2edgeShape}
 use Rattle.shape_definitions.specs.declared.b2_polygon_shape.B2polygonShape.{B2polygonShape}
-use Rattle.shape_definitions.specs.Outline.{origin, point-at, place-after}
+use Rattle.shape_definitions.specs.Outline.{origin}
 use Rattle.contact_definitions.specs.declared.b2_collision.B2manifold.{B2manifold}
 use Rattle.contact_definitions.specs.declared.b2_collision.B2manifoldType.the-variants.{ECircles, EFaceA}
-use Rattle.contact_definitions.specs.Manifold.{with-count, default-id, manifold-accepted, manifold-refused}
+use Rattle.contact_definitions.specs.Manifold.{with-count, default-id}
 use Rattle.contact_definitions.specs.Searches.{some-below}
 use Rattle.contact_definitions.specs.B2CollideCircle.{farther, circles-manifold, circle-separation, circle-at-corner}
 use Rattle.contact_definitions.specs.B2CollideCircle.{circle-at-face, circle-at-best, polygon-circle-manifold}
@@ -24,8 +23,7 @@ use Rattle.contact_definitions.specs.EdgeAxis.{right-of}
 use Rattle.contact_definitions.specs.B2CollideEdge.{circle-at-end, circle-at-wall, over-before, over-after}
 use Rattle.contact_definitions.specs.B2CollideEdge.{edge-circle-answer}
 use Rattle.contact_definitions.proofs.Counts.{Accepted, either, refused}
-use Rattle.record_ranges.proofs.Caps.{Cap, cap-neg}
-use Rattle.record_ranges.proofs.Vectors.{Caps, Placed, caps-widen, caps-neg, caps-add, caps-sub, caps-scale}
+use Rattle.record_ranges.proofs.Vectors.{Caps, caps-widen, caps-neg, caps-add, caps-sub, caps-scale}
 use Rattle.record_ranges.proofs.Vectors.{caps-carried, caps-carried-back, placed-widen, right-caps}
 use Rattle.record_ranges.proofs.Normalised.{normalised-caps}
 use Rattle.record_ranges.proofs.Manifolds.{Ranged, count-ranged, one-ranged}
@@ -63,7 +61,8 @@ module _ (m : B2manifold) (h : Ranged m) (c : B2vec2) (c-caps : Caps c 24) (radi
       let normal = b2-normalize (b2-sub c v) .v in
       either Ranged (farther radius c v) _ _ h
       (one-ranged m EFaceA normal v centre default-id h
-      (caps-widen 2 3 tt (normalised-caps (b2-sub c v) 25 tt tt (caps-sub c v 24 tt c-caps (caps-widen 20 24 tt v-caps))))
+      (caps-widen 2 3 tt
+      (normalised-caps (b2-sub c v) 25 tt tt (caps-sub c v 24 tt c-caps (caps-widen 20 24 tt v-caps))))
       (caps-widen 20 30 tt v-caps) (caps-widen 20 30 tt centre-caps))
 
   at-face : (v1 v2 normal : B2vec2) (separation : Float) → Caps v1 20 → Caps v2 20 → Caps normal 2
@@ -102,7 +101,8 @@ module _ (m : B2manifold) (h : Ranged m) (c : B2vec2) (c-caps : Caps c 24) (radi
       let n = right-of (b2-sub b a) in
       let n-caps = right-caps (b2-sub b a) 21 (caps-sub b a 20 tt b-caps a-caps) in
       let side = cond (lt offset zero32) (b2-neg n) n in
-      let side-caps = either (λ (w : B2vec2). Caps w 21) (lt offset zero32) (b2-neg n) n (caps-neg n 21 n-caps) n-caps in
+      let side-caps = either (λ (w : B2vec2). Caps w 21) (lt offset zero32) (b2-neg n) n (caps-neg n 21 n-caps)
+      n-caps in
       either Ranged
       (farther radius c (b2-scale (div binary32 one32 den) (b2-add (b2-scale u a) (b2-scale v b)))) _ _ h
       (one-ranged m EFaceA (b2-normalize side .v) a centre _ h

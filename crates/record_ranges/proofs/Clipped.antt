@@ -1,31 +1,30 @@
 -- Clipping ends of at most 2^k m by finite sides leaves ends of at most 2^(k + 2) m: a crossing lies between the two,
 -- for its weight is in [0, 1]. Assumes nothing.
-use Prim.Native.Nat.{ℕ, suc, _+_, _*_, _^_, _≤_}
+use Prim.Native.Nat.{ℕ, suc, _*_, _^_, _≤_}
 use mathlib.Core.Path.{_≡_, refl, sym, subst}
 use mathlib.Core.Bool.{Bool, true, false, cond}
 use mathlib.Core.List.{List, [], _∷_}
-use mathlib.Core.Logic.{_⊎_, inl, inr}
+use mathlib.Core.Logic.{inl, inr}
 use native.Mathlib.Nat.{le-trans, zero-add}
 use native.Mathlib.Omega.{arith}
 use lib.Dec.{T, leb}
-use lib.Ieee.{Float, binary32, add, sub, mul, div, le, lt}
-use Rattle.algebra.specs.Integer.{Z, whole, _⊞_, _⊟_, _≼_, _≺_, Abs}
+use lib.Ieee.{Float, binary32, sub, mul, div, le, lt}
+use Rattle.algebra.specs.Integer.{Z, whole, _⊟_, _≼_, _≺_, Abs}
 use Rattle.rounding.specs.Literals.{zero32}
 use Rattle.rounding.specs.Value.{metre, F32, mag, val}
 use Rattle.rounding.proofs.Value.{mag-abs}
 use Rattle.rounding.proofs.Literals.{zero-f32, zero-val}
 use Rattle.rounding.proofs.Comparison.{lt-val}
 use Rattle.rounding.proofs.Sign.{Opposite}
-use Rattle.rounding.proofs.Quotient.{InUnit, Between}
+use Rattle.rounding.proofs.Quotient.{Between}
 use Rattle.rounding.proofs.Theorem.{product-negative, quotient-in-unit, ordered-results}
 use Rattle.floats.specs.declared.b2_math.B2vec2.{B2vec2}
-use Rattle.floats.specs.B2Math.{b2-add, b2-sub, b2-scale, b2-dot}
+use Rattle.floats.specs.B2Math.{b2-sub, b2-scale}
 use Rattle.contact_definitions.specs.declared.b2_collision.B2clipVertex.{B2clipVertex}
 use Rattle.contact_definitions.specs.declared.b2_collide_edge.B2referenceFace.{B2referenceFace}
 use Rattle.contact_definitions.specs.ReferenceFace.{clipped-to-sides}
 use Rattle.contact_definitions.specs.Clip.{clip-distance, crossing, clipped-by, clipped}
-use Rattle.record_definitions.proofs.Changes.{by-choice}
-use Rattle.record_ranges.proofs.Caps.{Cap, cap-widen, cap-add, cap-sub, cap-mul}
+use Rattle.record_ranges.proofs.Caps.{Cap, cap-widen, cap-sub, cap-mul}
 use Rattle.record_ranges.proofs.Vectors.{Caps, caps-widen, caps-add, caps-sub, caps-scale, cap-dot}
 
 -- ---- the weight of a crossing
@@ -39,19 +38,26 @@ module _ {d0 d1 : Float} (d0-f32 : F32 d0) (d1-f32 : F32 d1) (span-f32 : F32 (su
     where
       outward : (a b s : Z) → whole 0 ≺ a → a ≼ s → whole 0 ≺ s
       outward a b s g f = omega arith
+
       inward : (a b s : Z) → a ≺ whole 0 → s ≼ a → s ≺ whole 0
       inward a b s g f = omega arith
+
       not-below : (a : Z) → whole 0 ≺ a → whole 0 ≼ a
       not-below a g = omega arith
+
       not-above : (a : Z) → a ≺ whole 0 → a ≼ whole 0
       not-above a g = omega arith
+
       farther-up : (a b : Z) → b ≺ whole 0 → a ≼ a ⊟ b
       farther-up a b g = omega arith
+
       farther-down : (a b : Z) → whole 0 ≺ b → a ⊟ b ≼ a
       farther-down a b g = omega arith
+
       go : Opposite (val d0) (val d1) → Between (val d0) (val (sub binary32 d0 d1))
       go (inl h) =
-          let up = ordered-results d0-f32 d1-f32 d0-f32 .difference-above span-f32 (farther-up (val d0) (val d1) (h .1)) in
+          let up = ordered-results d0-f32 d1-f32 d0-f32 .difference-above span-f32
+          (farther-up (val d0) (val d1) (h .1)) in
           inl (not-below (val d0) (h .0), (up, outward (val d0) (val d1) (val (sub binary32 d0 d1)) (h .0) up))
       go (inr h) =
           let down = ordered-results d0-f32 d1-f32 d0-f32 .difference-below span-f32
@@ -120,7 +126,8 @@ module _ (normal : B2vec2) (offset : Float) (index k : ℕ) (side : Side normal 
       (cap-widen 33 40 tt (cap-dot normal (end .v) 5 27 tt tt (side .normal-caps) (caps-widen k 27 within h)))
       (side .offset-cap)
 
-  pub clipped-caps : (ends : List B2clipVertex) → EndsCap ends k → EndsCap (clipped ends normal offset index) (suc (suc k))
+  pub clipped-caps : (ends : List B2clipVertex) → EndsCap ends k
+      → EndsCap (clipped ends normal offset index) (suc (suc k))
   unfolding EndsCap clipped clipped-by
   clipped-caps [] h = tt
   clipped-caps (end ∷ []) h = tt

@@ -1,21 +1,13 @@
 -- The contacts of two outlines and of a wall and an outline give manifolds that the world points take.
 -- Assumes nothing.
 use Prim.Native.Nat.{ℕ, _-_}
-use mathlib.Core.Path.{_≡_, refl}
-use mathlib.Core.Bool.{Bool, true, false, cond, _&&_}
-use mathlib.Core.List.{List, [], _∷_, map}
-use lib.Dec.{T, leb}
-use lib.Ieee.{Float, binary32, add, neg, lt}
-use Rattle.algebra.specs.Loops.{scan, places}
-use Rattle.rounding.specs.Literals.{zero32, one32}
+use lib.Ieee.{Float}
+use Rattle.rounding.specs.Literals.{one32}
 use Rattle.floats.specs.declared.b2_math.B2Transform.{B2Transform}
 use Rattle.floats.specs.declared.b2_math.B2vec2.{B2vec2}
-use Rattle.floats.specs.B2Math.{vec2, b2-add, b2-sub, b2-neg, b2-dot, b2-normalize, b2-cross-vec-by-scalar}
-use Rattle.floats.specs.B2Math.{b2-mul-t-rot, b2-mul-rot-by-vec2, b2-mul-transform-by-vec2, b2-mul-t-transform}
-use Rattle.floats.specs.B2Math.{b2-mul-t-transform-by-vec2}
-use Rattle.shape_definitions.specs.declared.b2_edge_shape.B2edgeShape.{B2edgeShape}
+use Rattle.floats.specs.B2Math.{b2-sub, b2-dot, b2-cross-vec-by-scalar}
+use Rattle.floats.specs.B2Math.{b2-mul-rot-by-vec2, b2-mul-transform-by-vec2}
 use Rattle.shape_definitions.specs.declared.b2_polygon_shape.B2polygonShape.{B2polygonShape}
-use Rattle.shape_definitions.specs.Outline.{point-at, place-after}
 use Rattle.contact_definitions.specs.declared.axis.Axis.{Axis}
 use Rattle.contact_definitions.specs.declared.axis.Axis.the-variants.{Apart, FaceA, FaceB}
 use Rattle.contact_definitions.specs.declared.b2_collision.B2clipVertex.{B2clipVertex}
@@ -28,12 +20,12 @@ use Rattle.contact_definitions.specs.B2CollidePolygon.{incident-end, b2-find-in
 use Rattle.contact_definitions.specs.B2CollidePolygon.{local-tangent, face-middle, face-along, outline-face}
 use Rattle.contact_definitions.specs.B2CollidePolygon.{within-skins, outline-point, outline-manifold, manifold-on}
 use Rattle.record_ranges.proofs.Caps.{Cap, cap-widen, cap-neg, cap-add, cap-mul}
-use Rattle.record_ranges.proofs.Vectors.{Caps, Placed, Turns, caps-widen, caps-neg, caps-sub, cap-dot, caps-turned}
-use Rattle.record_ranges.proofs.Vectors.{caps-carried, caps-carried-back, placed-widen, right-caps}
+use Rattle.record_ranges.proofs.Vectors.{Caps, caps-widen, caps-neg, caps-sub, cap-dot, caps-turned}
+use Rattle.record_ranges.proofs.Vectors.{caps-carried, caps-carried-back, placed-widen}
 use Rattle.record_ranges.proofs.Normalised.{normalised-caps}
 use Rattle.record_ranges.proofs.Clipped.{EndsCap, two-ends, Side, sides-caps}
 use Rattle.record_ranges.proofs.Manifolds.{Ranged, kind-ranged, ends-ranged}
-use Rattle.record_ranges.proofs.Shapes.{one-cap, WallCaps, OutlineCaps, AtPlace}
+use Rattle.record_ranges.proofs.Shapes.{one-cap, OutlineCaps, AtPlace}
 use Rattle.record_ranges.proofs.CircleCalls.{middle-caps}
 
 -- ---- a face of an outline, in the world
@@ -61,8 +53,9 @@ module _ (total : Float) (poly : B2polygonShape) (xf : B2Transform) (i : ℕ) (t
   along : (v : B2vec2) → Caps v 20
       → Cap (b2-dot (b2-mul-rot-by-vec2 (xf .q) (local-tangent poly i)) (b2-mul-transform-by-vec2 xf v)) 39
   along v h =
-      cap-widen 26 39 tt (cap-dot (b2-mul-rot-by-vec2 (xf .q) (local-tangent poly i)) (b2-mul-transform-by-vec2 xf v) 3 22
-      tt tt turned-tangent (corner-there xf v place h))
+      let tangent = b2-mul-rot-by-vec2 (xf .q) (local-tangent poly i) in
+      cap-widen 26 39 tt
+      (cap-dot tangent (b2-mul-transform-by-vec2 xf v) 3 22 tt tt turned-tangent (corner-there xf v place h))
 
   side-1 : Side (outline-face total poly xf i .«side_normal1») (outline-face total poly xf i .«side_offset1»)
   unfolding outline-face face-along

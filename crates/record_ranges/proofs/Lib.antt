@@ -9,3 +9,6 @@ pub mod FaceCalls
 pub mod WallCalls
 pub mod Outlines
 pub mod Bodies
+pub mod Kept
+pub mod Contacts
+pub mod Theorem

@@ -10,12 +10,11 @@ use lib.Ieee.{Float}
 use lib.Ieee.Fits.{and-i}
 use lib.ListN.{length, take, drop}
 use Rattle.algebra.specs.Buffer.{over}
-use Rattle.algebra.specs.Integer.{Abs}
 use Rattle.algebra.proofs.Magnitude.{abs-widen}
 use Rattle.rounding.specs.Value.{metre, mag, val}
 use Rattle.rounding.proofs.Value.{abs-mag}
 use Rattle.floats.specs.declared.b2_math.B2vec2.{B2vec2}
-use Rattle.floats.specs.Ranges.{within, vec2-within, local-normal-limit, contact-limit, local-normal-in-range}
+use Rattle.floats.specs.Ranges.{vec2-within, local-normal-in-range}
 use Rattle.floats.specs.Ranges.{contact-point-in-range}
 use Rattle.floats.proofs.RangeValue.{Limit, vec2-limit, local-normal-limit-is, contact-limit-is}
 use Rattle.contact_definitions.specs.declared.b2_collision.B2clipVertex.{B2clipVertex}
@@ -27,7 +26,6 @@ use Rattle.contact_definitions.specs.Manifold.{with-count, with-kind, with-one-
 use Rattle.contact_definitions.specs.Manifold.{manifold-point}
 use Rattle.contact_definitions.specs.ReferenceFace.{only, points-from, with-points, manifold-of-ends}
 use Rattle.contact_definitions.specs.WorldManifold.{points-in-range, manifold-in-range}
-use Rattle.record_ranges.proofs.Caps.{Cap}
 use Rattle.record_ranges.proofs.Vectors.{Caps}
 use Rattle.record_ranges.proofs.Clipped.{EndsCap}
 
@@ -75,36 +73,37 @@ one-ranged m kind normal point centre id h normal-caps point-caps centre-caps = 
 
 -- points made of clipped ends
 module _ (near : B2clipVertex → Bool) (made : B2manifoldPoint → B2clipVertex → B2manifoldPoint)
-    (made-caps : (old : B2manifoldPoint) (end : B2clipVertex) → Caps (end .v) 27 → Caps (made old end .«local_point») 30)
-    where
-  kept : (t : Bool) (end : B2clipVertex) (rest : List B2clipVertex) → Caps (end .v) 27 → EndsCap rest 27
-      → EndsCap (cond t (end ∷ rest) rest) 27
-  unfolding EndsCap
-  kept true end rest h g = (h, g)
-  kept false end rest h g = g
+    (made-caps : (old : B2manifoldPoint) (end : B2clipVertex) → Caps (end .v) 27
+    → Caps (made old end .«local_point») 30)
+  where
+    kept : (t : Bool) (end : B2clipVertex) (rest : List B2clipVertex) → Caps (end .v) 27 → EndsCap rest 27
+        → EndsCap (cond t (end ∷ rest) rest) 27
+    unfolding EndsCap
+    kept true end rest h g = (h, g)
+    kept false end rest h g = g
 
-  only-caps : (ends : List B2clipVertex) → EndsCap ends 27 → EndsCap (only near ends) 27
-  unfolding only EndsCap
-  only-caps [] h = tt
-  only-caps (end ∷ ends) h = kept (near end) end (only near ends) (h .0) (only-caps ends (h .1))
+    only-caps : (ends : List B2clipVertex) → EndsCap ends 27 → EndsCap (only near ends) 27
+    unfolding only EndsCap
+    only-caps [] h = tt
+    only-caps (end ∷ ends) h = kept (near end) end (only near ends) (h .0) (only-caps ends (h .1))
 
-  from-caps : (m : B2manifold) (i : ℕ) (ends : List B2clipVertex) → EndsCap ends 27
-      → PointsCap (points-from made m i ends)
-  unfolding points-from EndsCap PointsCap
-  from-caps m i [] h = tt
-  from-caps m i (end ∷ ends) h = (made-caps (manifold-point m i) end (h .0), from-caps m (suc i) ends (h .1))
+    from-caps : (m : B2manifold) (i : ℕ) (ends : List B2clipVertex) → EndsCap ends 27
+        → PointsCap (points-from made m i ends)
+    unfolding points-from EndsCap PointsCap
+    from-caps m i [] h = tt
+    from-caps m i (end ∷ ends) h = (made-caps (manifold-point m i) end (h .0), from-caps m (suc i) ends (h .1))
 
-  pub ends-ranged : (m : B2manifold) (normal point : B2vec2) (ends : List B2clipVertex) → Ranged m → Caps normal 3
-      → Caps point 30 → EndsCap ends 27 → Ranged (manifold-of-ends m normal point near made ends)
-  unfolding manifold-of-ends with-points
-  ends-ranged m normal point [] h normal-caps point-caps ends-caps = h
-  ends-ranged m normal point (end ∷ []) h normal-caps point-caps ends-caps = h
-  ends-ranged m normal point (end0 ∷ end1 ∷ ends) h normal-caps point-caps ends-caps = record {
-    normal = normal-caps;
-    point = point-caps;
-    points = over-points (points-from made m 0 (only near (end0 ∷ end1 ∷ ends))) (m .points)
-        (from-caps m 0 (only near (end0 ∷ end1 ∷ ends)) (only-caps (end0 ∷ end1 ∷ ends) ends-caps)) (h .points);
-  }
+    pub ends-ranged : (m : B2manifold) (normal point : B2vec2) (ends : List B2clipVertex) → Ranged m → Caps normal 3
+        → Caps point 30 → EndsCap ends 27 → Ranged (manifold-of-ends m normal point near made ends)
+    unfolding manifold-of-ends with-points
+    ends-ranged m normal point [] h normal-caps point-caps ends-caps = h
+    ends-ranged m normal point (end ∷ []) h normal-caps point-caps ends-caps = h
+    ends-ranged m normal point (end0 ∷ end1 ∷ ends) h normal-caps point-caps ends-caps = record {
+      normal = normal-caps;
+      point = point-caps;
+      points = over-points (points-from made m 0 (only near (end0 ∷ end1 ∷ ends))) (m .points)
+          (from-caps m 0 (only near (end0 ∷ end1 ∷ ends)) (only-caps (end0 ∷ end1 ∷ ends) ends-caps)) (h .points);
+    }
 
 -- ---- so the world points take it
 holds : (t : Bool) → T t → t ≡ true

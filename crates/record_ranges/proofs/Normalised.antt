@@ -1,9 +1,9 @@
 -- Normalising a vector of at most 2^k m, k ≤ 49, gives one of at most 4 m: where its length is below 2^-23 m it is left
 -- as it is, and is at most 1 m. Assumes nothing.
 use Prim.Native.Nat.{ℕ, suc, _+_, _*_, _^_, _≤_, _<_}
-use mathlib.Core.Path.{_≡_, refl, sym, ap, _∙_, subst}
-use mathlib.Core.Bool.{Bool, true, false, not, cond}
-use mathlib.Core.Logic.{_⊎_, inl, inr, ⊎-elim}
+use mathlib.Core.Path.{_≡_, refl, sym, subst}
+use mathlib.Core.Bool.{Bool, true, false, not}
+use mathlib.Core.Logic.{_⊎_, inl, inr}
 use native.Mathlib.Nat.{le-of-lt, le-trans, le-of-eq, mul-le-mul, mul-le-mul-left, mul-le-mul-right, mul-comm, one-mul}
 use native.Mathlib.Omega.{arith}
 use lib.Dec.{T, leb}
@@ -20,8 +20,7 @@ use Rattle.rounding.proofs.Literals.{one-f32, one-val, one-mag}
 use Rattle.rounding.proofs.Operations.{mul-rounds, div-rounds, abs-turned}
 use Rattle.rounding.proofs.Theorem.{relative-results, ordered-results, not-negative-results, doubled-results}
 use Rattle.sqrt.specs.Sqrt.{sqrt}
-use Rattle.sqrt.specs.Root.{RelativeSquare}
-use Rattle.sqrt.proofs.SqrtLaw.{SqrtLaw, sqrt-law, sqrt-zero}
+use Rattle.sqrt.proofs.SqrtLaw.{sqrt-law, sqrt-zero}
 use Rattle.sqrt.proofs.SqrtOrder.{sqrt-low}
 use Rattle.floats.specs.declared.b2_math.B2vec2.{B2vec2}
 use Rattle.floats.specs.declared.b2_math.Normalized.{Normalized}
@@ -30,7 +29,7 @@ use Rattle.floats.specs.B2Math.{b2-sqrt, b2-length-squared, b2-length, times-re
 use Rattle.floats.proofs.Constants.{epsilon-is}
 use Rattle.rounding.proofs.Comparison.{lt-val, val-lt, not-lt-val}
 use Rattle.record_definitions.proofs.Changes.{by-choice}
-use Rattle.record_ranges.proofs.Caps.{Cap, rounds-cap, cap-widen, cap-add, cap-mul}
+use Rattle.record_ranges.proofs.Caps.{Cap, rounds-cap, cap-add, cap-mul}
 use Rattle.record_ranges.proofs.Vectors.{Caps}
 
 -- ---- squares
@@ -51,6 +50,7 @@ half-square e q s v w v-is w-is q-low s-pos h =
   where
     scaled : metre ⊛ v ≐ metre ⊛ whole q → metre ⊛ v ≐ whole (metre * q)
     scaled k = omega arith
+
     linear : (u : Z) (p m : ℕ) → u ≐ whole p → p ≤ m → metre ≤ m → Abs (2 ^ 24 ⊛ (u ⊟ w)) (e + 2 ^ 23 * metre)
         → e ≤ 2 * m
     linear u p m u-is below at-least k = omega arith
@@ -154,7 +154,8 @@ module _ (v : B2vec2) (k : ℕ) (low : T (leb (k + k) 100)) (more : T (leb (suc 
 
     squared-large : metre < mag c → metre ≤ mag squared
     squared-large big =
-        at-least (val (mul binary32 c c)) (val squared) (mag squared) (rw one-val at (one-below big)) below squared-value
+        at-least (val (mul binary32 c c)) (val squared) (mag squared) (rw one-val at (one-below big)) below
+        squared-value
       where
         at-least : (a b : Z) (m : ℕ) → whole metre ≼ a → a ≼ b → b ≐ whole m → metre ≤ m
         at-least a b m g f e = omega arith
@@ -185,7 +186,8 @@ module _ (v : B2vec2) (k : ℕ) (low : T (leb (k + k) 100)) (more : T (leb (suc 
     at-most-twice : 0 < mag squared → mag c ≤ 2 * mag root
     at-most-twice some =
         let law = sqrt-law squared-f32 (positive some) .law in
-        let square-mag : mag (mul binary32 c c) ≤ mag squared = mag-mono (mul binary32 c c) squared square-not-neg below in
+        let square-mag : mag (mul binary32 c c) ≤ mag squared =
+        mag-mono (mul binary32 c c) squared square-not-neg below in
         let half : mag c * mag c ≤ 2 * (mag squared * metre) =
         half-square (mag c * mag c) (mag (mul binary32 c c)) (mag squared) (val (mul binary32 c c)) (val c ⊠ val c)
         (least-is (mul binary32 c c) square-not-neg) (square-is c) square-mag some
@@ -215,6 +217,7 @@ module _ (v : B2vec2) (k : ℕ) (low : T (leb (k + k) 100)) (more : T (leb (suc 
       where
         positive-root : (l : ℕ) → metre ≤ 2 ^ 23 * l → 0 < l
         positive-root l g = let p = metre-pos in omega arith
+
         four : (l i m : ℕ) → i * l ≤ 2 * m → 2 * l * i ≤ 2 ^ 2 * m
         four l i m g = omega arith
 
@@ -259,6 +262,7 @@ module _ (v : B2vec2) (k : ℕ) (low : T (leb (k + k) 100)) (more : T (leb (suc 
     where
       is-zero : (a : Z) (m : ℕ) → a ≐ whole m → m ≡ 0 → a ≐ whole 0
       is-zero a m e n = omega arith
+
       below-epsilon : (r e : Z) → r ≐ whole 0 → 2 ^ 23 ⊛ e ≐ metre ⊛ whole 1 → r ≺ e
       below-epsilon r e r-is e-is = let p = metre-pos in omega arith
 

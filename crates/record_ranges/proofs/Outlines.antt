@@ -1,26 +1,26 @@
 -- An outline that the builder accepts has corners of at most 2^20 m and normals of at most 4 m, past its count too.
 -- Assumes nothing.
-use Prim.Native.Nat.{ℕ, zero, suc, _*_, _^_, _≤_}
+use Prim.Native.Nat.{ℕ, zero, suc, _*_, _^_}
 use mathlib.Core.Path.{_≡_, refl}
-use mathlib.Core.Bool.{Bool, true, false, not, cond, _&&_, _||_}
+use mathlib.Core.Bool.{Bool, true, false, not, _&&_, _||_}
 use mathlib.Core.List.{List, [], _∷_, _++_, map}
 use mathlib.Core.Option.{Option, none, some}
 use native.Mathlib.Omega.{arith}
 use lib.Dec.{T, ltb}
-use lib.Ieee.{Float, binary32, ofBits, le, lt}
+use lib.Ieee.{binary32, ofBits, le, lt}
 use lib.Ieee.Bits.{ofBits-fits}
 use Rattle.algebra.specs.Integer.{Z, whole, _≼_, Abs}
-use Rattle.rounding.specs.Value.{metre, mag, val}
+use Rattle.rounding.specs.Value.{metre, val}
 use Rattle.rounding.proofs.Value.{mag-abs}
 use Rattle.floats.proofs.RangeValue.{radius-value}
-use lib.ListN.{length, getD, drop, replicate}
+use lib.ListN.{length, drop, replicate}
 use borrow.Author.Tests.{not-false}
 use Rattle.algebra.specs.Buffer.{over}
 use Rattle.algebra.specs.Loops.{near-any, keep-unless, weld}
 use Rattle.rounding.specs.Literals.{one32}
 use Rattle.floats.specs.declared.b2_math.B2vec2.{B2vec2}
 use Rattle.floats.specs.B2Common.{b2-epsilon, b2-polygon-radius}
-use Rattle.floats.specs.B2Math.{b2-sub, b2-normalize, b2-cross-vec-by-scalar}
+use Rattle.floats.specs.B2Math.{b2-cross-vec-by-scalar}
 use Rattle.floats.specs.Ranges.{point-in-range, radius-in-range}
 use Rattle.shape_definitions.specs.declared.b2_polygon_shape.B2polygonShape.{B2polygonShape}
 use Rattle.shape_definitions.specs.declared.b2_polygon_shape.PolygonAnswer.{PolygonAnswer}
@@ -124,7 +124,8 @@ skin-taken = tt
 skin-cap : Cap (blank-outline .«m_radius») 20
 skin-cap =
     let r = radius-value {r = b2-polygon-radius} (ofBits-fits binary32 0x3c23_d70a) skin-taken in
-    record { own = r .own; size = mag-abs b2-polygon-radius (2 ^ 20 * metre) (sized (val b2-polygon-radius) (r .low) (r .high)) }
+    let low-to-high = sized (val b2-polygon-radius) (r .low) (r .high) in
+    record { own = r .own; size = mag-abs b2-polygon-radius (2 ^ 20 * metre) low-to-high }
   where
     sized : (a : Z) → whole 0 ≼ a → a ≼ whole (2 ^ 20 * metre) → Abs a (2 ^ 20 * metre)
     sized a g f = omega arith
@@ -135,7 +136,8 @@ corners-caps corners h =
     either CapsIf (long-enough (edges corners) && lt b2-epsilon (fan corners .area)) _ _
     (λ taken. record {
       radius = skin-cap;
-      corner = each-at (over corners (replicate 8 origin)) 20 (each-over corners (replicate 8 origin) 20 h (origins 8 20));
+      corner = each-at (over corners (replicate 8 origin)) 20
+          (each-over corners (replicate 8 origin) 20 h (origins 8 20));
       normal = each-at (over (map normal-of-edge (edges corners)) (replicate 8 origin)) 2
           (each-over (map normal-of-edge (edges corners)) (replicate 8 origin) 2
           (each-normal (edges corners) (each-edges corners h)) (origins 8 2));

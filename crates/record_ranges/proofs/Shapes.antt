@@ -6,13 +6,10 @@ use Rattle.shape_definitions.specs.declared.b2_circle_shape.B2circleShape.{B2ci
 use Rattle.shape_definitions.specs.declared.b2_edge_shape.B2edgeShape.{B2edgeShape}
 use Rattle.shape_definitions.specs.declared.b2_polygon_shape.B2polygonShape.{B2polygonShape}
 use Rattle.shape_definitions.specs.Outline.{origin, point-at}
-use Rattle.rounding.specs.Value.{metre, mag}
+use Rattle.rounding.specs.Value.{metre}
 use Rattle.rounding.proofs.Literals.{zero-f32, half-f32, one-f32, one-mag}
 use Prim.Native.Nat.{_*_, _^_, _≤_}
-use mathlib.Core.Path.{_≡_}
-use lib.Dec.{T}
 use native.Mathlib.Omega.{arith}
-use lib.Ieee.{Float}
 use Rattle.rounding.proofs.Value.{mag-abs}
 use Rattle.algebra.specs.Integer.{Z, whole, _⊛_, _≐_, Abs}
 use Rattle.rounding.specs.Value.{val}

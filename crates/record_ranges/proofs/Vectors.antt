@@ -2,13 +2,13 @@
 -- Assumes nothing.
 use Prim.Native.Nat.{ℕ, suc, _+_}
 use lib.Dec.{T, leb}
-use lib.Ieee.{Float, binary32, neg, add, sub, mul}
+use lib.Ieee.{Float}
 use Rattle.floats.specs.declared.b2_math.B2Rot.{B2Rot}
 use Rattle.floats.specs.declared.b2_math.B2Transform.{B2Transform}
 use Rattle.floats.specs.declared.b2_math.B2vec2.{B2vec2}
-use Rattle.floats.specs.B2Math.{b2-add, b2-sub, b2-neg, b2-scale, b2-dot, b2-cross-vec-by-scalar, b2-mul-t-rot}
+use Rattle.floats.specs.B2Math.{b2-add, b2-sub, b2-neg, b2-scale, b2-dot}
 use Rattle.floats.specs.B2Math.{b2-mul-rot-by-vec2, b2-mul-t-rot-by-vec2, b2-mul-transform-by-vec2}
-use Rattle.floats.specs.B2Math.{b2-mul-t-transform-by-vec2, b2-mul-t-transform}
+use Rattle.floats.specs.B2Math.{b2-mul-t-transform-by-vec2}
 use Rattle.contact_definitions.specs.EdgeAxis.{right-of}
 use Rattle.record_ranges.proofs.Caps.{Cap, cap-widen, cap-neg, cap-add, cap-sub, cap-mul}
 
@@ -78,13 +78,14 @@ pub caps-carried : (t : B2Transform) (v : B2vec2) (j k : ℕ) → T (leb (j + k)
     → Caps (b2-mul-transform-by-vec2 t v) (suc (suc (j + k)))
 unfolding b2-mul-transform-by-vec2
 caps-carried t v j k low more most g h =
-    let turned = caps-turned (t .q) v j k low more (g .turn) h in
     record {
       x-cap = cap-add (suc (j + k)) most
-          (cap-sub (j + k) more (cap-mul j k low (g .turn .cosine) (h .x-cap)) (cap-mul j k low (g .turn .sine) (h .y-cap)))
+          (cap-sub (j + k) more (cap-mul j k low (g .turn .cosine) (h .x-cap))
+          (cap-mul j k low (g .turn .sine) (h .y-cap)))
           (g .position .x-cap);
       y-cap = cap-add (suc (j + k)) most
-          (cap-add (j + k) more (cap-mul j k low (g .turn .sine) (h .x-cap)) (cap-mul j k low (g .turn .cosine) (h .y-cap)))
+          (cap-add (j + k) more (cap-mul j k low (g .turn .sine) (h .x-cap))
+          (cap-mul j k low (g .turn .cosine) (h .y-cap)))
           (g .position .y-cap);
     }
 

@@ -1,18 +1,16 @@
 -- The contact of a wall and an outline gives a manifold that the world points take: the axis search's normal is the
 -- wall's, turned round or not, or zero. Assumes nothing.
 use Prim.Native.Nat.{ℕ}
-use mathlib.Core.Bool.{Bool, true, false, cond, _&&_}
+use mathlib.Core.Bool.{cond, _&&_}
 use mathlib.Core.List.{List, [], _∷_, map}
-use lib.Dec.{T, leb}
 use lib.Ieee.{Float, binary32, add, sub, neg, lt}
 use Rattle.algebra.specs.Loops.{scan, places}
 use Rattle.rounding.specs.Literals.{zero32}
-use Rattle.floats.specs.declared.b2_math.B2Rot.{B2Rot}
 use Rattle.floats.specs.declared.b2_math.B2Transform.{B2Transform}
 use Rattle.floats.specs.declared.b2_math.B2vec2.{B2vec2}
 use Rattle.floats.specs.B2Common.{b2-max-float}
-use Rattle.floats.specs.B2Math.{vec2, b2-sub, b2-neg, b2-dot, b2-normalize, b2-mul-t-rot, b2-mul-rot-by-vec2}
-use Rattle.floats.specs.B2Math.{b2-mul-transform-by-vec2, b2-mul-t-transform, b2-mul-t-transform-by-vec2}
+use Rattle.floats.specs.B2Math.{vec2, b2-sub, b2-neg, b2-dot, b2-normalize, b2-mul-t-rot}
+use Rattle.floats.specs.B2Math.{b2-mul-transform-by-vec2, b2-mul-t-transform}
 use Rattle.shape_definitions.specs.declared.b2_edge_shape.B2edgeShape.{B2edgeShape}
 use Rattle.shape_definitions.specs.declared.b2_polygon_shape.B2polygonShape.{B2polygonShape}
 use Rattle.shape_definitions.specs.Outline.{point-at, place-after}
@@ -29,18 +27,18 @@ use Rattle.contact_definitions.specs.Manifold.{with-kind, with-local-point}
 use Rattle.contact_definitions.specs.EdgeAxis.{placed-corner, placed-normal, right-of, side-axis, outline-axis}
 use Rattle.contact_definitions.specs.EdgeAxis.{b2-compute-edge-separation, b2-compute-polygon-separation}
 use Rattle.contact_definitions.specs.EdgeAxis.{clearly-above, primary-axis, gauss-region, in-region, smoothed}
-use Rattle.contact_definitions.specs.EdgeAxis.{smoothed-if, edge-polygon-axis}
+use Rattle.contact_definitions.specs.EdgeAxis.{edge-polygon-axis}
 use Rattle.contact_definitions.specs.EdgeReference.{face-between, within-radius, most-against, outline-end}
 use Rattle.contact_definitions.specs.EdgeReference.{outline-edge, point-in-frame, wall-manifold, wall-edge}
 use Rattle.contact_definitions.specs.EdgeReference.{point-as-it-is, placed-face, face-manifold, edge-manifold-on}
 use Rattle.contact_definitions.specs.B2CollideEdge.{edge-polygon-manifold}
 use Rattle.contact_definitions.proofs.Counts.{either}
-use Rattle.record_ranges.proofs.Caps.{Cap, cap-widen, cap-neg, cap-add, cap-sub, cap-mul}
-use Rattle.record_ranges.proofs.Vectors.{Caps, Placed, Turns, caps-widen, caps-neg, caps-sub, cap-dot, caps-turned}
+use Rattle.record_ranges.proofs.Caps.{Cap, cap-widen, cap-add, cap-sub, cap-mul}
+use Rattle.record_ranges.proofs.Vectors.{Caps, Placed, caps-widen, caps-neg, caps-sub, cap-dot, caps-turned}
 use Rattle.record_ranges.proofs.Vectors.{caps-turned-back, caps-carried, caps-carried-back, placed-widen}
 use Rattle.record_ranges.proofs.Vectors.{right-caps}
 use Rattle.record_ranges.proofs.Normalised.{normalised-caps}
-use Rattle.record_ranges.proofs.Clipped.{EndsCap, two-ends, Side, sides-caps}
+use Rattle.record_ranges.proofs.Clipped.{two-ends, Side, sides-caps}
 use Rattle.record_ranges.proofs.Manifolds.{Ranged, kind-ranged, ends-ranged}
 use Rattle.record_ranges.proofs.Shapes.{zero-cap, WallCaps, OutlineCaps, AtPlace}
 
@@ -205,5 +203,5 @@ wall-outline-ranged m edge xf poly h wall place caps =
     let centroid = b2-mul-transform-by-vec2 xf (poly .«m_centroid») in
     let offset1 = b2-dot (right-of edge1) (b2-sub centroid (edge .«m_vertex1»)) in
     either Ranged (edge .«m_one_sided» && lt offset1 zero32) _ _ h
-    (on-axis-ranged edge xf poly radius wall place caps (edge-polygon-axis radius edge edge1 xf poly) m edge1 h edge1-caps
-    (axis-caps radius edge edge1 xf poly edge1-caps))
+    (on-axis-ranged edge xf poly radius wall place caps (edge-polygon-axis radius edge edge1 xf poly) m edge1 h
+    edge1-caps (axis-caps radius edge edge1 xf poly edge1-caps))

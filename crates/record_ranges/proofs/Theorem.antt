@@ -1,0 +1,98 @@
+-- The headline law of this crate: after any lines, no test is refused with 9, and with neither 6 nor 7
+-- (`test-refusals`). Assumes nothing.
+use Prim.Native.Nat.{ℕ}
+use mathlib.Core.Path.{_≡_, refl, subst}
+use mathlib.Core.Bool.{not, _||_}
+use mathlib.Core.List.{List, [], _∷_}
+use native.Mathlib.Omega.{arith}
+use lib.Dec.{eqb, ltb}
+use Rattle.lines.specs.Fields.{byte-at}
+use Rattle.lines.specs.Hex.{frame-of}
+use Rattle.shape_definitions.specs.Refusal.{accepted, contact-out-of-range, malformed-frame, unknown-id}
+use Rattle.contact_definitions.proofs.Counts.{either}
+use Rattle.record_definitions.specs.declared.world.Body.{Body}
+use Rattle.record_definitions.specs.declared.world.Pair.{Pair}
+use Rattle.record_definitions.specs.declared.world.World.{World}
+use Rattle.record_definitions.specs.declared.touch.Touch.{Touch}
+use Rattle.record_definitions.specs.declared.frame.Answer.the-variants.{Refused, Tested}
+use Rattle.record_definitions.specs.declared.frame.Change.{Change}
+use Rattle.record_definitions.specs.World.{no-body, fresh-world, body-at, pair-at}
+use Rattle.record_definitions.specs.Touch.{tested}
+use Rattle.record_definitions.specs.Frame.{well-formed, largest-id, refused, listed, test-refusal, test-change}
+use Rattle.record_definitions.specs.Frame.{change-of-kind, change}
+use Rattle.record_definitions.specs.Step.{first-place, second-place, change-in, said-of-frame, after-line, said-of-line}
+use Rattle.record_definitions.proofs.SoundTests.{NotOfHost}
+use Rattle.record_definitions.proofs.Theorem.{after-lines, reached-worlds-sound, test-not-of-host}
+use Rattle.record_ranges.proofs.Bodies.{CappedBody}
+use Rattle.record_ranges.proofs.Kept.{CappedWorld, fresh-capped, frame-keeps-capped}
+use Rattle.record_ranges.proofs.Contacts.{test-not-nine}
+
+-- ---- every world that lines reach
+lines-keep-capped : (w : World) (lines : List (List ℕ)) → CappedWorld w → CappedWorld (after-lines w lines)
+lines-keep-capped w [] capped = capped
+lines-keep-capped w (line ∷ lines) capped =
+    lines-keep-capped (after-line w line) lines (frame-keeps-capped w (frame-of line) capped)
+
+pub reached-worlds-capped : (lines : List (List ℕ)) → CappedWorld (after-lines fresh-world lines)
+reached-worlds-capped lines = lines-keep-capped fresh-world lines fresh-capped
+
+-- ---- the frame of a test
+NotNine : ℕ → Type 0
+NotNine n = n ≡ contact-out-of-range → ⊥
+
+number-not-nine : (ida idb kinda kindb : ℕ) → NotNine (test-refusal ida idb kinda kindb)
+unfolding test-refusal NotNine
+number-not-nine ida idb kinda kindb =
+    either NotNine (ltb largest-id idb) _ _ (λ e. absurd (omega arith))
+    (either NotNine (eqb kinda no-body || eqb kindb no-body) _ _ (λ e. absurd (omega arith))
+    (either NotNine (eqb ida idb || not (listed kinda kindb)) _ _ (λ e. absurd (omega arith))
+    (λ e. absurd (omega arith))))
+
+module _ (a b : Body) (pair : Pair) (bytes : List ℕ) (a-caps : CappedBody a) (b-caps : CappedBody b) where
+  Says : Change → Type 0
+  Says c = (n : ℕ) → c .said .answer ≡ Refused n → NotNine n
+
+  refused-says : (m : ℕ) → NotNine m → Says (refused m a pair)
+  unfolding Says
+  refused-says m fine n e =
+      let same : m ≡ n = cc in
+      subst NotNine same fine
+
+  tested-says : (c : Change) (t : Touch) → c .said .answer ≡ Tested t → Says c
+  unfolding Says
+  tested-says c t is n e =
+      let never : _≡_ {A = ℕ} 0 1 = cc in
+      absurd (omega arith)
+
+  test-says : (ida idb : ℕ) → Says (test-change ida idb a b pair)
+  unfolding test-change NotNine
+  test-says ida idb =
+      let number = test-refusal ida idb (a .kind) (b .kind) in
+      let t = tested ida idb a b pair in
+      either Says (eqb number accepted) _ _
+      (either Says (eqb (t .refusal) accepted) _ _ (tested-says _ (t .touch) refl)
+      (refused-says (t .refusal) (test-not-nine a b a-caps b-caps ida idb pair)))
+      (refused-says number (number-not-nine ida idb (a .kind) (b .kind)))
+
+  frame-says : byte-at bytes 0 ≡ 5 → (n : ℕ) → change a b pair bytes .said .answer ≡ Refused n
+      → (n ≡ contact-out-of-range → ⊥)
+  unfolding change change-of-kind Says NotNine
+  frame-says five =
+      either Says (not (well-formed bytes)) _ _ (refused-says malformed-frame (λ e. absurd (omega arith)))
+      (either Says (ltb largest-id (byte-at bytes 1)) _ _ (refused-says unknown-id (λ e. absurd (omega arith)))
+      (rw five (test-says (byte-at bytes 1) (byte-at bytes 2))))
+
+-- ---- after any lines, a test's refusal is neither 6 nor 7 nor 9
+pub test-refusals : (lines : List (List ℕ)) (line : List ℕ) (n : ℕ) → byte-at (frame-of line) 0 ≡ 5
+    → said-of-line (after-lines fresh-world lines) line .answer ≡ Refused n
+    → NotOfHost n × (n ≡ contact-out-of-range → ⊥)
+unfolding said-of-frame change-in
+test-refusals lines line n five is =
+    let w = after-lines fresh-world lines in
+    let frame = frame-of line in
+    let capped = reached-worlds-capped lines in (
+      test-not-of-host w frame n (reached-worlds-sound lines) five is,
+      frame-says (body-at w (first-place frame)) (body-at w (second-place frame))
+          (pair-at w (first-place frame) (second-place frame)) frame (capped .each (first-place frame))
+          (capped .each (second-place frame)) five n is,
+    )
