@@ -4,6 +4,7 @@ ghost use mathlib.Core.List.{[], _∷_};
 ghost use Prim.Native.Nat.{_+_, _≤_};
 ghost use Rattle.lines.specs.Fields.{byte-at};
 ghost use Rattle.lines.specs.Hex.{largest-frame};
+ghost use Rattle.record.specs.Bodies.{both-changes};
 ghost use Rattle.record_definitions.specs.World.{fresh-world};
 ghost use Rattle.record_definitions.specs.Frame.{frame-length};
 ghost use Rattle.record_definitions.specs.Export as Export;
@@ -13,6 +14,7 @@ use bodies::world;
 use frames::frame;
 use lines::fields;
 use record_definitions::frame::Answer;
+use record_definitions::frame::Change;
 use record_definitions::frame::Said;
 
 // What is returned for a refusal: its number above this one.
@@ -69,38 +71,41 @@ fn begin_all(frames: &[u8], first: usize, outline: usize, second: usize) -> bool
     some_first & some_second & f0 & f1 & f2 & f3
 }
 
+// What two frames make of a body: the first defines its shape, the second places it.
+fn both_changes<'a>(shape: &'a [u8], placement: &'a [u8]) -> Change
+    ensures { λ r. ⌜ r ≡ both-changes (now (shape .entry)) (now (placement .entry)) ⌝ }
+{
+    let blank = world::blank_body();
+    let fresh = world::fresh_pair();
+    let c = frame::frame(blank, blank, fresh, shape);
+    let said = c.said;
+    if refusal_in(said) != 0 {
+        return c;
+    }
+    frame::frame(c.body, blank, fresh, placement)
+}
+
 // What a fresh program says of the test of two bodies that four frames define and place, or of the first frame that is
-// refused. Each frame changes its own body alone, and no pair: two bodies stand for the world.
+// refused. Each of the four changes its own body alone, and no pair: two bodies stand for the world.
 fn run<'a>(f0: &'a [u8], f1: &'a [u8], f2: &'a [u8], f3: &'a [u8]) -> Said
     requires { ⌜ Export.FourFrames (now f0) (now f1) (now f2) (now f3) ⌝ }
     ensures { λ r. ⌜ r ≡ Export.last-said fresh-world (now (f0 .entry))
         (now (f1 .entry) ∷ now (f2 .entry) ∷ now (f3 .entry) ∷ Export.test-frame ∷ []) ⌝ }
 {
-    let blank = world::blank_body();
+    let a = both_changes(f0, f1);
+    let said_a = a.said;
+    if refusal_in(said_a) != 0 {
+        return said_a;
+    }
+    let b = both_changes(f2, f3);
+    let said_b = b.said;
+    if refusal_in(said_b) != 0 {
+        return said_b;
+    }
     let fresh = world::fresh_pair();
-    let c0 = frame::frame(blank, blank, fresh, f0);
-    let said0 = c0.said;
-    if refusal_in(said0) != 0 {
-        return said0;
-    }
-    let c1 = frame::frame(c0.body, blank, fresh, f1);
-    let said1 = c1.said;
-    if refusal_in(said1) != 0 {
-        return said1;
-    }
-    let c2 = frame::frame(blank, blank, fresh, f2);
-    let said2 = c2.said;
-    if refusal_in(said2) != 0 {
-        return said2;
-    }
-    let c3 = frame::frame(c2.body, blank, fresh, f3);
-    let said3 = c3.said;
-    if refusal_in(said3) != 0 {
-        return said3;
-    }
-    let c4 = frame::frame(c1.body, c3.body, fresh, b"\x05\x00\x01");
-    let said4 = c4.said;
-    said4
+    let c = frame::frame(a.body, b.body, fresh, b"\x05\x00\x01");
+    let said = c.said;
+    said
 }
 
 // 13, 33 or 45, the bytes written to the front of the output; or 256 and a refusal, and the output as it was.

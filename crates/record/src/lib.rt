@@ -1,3 +1,2 @@
-// The touch record on input that comes in pieces, and the export for hosts in C.
+// The touch record for a C match server: one call that tests two bodies.
 pub mod export;
-pub mod feed;

@@ -4,8 +4,8 @@ use mathlib.Core.List.{[]}
 use Rattle.record_definitions.specs.declared.world.World.{World}
 use Rattle.record_definitions.specs.Reading.{Reading}
 use borrow.Author.Needs.{needs}
-use Rattle.record.proofs.feed.start.Statement.{statement}
-use Rattle.record.proofs.feed.start.Tie as tie
+use Rattle.feeding.proofs.feed.start.Statement.{statement}
+use Rattle.feeding.proofs.feed.start.Tie as tie
 
 fresh-world-requires : tie.Need-fresh-world-requires
 fresh-world-requires c κs = search needs

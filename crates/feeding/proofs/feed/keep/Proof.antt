@@ -3,8 +3,8 @@ use native.Mathlib.Omega.{arith}
 use lib.ListN.{length-set}
 use Rattle.record_definitions.proofs.Feeding.{character-kept, character-dropped}
 use borrow.Author.Needs.{needs}
-use Rattle.record.proofs.feed.keep.Statement.{statement}
-use Rattle.record.proofs.feed.keep.Tie as tie
+use Rattle.feeding.proofs.feed.keep.Statement.{statement}
+use Rattle.feeding.proofs.feed.keep.Tie as tie
 
 element-write-line : tie.Need-element-write-line
 element-write-line c = search needs

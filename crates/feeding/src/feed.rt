@@ -3,6 +3,8 @@ ghost use mathlib.Core.Path.{_≡_};
 ghost use Prim.Native.Nat.{_≤_, _<_, _%_, min};
 ghost use lib.ListN.{length, take};
 ghost use Rattle.lines.specs.Fields.{byte-at};
+ghost use Rattle.lines.specs.Hex.{largest-frame};
+ghost use Rattle.feeding.specs.Names.{Named};
 ghost use Rattle.record_definitions.specs.Reading.{kept-length, with-character, begin, reading, FedAs};
 use answers::said;
 use answers::said::LONGEST_LINE;
@@ -38,6 +40,27 @@ fn place(bytes: &[u8], at: usize) -> usize
     ensures { λ r. ⌜ (r ≡ byte-at (now (bytes .entry)) at % 8) × (r < 8) ⌝ }
 {
     (fields::byte(bytes, at) % 8) as usize
+}
+
+// A line that was read: the bytes that it says, and the places of the two bodies that they name.
+pub struct Names {
+    pub count: usize,
+    pub first: usize,
+    pub second: usize,
+}
+
+fn decode(line: &[u8], bytes: &mut [u8]) -> Names
+    requires { ⌜ largest-frame ≤ length (now bytes) ⌝ }
+    ensures { λ r. ⌜ Named (now (line .entry)) r (now (bytes .exit)) ⌝ }
+{
+    let count = hex::unhex(line, bytes);
+    let first = place(&bytes[..count], 1);
+    let second = place(&bytes[..count], 2);
+    Names {
+        count,
+        first,
+        second,
+    }
 }
 
 // A count of the characters kept; one past the row says the whole row.
@@ -77,10 +100,11 @@ pub fn feed(s: Reader, chunk: &[u8], out: &mut [u8]) -> Fed
         i += 1;
         if x == LINE_FEED {
             let mut bytes = [0u8; LARGEST_FRAME];
-            let n = hex::unhex(&line[..len], &mut bytes);
+            let d = decode(&line[..len], &mut bytes);
             len = 0;
-            let a = place(&bytes[..n], 1);
-            let b = place(&bytes[..n], 2);
+            let n = d.count;
+            let a = d.first;
+            let b = d.second;
             let k = 8 * a + b;
             let c = frame::frame(w.bodies[a], w.bodies[b], w.pairs[k], &bytes[..n]);
             let said = c.said;

@@ -7,10 +7,10 @@ use lib.Seq.{length-take-le}
 use Rattle.record_definitions.specs.Answer.{said-line}
 use Rattle.record_definitions.specs.Reading.{Reading}
 use Rattle.record_definitions.proofs.Feeding.{SoFar, nothing-yet, next-character, fed-at-end, length-lent, put-fits}
-use Rattle.record.proofs.Turns.{row-held, line-forgets, line-keeps}
+use Rattle.feeding.proofs.Turns.{row-held, line-forgets, line-keeps}
 use borrow.Author.Needs.{needs}
-use Rattle.record.proofs.feed.feed.Statement.{statement}
-use Rattle.record.proofs.feed.feed.Tie as tie
+use Rattle.feeding.proofs.feed.feed.Statement.{statement}
+use Rattle.feeding.proofs.feed.feed.Tie as tie
 
 abbrev Inv-loop : tie.InvT-loop
 Inv-loop chunk out₀ w₀ line₀ len₀ at₀ i₀ out w line len at i =
@@ -45,32 +45,14 @@ add-i c = search needs
 array-share-prefix-line : tie.Need-array-share-prefix-line Inv-loop μ-loop
 array-share-prefix-line c = search needs
 
-slice-aggregate-unhex : tie.Need-slice-aggregate-unhex Inv-loop μ-loop
-slice-aggregate-unhex c = sym (length-take-le _ _ (omega arith))
+slice-aggregate-decode : tie.Need-slice-aggregate-decode Inv-loop μ-loop
+slice-aggregate-decode c = sym (length-take-le _ _ (omega arith))
 
-slice-aggregate-unhex-2 : tie.Need-slice-aggregate-unhex-2 Inv-loop μ-loop
-slice-aggregate-unhex-2 c = search needs
+slice-aggregate-decode-2 : tie.Need-slice-aggregate-decode-2 Inv-loop μ-loop
+slice-aggregate-decode-2 c = search needs
 
-unhex-requires : tie.Need-unhex-requires Inv-loop μ-loop
-unhex-requires c κs = search needs
-
-array-share-prefix-bytes : tie.Need-array-share-prefix-bytes Inv-loop μ-loop
-array-share-prefix-bytes c = search needs
-
-slice-aggregate-place : tie.Need-slice-aggregate-place Inv-loop μ-loop
-slice-aggregate-place c = sym (length-take-le _ _ (omega arith))
-
-place-requires : tie.Need-place-requires Inv-loop μ-loop
-place-requires c κs = search needs
-
-array-share-prefix-bytes-2 : tie.Need-array-share-prefix-bytes-2 Inv-loop μ-loop
-array-share-prefix-bytes-2 c = search needs
-
-slice-aggregate-place-2 : tie.Need-slice-aggregate-place-2 Inv-loop μ-loop
-slice-aggregate-place-2 c = sym (length-take-le _ _ (omega arith))
-
-place-requires-2 : tie.Need-place-requires-2 Inv-loop μ-loop
-place-requires-2 c κs = search needs
+decode-requires : tie.Need-decode-requires Inv-loop μ-loop
+decode-requires c κs = search needs
 
 mul-k : tie.Need-mul-k Inv-loop μ-loop
 mul-k c = search needs
@@ -96,8 +78,8 @@ mul-frame-3 c = search needs
 element-copy-out-frame-3 : tie.Need-element-copy-out-frame-3 Inv-loop μ-loop
 element-copy-out-frame-3 c = search needs
 
-array-share-prefix-bytes-3 : tie.Need-array-share-prefix-bytes-3 Inv-loop μ-loop
-array-share-prefix-bytes-3 c = search needs
+array-share-prefix-bytes : tie.Need-array-share-prefix-bytes Inv-loop μ-loop
+array-share-prefix-bytes c = search needs
 
 slice-aggregate-frame : tie.Need-slice-aggregate-frame Inv-loop μ-loop
 slice-aggregate-frame c = sym (length-take-le _ _ (omega arith))
@@ -108,15 +90,13 @@ frame-requires c κs = search needs
 sub-put-said-line : tie.Need-sub-put-said-line Inv-loop μ-loop
 sub-put-said-line c =
     let before-loop = c .before .before .before .before .before .before .before .before .before in
-    let at-loop = before-loop .before .before .before .before .before .before .before .before .before in
-    let loop′ = at-loop .loop in
+    let loop′ = before-loop .before .before .before .before .before .loop in
     omega (arith, loop′ .inv .at-within, loop′ .inv .out-size)
 
 part-put-said-line-start : tie.Need-part-put-said-line-start Inv-loop μ-loop
 part-put-said-line-start c =
     let before-loop = c .before .before .before .before .before .before .before .before .before in
-    let at-loop = before-loop .before .before .before .before .before .before .before .before .before in
-    let loop′ = at-loop .loop in
+    let loop′ = before-loop .before .before .before .before .before .loop in
     omega (arith, loop′ .inv .at-within, loop′ .inv .out-size)
 
 part-put-said-line-end : tie.Need-part-put-said-line-end Inv-loop μ-loop
@@ -125,9 +105,8 @@ part-put-said-line-end c = search needs
 put-said-line-requires : tie.Need-put-said-line-requires Inv-loop μ-loop
 put-said-line-requires c κs =
     let before-if1 = c .before .before .before .before .before .before .before .before .before in
-    let at-if1 = before-if1 .before .before .before .before .before .before .before .before in
-    let if1′ = at-if1 .if1 in
-    let loop′ = at-if1 .before .before .loop in
+    let if1′ = before-if1 .before .before .before .before .if1 in
+    let loop′ = before-if1 .before .before .before .before .before .before .loop in
     let within : loop′ .at ≤ length (loop′ .out) =
     omega (arith, loop′ .inv .at-within, loop′ .inv .out-size) in
     omega (arith, if1′ .left, length-lent (loop′ .at) (loop′ .out) within)
@@ -136,10 +115,9 @@ add-at : tie.Need-add-at Inv-loop μ-loop
 add-at c =
     let put-said-line′ = c .before .before .put-said-line in
     let before-loop = c .before .before .before .before .before .before .before .before .before in
-    let before-loop = before-loop .before .before .before .before .before .before .before .before .before in
-    let loop′ = before-loop .before .before .before .before .loop in
-    let before-good = before-loop .before .before .before .before .before .before .before .before .before in
-    let good′ = before-good .before .good in
+    let at-loop = before-loop .before .before .before .before .before .before .before .before .before in
+    let loop′ = at-loop .loop in
+    let good′ = at-loop .before .before .before .before .before .before .good in
     let within : loop′ .at ≤ length (loop′ .out) =
     omega (arith, loop′ .inv .at-within, loop′ .inv .out-size) in
     let fits = put-fits (loop′ .at) (put-said-line′ .result) (loop′ .out) _ _ within (put-said-line′ .kept .0)
@@ -159,8 +137,7 @@ loop-less : tie.Need-loop-less Inv-loop μ-loop
 loop-less c =
     let before-loop-test = c .before .before .before .before .before .before .before .before .before in
     let before-loop-test = before-loop-test .before .before .before .before .before .before .before .before .before in
-    let at-loop-test = before-loop-test .before .before .before .before .before .before .before in
-    let loop-test′ = at-loop-test .loop-test in
+    let loop-test′ = before-loop-test .before .before .before .loop-test in
     omega (arith, loop-test′ .taken)
 
 loop-again : tie.Need-loop-again Inv-loop μ-loop
@@ -169,21 +146,19 @@ loop-again c =
     let put-said-line′ = c .before .before .before .before .before .before .put-said-line in
     let at-frame = c .before .before .before .before .before .before .before .before .before in
     let frame′ = at-frame .frame in
-    let place2′ = at-frame .before .before .before .before .before .place2 in
-    let at-place = at-frame .before .before .before .before .before .before .before in
-    let place′ = at-place .place in
-    let unhex′ = at-place .before .before .before .unhex in
-    let if2′ = at-place .before .before .before .before .before .before .if2 in
-    let at-loop-test = at-place .before .before .before .before .before .before .before .before .before in
-    let loop-test′ = at-loop-test .loop-test in
-    let loop′ = at-loop-test .before .loop in
-    let at-args = at-loop-test .before .before .before .before .before .before .before in
-    let args′ = at-args .args in
+    let decode′ = at-frame .before .before .before .before .before .before .decode in
+    let at-if2 = at-frame .before .before .before .before .before .before .before .before .before in
+    let if2′ = at-if2 .if2 in
+    let loop-test′ = at-if2 .before .before .before .loop-test in
+    let loop′ = at-if2 .before .before .before .before .loop in
+    let before-args = at-if2 .before .before .before .before .before .before .before .before .before in
+    let args′ = before-args .before .args in
     line-forgets (args′ .chunk .now) (args′ .out .now) _ (loop′ .out) (loop′ .w) (loop′ .line)
     (loop′ .len) (loop′ .at) (loop′ .i) _ (loop′ .inv) (loop-test′ .taken) refl (if2′ .taken) _
-    (unhex′ .ensures .bytes) (place′ .result) (place2′ .result) (place′ .ensures .0) (place2′ .ensures .0) _ _ _
-    (frame′ .result) (frame′ .ensures) _ (put-said-line′ .result) (put-said-line′ .kept .0)
-    (put-said-line′ .ensures) (c .forget .result) (if3′ .taken) (c .forget .ensures)
+    (decode′ .ensures .decoded .bytes) (decode′ .result .first) (decode′ .result .second)
+    (decode′ .ensures .first-is) (decode′ .ensures .second-is) _ _ _ (frame′ .result) (frame′ .ensures) _
+    (put-said-line′ .result) (put-said-line′ .kept .0) (put-said-line′ .ensures) (c .forget .result)
+    (if3′ .taken) (c .forget .ensures)
 
 mul-pair : tie.Need-mul-pair Inv-loop μ-loop
 mul-pair c = search needs
@@ -195,7 +170,7 @@ loop-less-2 : tie.Need-loop-less-2 Inv-loop μ-loop
 loop-less-2 c =
     let before-loop-test = c .before .before .before .before .before .before .before .before .before in
     let before-loop-test = before-loop-test .before .before .before .before .before .before .before .before .before in
-    let loop-test′ = before-loop-test .before .before .before .before .before .before .loop-test in
+    let loop-test′ = before-loop-test .before .before .loop-test in
     omega (arith, loop-test′ .taken)
 
 loop-again-2 : tie.Need-loop-again-2 Inv-loop μ-loop
@@ -204,21 +179,18 @@ loop-again-2 c =
     let put-said-line′ = c .before .before .before .before .before .put-said-line in
     let at-frame = c .before .before .before .before .before .before .before .before in
     let frame′ = at-frame .frame in
-    let place2′ = at-frame .before .before .before .before .before .place2 in
-    let at-place = at-frame .before .before .before .before .before .before .before in
-    let place′ = at-place .place in
-    let unhex′ = at-place .before .before .before .unhex in
-    let if2′ = at-place .before .before .before .before .before .before .if2 in
-    let at-loop-test = at-place .before .before .before .before .before .before .before .before .before in
-    let loop-test′ = at-loop-test .loop-test in
-    let loop′ = at-loop-test .before .loop in
-    let at-args = at-loop-test .before .before .before .before .before .before .before in
-    let args′ = at-args .args in
+    let decode′ = at-frame .before .before .before .before .before .before .decode in
+    let at-if2 = at-frame .before .before .before .before .before .before .before .before .before in
+    let if2′ = at-if2 .if2 in
+    let loop-test′ = at-if2 .before .before .before .loop-test in
+    let loop′ = at-if2 .before .before .before .before .loop in
+    let before-args = at-if2 .before .before .before .before .before .before .before .before .before in
+    let args′ = before-args .before .args in
     line-keeps (args′ .chunk .now) (args′ .out .now) _ (loop′ .out) (loop′ .w) (loop′ .line)
     (loop′ .len) (loop′ .at) (loop′ .i) _ (loop′ .inv) (loop-test′ .taken) refl (if2′ .taken) _
-    (unhex′ .ensures .bytes) (place′ .result) (place2′ .result) (place′ .ensures .0) (place2′ .ensures .0) _ _ _
-    (frame′ .result) (frame′ .ensures) _ (put-said-line′ .result) (put-said-line′ .kept .0)
-    (put-said-line′ .ensures) (if3′ .left)
+    (decode′ .ensures .decoded .bytes) (decode′ .result .first) (decode′ .result .second)
+    (decode′ .ensures .first-is) (decode′ .ensures .second-is) _ _ _ (frame′ .result) (frame′ .ensures) _
+    (put-said-line′ .result) (put-said-line′ .kept .0) (put-said-line′ .ensures) (if3′ .left)
 
 keep-requires : tie.Need-keep-requires Inv-loop μ-loop
 keep-requires c κs = search needs
@@ -283,15 +255,9 @@ feed-spec =
     shared-slice-read-x
     add-i
     array-share-prefix-line
-    slice-aggregate-unhex
-    slice-aggregate-unhex-2
-    unhex-requires
-    array-share-prefix-bytes
-    slice-aggregate-place
-    place-requires
-    array-share-prefix-bytes-2
-    slice-aggregate-place-2
-    place-requires-2
+    slice-aggregate-decode
+    slice-aggregate-decode-2
+    decode-requires
     mul-k
     add-k
     mul-frame
@@ -300,7 +266,7 @@ feed-spec =
     element-copy-out-frame-2
     mul-frame-3
     element-copy-out-frame-3
-    array-share-prefix-bytes-3
+    array-share-prefix-bytes
     slice-aggregate-frame
     frame-requires
     sub-put-said-line
