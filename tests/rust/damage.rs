@@ -33,7 +33,7 @@ impl Heat<'_> {
         let (beyond, any) = (f32::from_bits(SIZE.to_bits() + 1), float(random));
         let bad = random.of(&[beyond, -beyond, f32::NAN, f32::INFINITY, -1e30, any]);
         let small = random.of(&[0.0, 0.0024, 0.002, 1e-20]);
-        let frame = match random.below(13) {
+        let frame = match random.below(14) {
             0 => vec![2, id, 0],
             1 => floats(&[2, id, 1], &[bad, 1.0]),
             2 => floats(&[2, id, 2], &[0.0, 0.0, bad, 0.0]),
@@ -64,6 +64,7 @@ impl Heat<'_> {
                 body.turn = [bad, 0.0];
                 random.of(&[&shape_frame(other, &body), &place_frame(other, &body)]).to_vec()
             }
+            12 => floats(&[2, id, 9], &(0..18).map(|i| (i * i) as f32).collect::<Vec<f32>>()),
             _ => floats(&[4, id], &[1.0, 1.0, 0.0, 1.0]),
         };
         self.frame(&frame);

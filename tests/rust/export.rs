@@ -72,10 +72,10 @@ fn input(random: &mut Random) -> (Vec<u8>, &'static str) {
         }
         _ => {}
     }
-    // fewer points, with the length that fits
+    // too few points or too many, with the length that fits
     if random.once_in(12) {
-        let (count, frame) = (random.below(3) as usize, &mut frames[2 * (which / 2)]);
-        frame.truncate(3 + 8 * count);
+        let (count, frame) = (random.of(&[0, 1, 2, 9, 10]), &mut frames[2 * (which / 2)]);
+        frame.resize(3 + 8 * count, 0);
         frame[2] = count as u8;
     }
     let mut bytes = frames.concat();

@@ -1,7 +1,7 @@
 //! A search for what docs/LIMITS.md says of bodies on the grid. Two outlines that share a point, with no corner flatter
-//! than 1 in 16, are reported in both orders; no reported two are farther apart than 28.2 mm. A circle on such an outline
-//! without needles is reported where it touches, and nowhere else, to 1/4096 m. Two circles are reported exactly where
-//! they touch. Coordinates are whole numbers of 1/256 m here, so all but distances are exact.
+//! than 1 in 16, are reported in both orders; no reported two are farther apart than 28.2 mm. A circle on such an
+//! outline without needles is reported where it touches, and nowhere else, to 1/4096 m. Two circles are reported
+//! exactly where they touch. Coordinates are whole numbers of 1/256 m here, so all but distances are exact.
 use crate::second;
 use crate::support::{Random, Tally};
 
