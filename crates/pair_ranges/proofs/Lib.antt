@@ -1,3 +1,4 @@
 pub mod Fours
 pub mod Joined
 pub mod Tested
+pub mod Walls

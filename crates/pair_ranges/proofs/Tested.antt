@@ -19,10 +19,10 @@ abbrev head : Float → B2vec2 → Bool
 head r p = radius-in-range r && point-in-range p
 
 -- both radii, and the four coordinates of both places
-abbrev Radii : Float → Float → Bool → Type 0
+abbrev pub Radii : Float → Float → Bool → Type 0
 Radii ra rb radii = radii ≡ (radius-in-range ra && radius-in-range rb)
 
-abbrev Four : B2vec2 → B2vec2 → Bool → Type 0
+abbrev pub Four : B2vec2 → B2vec2 → Bool → Type 0
 Four p q four = four ≡ (coordinate-in-range (p .x) && coordinate-in-range (p .y) && coordinate-in-range (q .x)
     && coordinate-in-range (q .y))
 

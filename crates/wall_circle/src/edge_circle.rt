@@ -1,10 +1,10 @@
 // Wall against circle, in the wall's frame: by regions, end 1, end 2, the middle. The manifold is touched in one
 // place, once it is known how they touch.
 ghost use mathlib.Core.Path.{_≡_};
-ghost use mathlib.Core.Bool.{cond};
+ghost use mathlib.Core.Bool.{cond, _&&_};
 ghost use lib.Ieee.{lt};
 ghost use Rattle.rounding.specs.Literals.{zero32};
-ghost use Rattle.floats.specs.B2Math.{b2-neg};
+ghost use Rattle.floats.specs.B2Math.{b2-neg, b2-dot};
 ghost use Rattle.contact_definitions.specs.B2CollideCircle.{farther};
 ghost use Rattle.contact_definitions.specs.B2CollideEdge.{over-before, over-after, edge-circle-answer};
 ghost use Rattle.wall_circle.specs.EdgeCircle.{end-touch, face-touch, touch-answer};
@@ -103,6 +103,17 @@ fn over_after(edge: B2edgeShape, q: B2vec2) -> bool
     false
 }
 
+// Whether the circle is behind a one-sided wall with the normal n. Where the wall has two sides nothing is compared:
+// which side a circle is on is not to be foreseen.
+fn behind(edge: B2edgeShape, n: B2vec2, qa: B2vec2) -> bool
+    ensures { λ r. ⌜ r ≡ (edge .«m_one_sided» && lt (b2-dot n qa) zero32) ⌝ }
+{
+    if edge.m_one_sided {
+        return b2_math::b2_dot(n, qa) < 0.0;
+    }
+    false
+}
+
 // How the circle with the centre q meets the wall.
 fn wall_touch(edge: B2edgeShape, q: B2vec2, radius: f32) -> Touch
     ensures { λ r. ⌜ ((old : B2manifold) (centre : B2vec2)
@@ -119,9 +130,7 @@ fn wall_touch(edge: B2edgeShape, q: B2vec2, radius: f32) -> Touch
     let e = b2_math::b2_sub(b, a);
     let n = B2vec2 { x: e.y, y: -e.x };
     let qa = b2_math::b2_sub(q, a);
-    let offset = b2_math::b2_dot(n, qa);
-    let behind = offset < 0.0;
-    if edge.m_one_sided & behind {
+    if behind(edge, n, qa) {
         return Touch::Nothing;
     }
     let u = b2_math::b2_dot(e, b2_math::b2_sub(b, q));
@@ -138,7 +147,7 @@ fn wall_touch(edge: B2edgeShape, q: B2vec2, radius: f32) -> Touch
         }
         return end_touch(b, q, radius, 1);
     }
-    face_touch(a, b, q, e, u, v, n, offset, radius)
+    face_touch(a, b, q, e, u, v, n, b2_math::b2_dot(n, qa), radius)
 }
 
 // What the call answers: q is the circle's centre in the wall's frame, centre in its own.
