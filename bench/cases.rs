@@ -133,7 +133,9 @@ pub fn wall_circle(r: &mut Random, one_sided: bool, x: (f32, f32), y: (f32, f32)
 }
 
 /// An outline with its middle at a height above the wall's line.
-pub fn wall_outline(r: &mut Random, n: usize, one_sided: bool, height: (f32, f32)) -> Case<B2edgeShape, B2polygonShape> {
+pub fn wall_outline(
+    r: &mut Random, n: usize, one_sided: bool, height: (f32, f32),
+) -> Case<B2edgeShape, B2polygonShape> {
     let side = if !one_sided && r.unit() < 0.5 { 1.0 } else { -1.0 };
     let at_a = frame(r);
     let p = B2vec2::new(r.between(-1.5, 1.5), side * r.between(height.0, height.1));

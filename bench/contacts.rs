@@ -143,6 +143,15 @@ struct Side {
     mark: usize,
 }
 
+impl Side {
+    fn at(&self) -> *const f32 {
+        self.numbers.as_ptr()
+    }
+    fn len(&self) -> usize {
+        self.numbers.len()
+    }
+}
+
 fn side<'a, S: Shape + 'a>(all: impl Iterator<Item = (&'a S, &'a B2Transform)>) -> Side {
     let mut side = Side { numbers: vec![], mark: 0 };
     for (shape, at) in all {
@@ -159,7 +168,8 @@ fn box2d_shape<S: Shape>(shape: &S) -> *const u8 {
 
 /// A manifold with something in each field, so that one that is lost shows.
 fn old() -> Manifold {
-    let point = |x: f32, i: u8| Point { local_point: [x, 2.0 * x], impulses: [3.0 * x, 4.0 * x], id: [i, i + 1, i + 2, i + 3] };
+    let id = |i: u8| [i, i + 1, i + 2, i + 3];
+    let point = |x: f32, i: u8| Point { local_point: [x, 2.0 * x], impulses: [3.0 * x, 4.0 * x], id: id(i) };
     let points = [point(1.0, 1), point(-1.0, 9)];
     Manifold { points, local_normal: [7.0, 8.0], local_point: [9.0, 10.0], count: 2, kind: 2, refusal: 0 }
 }
@@ -229,7 +239,7 @@ fn race(name: &str, rounds: usize, mut contestants: [&mut dyn FnMut(&[u32]) -> f
     let mut r = Random(7);
     let in_turn: Vec<u32> = (0..CALLS).map(|i| (i % LEARNT) as u32).collect();
     let in_no_order: Vec<u32> = (0..2 * CALLS).map(|_| r.below(UNLEARNT) as u32).collect();
-    print!("{name:<34}");
+    print!("{name:<42}");
     for order in [&in_turn, &in_no_order] {
         let mut best = [[f64::INFINITY; 2]; 3];
         for _ in 0..rounds {
@@ -247,8 +257,8 @@ fn race(name: &str, rounds: usize, mut contestants: [&mut dyn FnMut(&[u32]) -> f
 
 struct Row<'a, A, B> {
     name: &'a str,
-    draw: &'a dyn Fn(&mut Random) -> Case<A, B>,
-    kind: &'a dyn Fn(&B2manifold) -> bool,
+    draw: Draw<'a, A, B>,
+    kind: Kind<'a>,
 }
 
 /// One row: cases of the kind it names, the same bits of every contestant on each, then the times.
@@ -259,6 +269,9 @@ fn row<A: Shape, B: Shape>(
     ours: impl Fn(&Side, &Side, &[u32]) -> Manifold,
     rust: impl Fn(&mut B2manifold, &Case<A, B>),
 ) {
+    if !crate::wanted(row.name) {
+        return;
+    }
     let mut r = Random(1);
     let mut draw = || loop {
         let case = (row.draw)(&mut r);
@@ -295,80 +308,98 @@ fn row<A: Shape, B: Shape>(
     ]);
 }
 
-fn circles(name: &str, rounds: usize, draw: &dyn Fn(&mut Random) -> Case<B2circleShape, B2circleShape>, kind: &dyn Fn(&B2manifold) -> bool) {
-    row(Row { name, draw, kind }, rounds, 7,
-        |a, b, o| unsafe { pass_circles(old(), a.numbers.as_ptr(), a.numbers.len(), b.numbers.as_ptr(), b.numbers.len(), o.as_ptr(), o.len()) },
-        |m, c| b2_collide_circles(m, &c.a, &c.at_a, &c.b, &c.at_b));
-}
-fn outline_circle(name: &str, rounds: usize, draw: &dyn Fn(&mut Random) -> Case<B2polygonShape, B2circleShape>, kind: &dyn Fn(&B2manifold) -> bool) {
-    row(Row { name, draw, kind }, rounds, 8,
-        |a, b, o| unsafe { pass_polygon_and_circle(old(), a.numbers.as_ptr(), a.numbers.len(), a.mark, b.numbers.as_ptr(), b.numbers.len(), o.as_ptr(), o.len()) },
-        |m, c| b2_collide_polygon_and_circle(m, &c.a, &c.at_a, &c.b, &c.at_b));
-}
-fn outlines(name: &str, rounds: usize, draw: &dyn Fn(&mut Random) -> Case<B2polygonShape, B2polygonShape>, kind: &dyn Fn(&B2manifold) -> bool) {
-    row(Row { name, draw, kind }, rounds, 9,
-        |a, b, o| unsafe { pass_polygons(old(), a.numbers.as_ptr(), a.numbers.len(), a.mark, b.numbers.as_ptr(), b.numbers.len(), b.mark, o.as_ptr(), o.len()) },
-        |m, c| b2_collide_polygons(m, &c.a, &c.at_a, &c.b, &c.at_b));
-}
-fn wall_circle(name: &str, rounds: usize, draw: &dyn Fn(&mut Random) -> Case<B2edgeShape, B2circleShape>, kind: &dyn Fn(&B2manifold) -> bool) {
-    row(Row { name, draw, kind }, rounds, 10,
-        |a, b, o| unsafe { pass_edge_and_circle(old(), a.numbers.as_ptr(), a.numbers.len(), a.mark != 0, b.numbers.as_ptr(), b.numbers.len(), o.as_ptr(), o.len()) },
-        |m, c| b2_collide_edge_and_circle(m, &c.a, &c.at_a, &c.b, &c.at_b));
-}
-fn wall_outline(name: &str, rounds: usize, draw: &dyn Fn(&mut Random) -> Case<B2edgeShape, B2polygonShape>, kind: &dyn Fn(&B2manifold) -> bool) {
-    row(Row { name, draw, kind }, rounds, 11,
-        |a, b, o| unsafe { pass_edge_and_polygon(old(), a.numbers.as_ptr(), a.numbers.len(), a.mark != 0, b.numbers.as_ptr(), b.numbers.len(), b.mark, o.as_ptr(), o.len()) },
-        |m, c| b2_collide_edge_and_polygon(m, &c.a, &c.at_a, &c.b, &c.at_b));
+/// Whether a manifold is of a row's kind.
+type Kind<'a> = &'a dyn Fn(&B2manifold) -> bool;
+type Draw<'a, A, B> = &'a dyn Fn(&mut Random) -> Case<A, B>;
+
+fn circles(name: &str, rounds: usize, draw: Draw<B2circleShape, B2circleShape>, kind: Kind) {
+    let ours = |a: &Side, b: &Side, o: &[u32]| unsafe {
+        pass_circles(old(), a.at(), a.len(), b.at(), b.len(), o.as_ptr(), o.len())
+    };
+    row(Row { name, draw, kind }, rounds, 7, ours, |m, c| b2_collide_circles(m, &c.a, &c.at_a, &c.b, &c.at_b));
 }
 
+fn outline_circle(name: &str, rounds: usize, draw: Draw<B2polygonShape, B2circleShape>, kind: Kind) {
+    let ours = |a: &Side, b: &Side, o: &[u32]| unsafe {
+        pass_polygon_and_circle(old(), a.at(), a.len(), a.mark, b.at(), b.len(), o.as_ptr(), o.len())
+    };
+    row(Row { name, draw, kind }, rounds, 8, ours, |m, c| {
+        b2_collide_polygon_and_circle(m, &c.a, &c.at_a, &c.b, &c.at_b)
+    });
+}
+
+fn outlines(name: &str, rounds: usize, draw: Draw<B2polygonShape, B2polygonShape>, kind: Kind) {
+    let ours = |a: &Side, b: &Side, o: &[u32]| unsafe {
+        pass_polygons(old(), a.at(), a.len(), a.mark, b.at(), b.len(), b.mark, o.as_ptr(), o.len())
+    };
+    row(Row { name, draw, kind }, rounds, 9, ours, |m, c| b2_collide_polygons(m, &c.a, &c.at_a, &c.b, &c.at_b));
+}
+
+fn wall_circle(name: &str, rounds: usize, draw: Draw<B2edgeShape, B2circleShape>, kind: Kind) {
+    let ours = |a: &Side, b: &Side, o: &[u32]| unsafe {
+        pass_edge_and_circle(old(), a.at(), a.len(), a.mark != 0, b.at(), b.len(), o.as_ptr(), o.len())
+    };
+    row(Row { name, draw, kind }, rounds, 10, ours, |m, c| {
+        b2_collide_edge_and_circle(m, &c.a, &c.at_a, &c.b, &c.at_b)
+    });
+}
+
+fn wall_outline(name: &str, rounds: usize, draw: Draw<B2edgeShape, B2polygonShape>, kind: Kind) {
+    let ours = |a: &Side, b: &Side, o: &[u32]| unsafe {
+        pass_edge_and_polygon(old(), a.at(), a.len(), a.mark != 0, b.at(), b.len(), b.mark, o.as_ptr(), o.len())
+    };
+    row(Row { name, draw, kind }, rounds, 11, ours, |m, c| {
+        b2_collide_edge_and_polygon(m, &c.a, &c.at_a, &c.b, &c.at_b)
+    });
+}
+
+/// Every row, of those whose name has the word that was asked for.
 pub fn run(rounds: usize) {
-    println!("{:<34}  {:<34}  {}", "", "the same cases in turn", "cases in no order");
-    let head = "  ours   Rust  Box2D ratio  more ns";
-    println!("{:<34}  {head}  {head}", "ns per call");
-    let is = crate::wanted;
-    for (kind, distance, is_kind) in [("touching", 1.1, &cases::touching as &dyn Fn(&B2manifold) -> bool), ("apart", 2.0, &cases::apart)] {
-        let name = format!("circles {kind}");
-        if is(&name) { circles(&name, rounds, &|r| cases::circles(r, distance), is_kind); }
+    println!("\n{:<42}  {:<35}  {}", "", "the same cases in turn", "cases in no order");
+    let head = "  ours   Rust  Box2D ratio   more";
+    println!("{:<42}  {head}  {head}", "ns per call");
+    let touching: Kind = &cases::touching;
+    let apart: Kind = &cases::apart;
+    for (what, distance, kind) in [("touching", 1.1, touching), ("apart", 2.0, apart)] {
+        circles(&format!("circles {what}"), rounds, &|r| cases::circles(r, distance), kind);
     }
     for n in [4, 8] {
-        for (kind, distance, is_kind) in [("touching", 1.1, &cases::touching as &dyn Fn(&B2manifold) -> bool), ("apart", 2.5, &cases::apart)] {
-            let name = format!("outline {n}, circle, {kind}");
-            if is(&name) { outline_circle(&name, rounds, &|r| cases::outline_circle(r, n, distance), is_kind); }
+        for (what, distance, kind) in [("touching", 1.1, touching), ("apart", 2.5, apart)] {
+            let name = format!("outline {n}, circle, {what}");
+            outline_circle(&name, rounds, &|r| cases::outline_circle(r, n, distance), kind);
         }
     }
     for n in [4, 8] {
-        for (kind, distance, is_kind) in [("overlapping", 1.2, &cases::touching as &dyn Fn(&B2manifold) -> bool), ("apart", 3.0, &cases::apart)] {
-            let name = format!("outlines {n} and {n}, {kind}");
-            if is(&name) { outlines(&name, rounds, &|r| cases::outlines(r, n, distance), is_kind); }
+        for (what, distance, kind) in [("overlapping", 1.2, touching), ("apart", 3.0, apart)] {
+            let name = format!("outlines {n} and {n}, {what}");
+            outlines(&name, rounds, &|r| cases::outlines(r, n, distance), kind);
         }
     }
-    for one_sided in [false, true] {
-        let sides = if one_sided { "one side" } else { "two sides" };
-        for (region, x, y, is_kind) in [
-            ("end 1", (-2.35, -2.1), (0.0, 0.3), &(|m: &B2manifold| cases::at_end(m, 0)) as &dyn Fn(&B2manifold) -> bool),
-            ("end 2", (2.1, 2.35), (0.0, 0.3), &|m: &B2manifold| cases::at_end(m, 1)),
+    for (sides, one) in [("two sides", false), ("one side", true)] {
+        let regions: [(&str, (f32, f32), (f32, f32), Kind); 4] = [
+            ("end 1", (-2.35, -2.1), (0.0, 0.3), &|m| cases::at_end(m, 0)),
+            ("end 2", (2.1, 2.35), (0.0, 0.3), &|m| cases::at_end(m, 1)),
             ("middle", (-1.7, 1.7), (0.1, 0.45), &cases::on_face_a),
-            ("apart", (-1.7, 1.7), (0.7, 2.0), &cases::apart),
-        ] {
+            ("apart", (-1.7, 1.7), (0.7, 2.0), apart),
+        ];
+        for (region, x, y, kind) in regions {
             let name = format!("wall of {sides}, circle, {region}");
-            if is(&name) { wall_circle(&name, rounds, &|r| cases::wall_circle(r, one_sided, x, y), is_kind); }
+            wall_circle(&name, rounds, &|r| cases::wall_circle(r, one, x, y), kind);
         }
     }
     for n in [4, 8] {
-        for one_sided in [false, true] {
-            let sides = if one_sided { "one side" } else { "two sides" };
-            let name = |what: &str| format!("wall of {sides}, outline {n}, {what}");
-            let add = |what: &str, draw: &dyn Fn(&mut Random) -> Case<B2edgeShape, B2polygonShape>, kind: &dyn Fn(&B2manifold) -> bool| {
-                if is(&name(what)) { wall_outline(&name(what), rounds, draw, kind); }
+        for (sides, one) in [("two sides", false), ("one side", true)] {
+            let add = |what: &str, draw: Draw<B2edgeShape, B2polygonShape>, kind: Kind| {
+                wall_outline(&format!("wall of {sides}, outline {n}, {what}"), rounds, draw, kind);
             };
-            add("across", &|r| cases::wall_outline(r, n, one_sided, (0.3, 0.9)), &cases::touching);
-            add("apart", &|r| cases::wall_outline(r, n, one_sided, (1.3, 3.0)), &cases::apart);
-            add("resting", &|r| cases::resting(r, n, one_sided), &cases::on_face_a);
-            add("end in face", &|r| cases::poking(r, n, one_sided), &cases::on_face_b);
+            add("across", &|r| cases::wall_outline(r, n, one, (0.3, 0.9)), touching);
+            add("apart", &|r| cases::wall_outline(r, n, one, (1.3, 3.0)), apart);
+            add("resting", &|r| cases::resting(r, n, one), &cases::on_face_a);
+            add("end in face", &|r| cases::poking(r, n, one), &cases::on_face_b);
         }
     }
-    if is("clip") { clips(rounds); }
-    if is("point states") { states(rounds); }
+    clips(rounds);
+    states(rounds);
 }
 
 /// The ids of case k: both ends of an edge on a face, and the vertex that the line is at.
@@ -377,6 +408,9 @@ fn clip_ids(k: usize) -> ([[u8; 4]; 2], usize) {
 }
 
 fn clips(rounds: usize) {
+    if !crate::wanted("clip") {
+        return;
+    }
     let mut r = Random(3);
     struct Segment {
         ends: [ClipVertex; 2],
@@ -400,12 +434,17 @@ fn clips(rounds: usize) {
         Segment { ends, rust: ends.map(as_rust), normal: r.direction(), offset: r.between(-0.5, 0.5), index }
     };
     let cases: Vec<Segment> = (0..UNLEARNT).map(&mut draw).collect();
-    let numbers = |s: &Segment| [s.ends[0].v, s.ends[1].v, [s.normal.x, s.normal.y]].concat().into_iter().chain([s.offset]).collect::<Vec<f32>>();
-    let numbers: Vec<f32> = cases.iter().flat_map(numbers).collect();
+    let seven = |s: &Segment| {
+        let ([a, b], n) = (s.ends, s.normal);
+        [a.v[0], a.v[1], b.v[0], b.v[1], n.x, n.y, s.offset]
+    };
+    let numbers: Vec<f32> = cases.iter().flat_map(seven).collect();
     let old = [ClipVertex { v: [3.0, 4.0], id: [1, 2, 3, 4] }, ClipVertex { v: [5.0, 6.0], id: [5, 6, 7, 8] }];
     let given = Clip { ends: old, count: 0, refusal: 0 };
     let ours = |o: &[u32]| unsafe { pass_clip(given, numbers.as_ptr(), numbers.len(), o.as_ptr(), o.len()) };
-    let rust = |out: &mut [B2clipVertex; 2], s: &Segment| b2_clip_segment_to_line(out, s.rust, s.normal, s.offset, s.index);
+    let rust = |out: &mut [B2clipVertex; 2], s: &Segment| {
+        b2_clip_segment_to_line(out, s.rust, s.normal, s.offset, s.index)
+    };
     let box2d = |out: &mut [ClipVertex; 2], s: &Segment| unsafe {
         box2d_clip(out.as_mut_ptr(), s.ends.as_ptr(), &s.normal.x, s.offset, s.index as i32)
     };
@@ -430,12 +469,16 @@ fn clips(rounds: usize) {
 }
 
 fn states(rounds: usize) {
+    if !crate::wanted("point states") {
+        return;
+    }
     let mut r = Random(5);
     // of each manifold its ids' bytes, and its count
     type Marks = [([u8; 8], usize); 2];
     let mut draw = |_| [(); 2].map(|_| ([0, r.below(3) as u8, 1, 0, 0, 4 + r.below(3) as u8, 1, 0], r.below(3)));
     let cases: Vec<Marks> = (0..UNLEARNT).map(&mut draw).collect();
-    let bytes: Vec<u8> = cases.iter().flatten().flat_map(|(ids, count)| ids.iter().cloned().chain([*count as u8])).collect();
+    let nine = |(ids, count): &([u8; 8], usize)| ids.iter().cloned().chain([*count as u8]).collect::<Vec<u8>>();
+    let bytes: Vec<u8> = cases.iter().flatten().flat_map(nine).collect();
     let as_box2d = |(ids, count): ([u8; 8], usize)| {
         let mut m = old_box2d();
         m.points.iter_mut().zip(ids.chunks(4)).for_each(|(p, id)| p.id.copy_from_slice(id));

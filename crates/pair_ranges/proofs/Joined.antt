@@ -24,3 +24,8 @@ ghosts-last true true v1 v2 p g =
     and-assoc (v1 && v2) p g ∙ ap (λ (t : Bool). v1 && v2 && t) (and-comm p g) ∙ sym (and-assoc (v1 && v2) g p)
 ghosts-last true false v1 v2 p g = sym (and-false (v1 && v2 && g))
 ghosts-last false rb v1 v2 p g = refl
+
+-- a wall and what heads an outline are done before the outline's points
+pub points-last : (e h v n : Bool) → (e && h) && (v && n) ≡ e && (h && v && n)
+points-last true h v n = sym (and-assoc h v n)
+points-last false h v n = refl

@@ -1,18 +1,20 @@
 -- The range tests of two shapes, of tests of their parts. Assumes nothing.
-use mathlib.Core.Path.{_≡_, sym, _∙_, ap₂}
+use mathlib.Core.Path.{_≡_, _∙_, ap₂}
 use mathlib.Core.Bool.{Bool, true, false, not, _&&_, and-assoc}
 use lib.Ieee.{Float}
 use Rattle.floats.specs.declared.b2_math.B2vec2.{B2vec2}
 use Rattle.floats.specs.Ranges.{coordinate-in-range, point-in-range, radius-in-range, normal-in-range}
 use Rattle.shape_definitions.specs.declared.b2_circle_shape.B2circleShape.{B2circleShape}
 use Rattle.shape_definitions.specs.declared.b2_polygon_shape.B2polygonShape.{B2polygonShape}
+use Rattle.shape_definitions.specs.declared.b2_edge_shape.B2edgeShape.{B2edgeShape}
 use Rattle.shape_definitions.specs.Circle.{circle-in-range}
+use Rattle.shape_definitions.specs.Edge.{edge-in-range}
 use Rattle.shape_definitions.specs.Validate.{polygon-in-range}
 use Rattle.shape_definitions.specs.Polygon.{all-points}
 use Rattle.shape_ranges.proofs.InTurn.{first-fails, first-holds}
 use lib.ListN.{take}
 use Rattle.pair_ranges.specs.Points.{points-in-range}
-use Rattle.pair_ranges.proofs.Joined.{by-shape, last-before, both-before}
+use Rattle.pair_ranges.proofs.Joined.{by-shape, last-before, both-before, points-last}
 
 -- a radius and a place
 abbrev head : Float → B2vec2 → Bool
@@ -80,19 +82,21 @@ module _ (a b : B2polygonShape) (radii four : Bool)
       → r ≡ polygon-in-range a && polygon-in-range b
   both-hold r r-is holds = r-is ∙ first-holds (radii && four) _ (points a && points b) both-tested holds ∙ both-joined
 
--- an outline alone
-module _ (b : B2polygonShape) (radius x y : Bool) (rs : radius ≡ radius-in-range (b .«m_radius»))
-    (xs : x ≡ coordinate-in-range (b .«m_centroid» .x)) (ys : y ≡ coordinate-in-range (b .«m_centroid» .y)) where
-  alone-tested : radius && (x && y) ≡ outline-head b
+-- a wall and an outline
+module _ (a : B2edgeShape) (b : B2polygonShape) (t : Bool)
+    (t-is : t ≡ (edge-in-range a && (radius-in-range (b .«m_radius»)
+    && (coordinate-in-range (b .«m_centroid» .x) && coordinate-in-range (b .«m_centroid» .y))))) where
+  wall-tested : t ≡ edge-in-range a && outline-head b
   unfolding point-in-range coordinate-in-range
-  alone-tested = ap₂ _&&_ rs (ap₂ _&&_ xs ys)
+  wall-tested = t-is
 
-  alone-joined : outline-head b && points b ≡ polygon-in-range b
+  wall-joined : (edge-in-range a && outline-head b) && points b ≡ edge-in-range a && polygon-in-range b
   unfolding polygon-in-range
-  alone-joined = sym (and-assoc (outline-head b) (corners b) (normals b))
+  wall-joined = points-last (edge-in-range a) (outline-head b) (corners b) (normals b)
 
-  pub alone-fails : not (radius && (x && y)) ≡ true → false ≡ polygon-in-range b
-  alone-fails fails = first-fails (radius && (x && y)) _ (points b) alone-tested fails ∙ alone-joined
+  pub by-wall-fails : not t ≡ true → false ≡ edge-in-range a && polygon-in-range b
+  by-wall-fails fails = first-fails t (edge-in-range a && outline-head b) (points b) wall-tested fails ∙ wall-joined
 
-  pub alone-holds : (r : Bool) → r ≡ points b → not (radius && (x && y)) ≡ false → r ≡ polygon-in-range b
-  alone-holds r r-is holds = r-is ∙ first-holds (radius && (x && y)) _ (points b) alone-tested holds ∙ alone-joined
+  pub by-wall-holds : (r : Bool) → r ≡ points b → not t ≡ false → r ≡ edge-in-range a && polygon-in-range b
+  by-wall-holds r r-is holds =
+      r-is ∙ first-holds t (edge-in-range a && outline-head b) (points b) wall-tested holds ∙ wall-joined

@@ -32,7 +32,7 @@ fn points_by_circle(vs: [B2vec2; 8], ns: [B2vec2; 8], count: usize) -> bool
     points::points_in_range(vs, ns, count)
 }
 
-fn points_by_edge(vs: [B2vec2; 8], ns: [B2vec2; 8], count: usize) -> bool
+pub fn points_by_edge(vs: [B2vec2; 8], ns: [B2vec2; 8], count: usize) -> bool
     ensures { λ r. ⌜ r ≡ points-in-range vs ns count ⌝ }
 {
     let v = polygon_range::four_within(ranges::SHAPE_LIMIT, vs, 0);
@@ -99,20 +99,6 @@ pub fn polygon_circle_in_range(a: B2polygonShape, b: B2circleShape) -> bool
     let vs = a.m_vertices;
     let ns = a.m_normals;
     points_by_circle(vs, ns, a.m_count)
-}
-
-pub fn polygon_by_edge_in_range(b: B2polygonShape) -> bool
-    ensures { λ r. ⌜ r ≡ polygon-in-range b ⌝ }
-{
-    let radius = ranges::radius_in_range(b.m_radius);
-    let x = ranges::coordinate_in_range(b.m_centroid.x);
-    let y = ranges::coordinate_in_range(b.m_centroid.y);
-    if !(radius & (x & y)) {
-        return false;
-    }
-    let vs = b.m_vertices;
-    let ns = b.m_normals;
-    points_by_edge(vs, ns, b.m_count)
 }
 
 pub fn polygons_in_range(a: B2polygonShape, b: B2polygonShape) -> bool
