@@ -1,5 +1,5 @@
 //! The contact calls beside both references, on cases that come again and again in turn, which the processor learns,
-//! and on many cases in no order, which it does not. World points join where `direct_world_points` is there.
+//! and on many cases in no order, which it does not. World points are to be one more row.
 use crate::cases::{self, Case, Random};
 use box2d_rs::b2_collision::*;
 use box2d_rs::b2_math::{B2Transform, B2vec2};
