@@ -145,6 +145,7 @@ module _ (vs ns : List B2vec2) (count : ℕ) (c : B2vec2) (radius : Float) where
           v1-is = v1-is ∙ getD-within vs index d _ (omega arith) ∙ ap (λ (b : Best). point-at vs (b .place)) best;
           v2-is = v2-is ∙ getD-within vs next d _ (omega arith) ∙ ap (point-at vs) next-is
               ∙ ap (λ (b : Best). point-at vs (place-after count (b .place))) best;
-          normal-is = normal-is ∙ getD-within ns index d _ (omega arith) ∙ ap (λ (b : Best). point-at ns (b .place)) best;
+          normal-is = normal-is ∙ getD-within ns index d _ (omega arith)
+              ∙ ap (λ (b : Best). point-at ns (b .place)) best;
         };
       }

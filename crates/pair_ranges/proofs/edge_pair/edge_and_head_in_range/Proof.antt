@@ -23,7 +23,8 @@ returns c =
     let ends = x .before in
     let radii = ends .before in
     let args = radii .before .args in
-    wall-fails (args .a) (args .radius) (args .x) (args .y) _ _ _ _ (radii .radii-in-range .ensures) (ends .four-in-range .ensures)
+    wall-fails (args .a) (args .radius) (args .x) (args .y) _ _ _ _ (radii .radii-in-range .ensures)
+    (ends .four-in-range .ensures)
     (x .coordinate-in-range .ensures) (y .coordinate-in-range2 .ensures) (c .if1 .taken)
 
 four-in-range-requires-2 : tie.Need-four-in-range-requires-2
@@ -38,7 +39,8 @@ returns-2 c =
     let ends = x .before in
     let radii = ends .before in
     let args = radii .before .args in
-    wall-holds (args .a) (args .radius) (args .x) (args .y) _ _ _ _ (radii .radii-in-range .ensures) (ends .four-in-range .ensures)
+    wall-holds (args .a) (args .radius) (args .x) (args .y) _ _ _ _ (radii .radii-in-range .ensures)
+    (ends .four-in-range .ensures)
     (x .coordinate-in-range .ensures) (y .coordinate-in-range2 .ensures) _
     (ghosts-count (args .a) _ (one-sided .if2 .taken) (c .four-in-range2 .ensures)) (tested .if1 .left)
 
@@ -50,7 +52,8 @@ returns-3 c =
     let ends = x .before in
     let radii = ends .before in
     let args = radii .before .args in
-    wall-holds (args .a) (args .radius) (args .x) (args .y) _ _ _ _ (radii .radii-in-range .ensures) (ends .four-in-range .ensures)
+    wall-holds (args .a) (args .radius) (args .x) (args .y) _ _ _ _ (radii .radii-in-range .ensures)
+    (ends .four-in-range .ensures)
     (x .coordinate-in-range .ensures) (y .coordinate-in-range2 .ensures) _ (ghosts-pass (args .a) (c .if2 .left))
     (tested .if1 .left)
 

@@ -43,7 +43,8 @@ returns-2 : tie.Need-returns-2
 returns-2 c =
     let if2 = c .before .before .if2 in
     let v-is = c .before .before .before .b2-dot2 .ensures in
-    let u-is = c .before .before .before .before .b2-dot .ensures ∙ ap (b2-dot _) (c .before .before .before .before .before .b2-sub3 .ensures) in
+    let u-is = c .before .before .before .before .b2-dot .ensures
+    ∙ ap (b2-dot _) (c .before .before .before .before .before .b2-sub3 .ensures) in
     let if1 = c .before .before .before .before .before .before .if1 in
     let behind = c .before .before .before .before .before .before .before .behind in
     let earlier = c .before .before .before .before .before .before .before .before in
@@ -61,7 +62,8 @@ returns-3 : tie.Need-returns-3
 returns-3 c =
     let if2 = c .before .before .before .if2 in
     let v-is = c .before .before .before .before .b2-dot2 .ensures in
-    let u-is = c .before .before .before .before .before .b2-dot .ensures ∙ ap (b2-dot _) (c .before .before .before .before .before .before .b2-sub3 .ensures) in
+    let u-is = c .before .before .before .before .before .b2-dot .ensures
+    ∙ ap (b2-dot _) (c .before .before .before .before .before .before .b2-sub3 .ensures) in
     let if1 = c .before .before .before .before .before .before .before .if1 in
     let behind = c .before .before .before .before .before .before .before .before .behind in
     let earlier = c .before .before .before .before .before .before .before .before .before in
@@ -79,7 +81,8 @@ returns-4 : tie.Need-returns-4
 returns-4 c =
     let if2 = c .before .before .before .if2 in
     let v-is = c .before .before .before .before .b2-dot2 .ensures in
-    let u-is = c .before .before .before .before .before .b2-dot .ensures ∙ ap (b2-dot _) (c .before .before .before .before .before .before .b2-sub3 .ensures) in
+    let u-is = c .before .before .before .before .before .b2-dot .ensures
+    ∙ ap (b2-dot _) (c .before .before .before .before .before .before .b2-sub3 .ensures) in
     let if1 = c .before .before .before .before .before .before .before .if1 in
     let behind = c .before .before .before .before .before .before .before .before .behind in
     let earlier = c .before .before .before .before .before .before .before .before .before in
@@ -97,7 +100,8 @@ returns-5 : tie.Need-returns-5
 returns-5 c =
     let if2 = c .before .before .before .before .if2 in
     let v-is = c .before .before .before .before .before .b2-dot2 .ensures in
-    let u-is = c .before .before .before .before .before .before .b2-dot .ensures ∙ ap (b2-dot _) (c .before .before .before .before .before .before .before .b2-sub3 .ensures) in
+    let u-is = c .before .before .before .before .before .before .b2-dot .ensures
+    ∙ ap (b2-dot _) (c .before .before .before .before .before .before .before .b2-sub3 .ensures) in
     let if1 = c .before .before .before .before .before .before .before .before .if1 in
     let behind = c .before .before .before .before .before .before .before .before .before .behind in
     let earlier = c .before .before .before .before .before .before .before .before .before .before in
@@ -119,7 +123,8 @@ returns-6 : tie.Need-returns-6
 returns-6 c =
     let if2 = c .before .before .before .if2 in
     let v-is = c .before .before .before .before .b2-dot2 .ensures in
-    let u-is = c .before .before .before .before .before .b2-dot .ensures ∙ ap (b2-dot _) (c .before .before .before .before .before .before .b2-sub3 .ensures) in
+    let u-is = c .before .before .before .before .before .b2-dot .ensures
+    ∙ ap (b2-dot _) (c .before .before .before .before .before .before .b2-sub3 .ensures) in
     let if1 = c .before .before .before .before .before .before .before .if1 in
     let behind = c .before .before .before .before .before .before .before .before .behind in
     let earlier = c .before .before .before .before .before .before .before .before .before in
