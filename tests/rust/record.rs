@@ -102,7 +102,9 @@ fn main() {
         (Some("touches"), 1) => {
             let mut input = Vec::new();
             std::io::stdin().read_to_end(&mut input).expect("standard input");
-            return std::io::stdout().write_all(&second::touches(&input).0).expect("standard output");
+            let (answers, agree) = second::touches(&input);
+            assert!(agree, "the second programs differ on this input");
+            return std::io::stdout().write_all(&answers).expect("standard output");
         }
         (Some("heat"), 3) => {
             let text = heat(&mut Random::new(number(2)), number(1) as usize);
