@@ -16,8 +16,8 @@ use Rattle.contact_definitions.specs.Searches.{first-greatest}
 use Rattle.contact_definitions.specs.Axis.{face-a, face-b}
 use Rattle.contact_definitions.specs.B2CollidePolygon.{face-separation, b2-find-max-separation, tolerance, axis-of}
 use Rattle.contact_definitions.specs.B2CollidePolygon.{polygons-axis}
-use Rattle.axis_search.specs.declared.rows.FarthestFace.{FarthestFace}
-use Rattle.axis_search.specs.Rows.{faced}
+use Rattle.coordinate_rows.specs.declared.rows.FarthestFace.{FarthestFace}
+use Rattle.coordinate_rows.specs.Rows.{faced}
 use Rattle.axis_search.specs.Outlines.{outlined}
 
 -- ---- what one search finds: the face and its separation, and the normal there

@@ -4,11 +4,12 @@ ghost use mathlib.Core.List.{[]};
 ghost use Prim.Native.Nat.{_<_, _≤_};
 ghost use Rattle.contact_definitions.specs.Searches.{first-greatest};
 ghost use Rattle.contact_definitions.specs.B2CollidePolygon.{face-separation, polygons-axis};
-ghost use Rattle.axis_search.specs.Rows.{faced};
+ghost use Rattle.coordinate_rows.specs.Rows.{faced};
 ghost use Rattle.axis_search.specs.Outlines.{outlined, Placed};
-use crate::rows;
-use crate::rows::FarthestFace;
 use contact_definitions::axis::Axis;
+use coordinate_rows::rows;
+use coordinate_rows::rows::FarthestFace;
+use corner_places::places;
 use floats::b2_common::B2_LINEAR_SLOP;
 use floats::b2_common::B2_MAX_FLOAT;
 use floats::b2_math::B2Transform;
@@ -32,7 +33,7 @@ pub fn max_separation_of_a(
     ensures { λ r. ⌜ (r .place < count1) × (r ≡ faced n1s
         (first-greatest (face-separation xf (outlined v1s n1s count1) (outlined v2s [] count2)) count1)) ⌝ }
 {
-    let n = rows::padded(count1);
+    let n = places::padded(count1);
     let mut nxs = [0.0f32; 8];
     let mut nys = [0.0f32; 8];
     let mut xs = [0.0f32; 8];
@@ -55,7 +56,7 @@ pub fn max_separation_of_b(
     ensures { λ r. ⌜ (r .place < count1) × (r ≡ faced n1s
         (first-greatest (face-separation xf (outlined v1s n1s count1) (outlined v2s [] count2)) count1)) ⌝ }
 {
-    let n = rows::padded(count1);
+    let n = places::padded(count1);
     let mut nxs = [0.0f32; 8];
     let mut nys = [0.0f32; 8];
     let mut xs = [0.0f32; 8];

@@ -6,11 +6,11 @@ ghost use Prim.Native.Nat.{_≤_, _<_};
 ghost use Rattle.contact_definitions.specs.B2CollideCircle.{farther};
 ghost use Rattle.circles.specs.Meetings.{AtCorner, AtFace, AtOutline, SideOf};
 use clipping::unit;
+use corner_places::places;
 use floats::b2_common::B2_EPSILON;
 use floats::b2_common::B2_MAX_FLOAT;
 use floats::b2_math;
 use floats::b2_math::B2vec2;
-use outline_builder::outline;
 
 // How a circle meets an outline: not, or with the normal's and a point's coordinates.
 pub enum Meeting {
@@ -69,7 +69,7 @@ fn circle_side(vs: [B2vec2; 8], ns: [B2vec2; 8], count: usize, c: B2vec2, radius
         }
         i += 1;
     }
-    let next = outline::after(index, count);
+    let next = places::after(index, count);
     let v1 = B2vec2 {
         x: vs[index].x,
         y: vs[index].y,

@@ -11,10 +11,11 @@ ghost use Rattle.algebra.specs.Loops.{near-any};
 ghost use Rattle.floats.specs.B2Math.{b2-length-squared};
 ghost use Rattle.shape_definitions.specs.Outline.{too-near, welded, comes-before, start, turns-closer, next, row};
 ghost use Rattle.floats.specs.B2Common.{epsilon-squared};
-ghost use Rattle.shape_definitions.specs.Outline.{place-after, edges, long-enough, normal-of-edge, with-triangle, fan};
+ghost use Rattle.shape_definitions.specs.Outline.{edges, long-enough, normal-of-edge, with-triangle, fan};
 ghost use Rattle.outline_builder.specs.Coordinates.{points-in, EightPoints};
 ghost use Rattle.outline_builder.specs.Parts.{WalkResult, NormalsResult};
 use crate::coordinates;
+use corner_places::places;
 use floats::b2_common::B2_EPSILON;
 use floats::b2_common::B2_LINEAR_SLOP;
 use floats::b2_math;
@@ -165,15 +166,6 @@ pub fn walk(ps: &[f32; 16], n: usize, i0: usize, corners: &mut [f32; 16]) -> usi
     0
 }
 
-// The place after i, the first after the last.
-pub fn after(i: usize, count: usize) -> usize
-    requires { ⌜ (i < count) × (count ≤ 8) ⌝ }
-    ensures { λ r. ⌜ (r < count) × (r ≡ place-after count i) ⌝ }
-{
-    let next = i + 1;
-    if next < count { next } else { 0 }
-}
-
 // The unit normal of an edge that is long enough, on its right; squared is the edge's squared length.
 fn normal_of_edge(edge: B2vec2, squared: f32) -> B2vec2
     requires { ⌜ (squared ≡ b2-length-squared edge) × (lt epsilon-squared squared ≡ true) ⌝ }
@@ -197,7 +189,7 @@ pub fn normals(vs: &[f32; 16], m: usize, ns: &mut [f32; 16]) -> bool
 {
     let mut i = 0usize;
     while i < m {
-        let edge = b2_math::b2_sub(coordinates::at(vs, after(i, m)), coordinates::at(vs, i));
+        let edge = b2_math::b2_sub(coordinates::at(vs, places::after(i, m)), coordinates::at(vs, i));
         let squared = b2_math::b2_length_squared(edge);
         if squared > EPSILON_SQUARED {
             coordinates::put(ns, i, normal_of_edge(edge, squared));
@@ -237,7 +229,7 @@ pub fn fan(vs: &[f32; 16], m: usize) -> FanSum
     let mut i = 0usize;
     while i < m {
         let p2 = b2_math::b2_sub(coordinates::at(vs, i), s);
-        let p3 = b2_math::b2_sub(coordinates::at(vs, after(i, m)), s);
+        let p3 = b2_math::b2_sub(coordinates::at(vs, places::after(i, m)), s);
         sum = with_triangle(p1, p2, p3, sum);
         i += 1;
     }

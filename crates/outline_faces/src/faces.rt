@@ -2,7 +2,7 @@
 ghost use mathlib.Core.Path.{_≡_};
 ghost use Prim.Native.Nat.{_<_, _≤_};
 ghost use Rattle.floats.specs.B2Math.{b2-dot};
-ghost use Rattle.shape_definitions.specs.Outline.{point-at, place-after};
+ghost use Rattle.shape_definitions.specs.Outline.{point-at};
 ghost use Rattle.contact_definitions.specs.Searches.{first-least};
 ghost use Rattle.contact_definitions.specs.B2CollidePolygon.{within-skins};
 ghost use Rattle.outline_faces.specs.Faces.{corner-of, face-of, face-vertex, incident-ends, placed-along};
@@ -10,6 +10,7 @@ use contact_definitions::b2_collide_edge::B2referenceFace;
 use contact_definitions::b2_collision::B2clipVertex;
 use contact_definitions::b2_collision::B2contactFeature;
 use contact_definitions::b2_collision::B2contactId;
+use corner_places::places;
 use floats::b2_common::B2_MAX_FLOAT;
 use floats::b2_math::B2Transform;
 use floats::b2_math::B2vec2;
@@ -40,15 +41,6 @@ pub struct Face {
     pub xf1: B2Transform,
     pub xf2: B2Transform,
     pub flip: bool,
-}
-
-// The place after i, the first after the last.
-pub fn next_index(i: usize, n: usize) -> usize
-    requires { ⌜ (i < n) × (n ≤ 8) ⌝ }
-    ensures { λ r. ⌜ (r < n) × (r ≡ place-after n i) ⌝ }
-{
-    let next = i + 1;
-    if next < n { next } else { 0 }
 }
 
 // b2_find_incident_edge: the first corner of the edge whose normal turns most against n.
@@ -96,8 +88,8 @@ pub fn face_of(
     let n = b2_mul_t_rot_by_vec2(xf2.q, b2_mul_rot_by_vec2(xf1.q, normal));
     let c = b2_find_incident_edge(n, n2s, v2s, count2);
     let i1 = c.index;
-    let i2 = next_index(i1, count2);
-    let iv2 = next_index(edge, count1);
+    let i2 = places::after(i1, count2);
+    let iv2 = places::after(edge, count1);
     let v11 = B2vec2 {
         x: v1s[edge].x,
         y: v1s[edge].y,

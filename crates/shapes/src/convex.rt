@@ -10,9 +10,9 @@ ghost use Rattle.rounding.specs.Literals.{zero32};
 ghost use Rattle.floats.specs.B2Math.{vec2, b2-sub, b2-cross};
 ghost use Rattle.shape_definitions.specs.Outline.{point-at};
 ghost use Rattle.shape_definitions.specs.Validate.{corners-not-right, faces-convex};
+use corner_places::places;
 use floats::b2_math;
 use floats::b2_math::B2vec2;
-use outline_builder::outline;
 
 // Whether v lies right of the line from p along e.
 fn right_of(p: B2vec2, e: B2vec2, v: B2vec2) -> bool
@@ -56,7 +56,7 @@ fn some_right(xs: &[f32; 8], ys: &[f32; 8], count: usize, i: usize) -> bool
     ensures { λ r. ⌜ r ≡ not (corners-not-right (zipWith vec2 (now (xs .entry)) (now (ys .entry))) count i count) ⌝ }
 {
     let p = corner(xs, ys, i);
-    let e = b2_math::b2_sub(corner(xs, ys, outline::after(i, count)), p);
+    let e = b2_math::b2_sub(corner(xs, ys, places::after(i, count)), p);
     let mut right = false;
     let mut j = 0usize;
     while j < 8 {

@@ -5,7 +5,6 @@ ghost use Prim.Native.Nat.{ℕ, _<_, _≤_};
 ghost use lib.ListN.{length};
 ghost use Rattle.floats.specs.declared.b2_math.B2Transform.{B2Transform};
 ghost use Rattle.shape_definitions.specs.declared.b2_polygon_shape.B2polygonShape.{B2polygonShape};
-ghost use Rattle.shape_definitions.specs.Outline.{place-after};
 ghost use Rattle.contact_definitions.specs.Manifold.{contact-id, as-byte};
 ghost use Rattle.contact_definitions.specs.EdgeAxis.{placed-corner, placed-normal};
 ghost use Rattle.contact_definitions.specs.EdgeReference.{face-between, most-against};
@@ -15,6 +14,7 @@ use contact_definitions::b2_collide_edge::B2referenceFace;
 use contact_definitions::b2_collision::B2clipVertex;
 use contact_definitions::b2_collision::B2contactFeature;
 use contact_definitions::b2_collision::B2contactId;
+use corner_places::places;
 use floats::b2_math;
 use floats::b2_math::B2vec2;
 
@@ -65,15 +65,6 @@ fn most_against(
         i += 1;
     }
     Corner { index, v }
-}
-
-// The place after i, the first after the last.
-fn next_index(i: usize, count: usize) -> usize
-    requires { ⌜ (i < count) × (count ≤ 8) ⌝ }
-    ensures { λ r. ⌜ (r < count) × (r ≡ place-after count i) ⌝ }
-{
-    let next = i + 1;
-    if next < count { next } else { 0 }
 }
 
 // What is clipped against what: the reference face, the ends of the edge that is clipped to it, the normal and the
@@ -153,7 +144,7 @@ pub fn reference_a(
 {
     let c = most_against(normal, nxs, nys, xs, ys, count);
     let i1 = c.index;
-    let i2 = next_index(i1, count);
+    let i2 = places::after(i1, count);
     let w1 = c.v;
     let w2 = row_point(xs, ys, i2);
     Reference {
@@ -186,7 +177,7 @@ pub fn reference_b(
         → PointRows (placed-normal xf poly) count (now (nxs .entry)) (now (nys .entry))
         → r ≡ face-reference xf poly v1 v2 i1 «local_normal» «local_point») ⌝ }
 {
-    let i2 = next_index(i1, count);
+    let i2 = places::after(i1, count);
     let w1 = row_point(xs, ys, i1);
     let w2 = row_point(xs, ys, i2);
     let normal = row_point(nxs, nys, i1);

@@ -1,9 +1,8 @@
 // b2_compute_edge_separation: the side of the wall that the outline is farther on.
 ghost use mathlib.Core.Path.{_≡_};
-ghost use mathlib.Core.Bool.{cond};
 ghost use mathlib.Core.List.{[], _∷_};
 ghost use Prim.Native.Nat.{ℕ, _≤_};
-ghost use lib.Ieee.{Float, neg, lt};
+ghost use lib.Ieee.{Float, neg};
 ghost use lib.ListN.{length};
 ghost use Rattle.rounding.specs.Literals.{zero32};
 ghost use Rattle.floats.specs.declared.b2_math.B2Transform.{B2Transform};
@@ -45,13 +44,6 @@ fn side_rows(
     }
 }
 
-// d where it is below m, else m.
-fn lesser(m: f32, d: f32) -> f32
-    ensures { λ r. ⌜ r ≡ cond (lt d m) d m ⌝ }
-{
-    if d < m { d } else { m }
-}
-
 // The least distance in front and the least behind.
 struct Least {
     front: f32,
@@ -67,8 +59,8 @@ fn least_of(f: &[f32; 8], b: &[f32; 8], count: usize) -> Least
     let mut back: f32 = B2_MAX_FLOAT;
     let mut i = 0usize;
     while i < count {
-        front = lesser(front, f[i]);
-        back = lesser(back, b[i]);
+        front = b2_math::b2_min(f[i], front);
+        back = b2_math::b2_min(b[i], back);
         i += 1;
     }
     Least { front, back }

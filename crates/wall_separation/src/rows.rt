@@ -10,14 +10,6 @@ use floats::b2_math;
 use floats::b2_math::B2Transform;
 use floats::b2_math::B2vec2;
 
-// How many places of a row are filled: 4 or 8.
-pub fn padded(count: usize) -> usize
-    requires { ⌜ count ≤ 8 ⌝ }
-    ensures { λ r. ⌜ (count ≤ r) × (r ≤ 8) ⌝ }
-{
-    if count <= 4 { 4 } else { 8 }
-}
-
 // The first n corners, carried by xf.
 pub fn place_rows(xf: B2Transform, vs: [B2vec2; 8], n: usize, xs: &mut [f32; 8], ys: &mut [f32; 8])
     requires { ⌜ (n ≤ 8) × (length (now xs) ≡ 8) × (length (now ys) ≡ 8) ⌝ }

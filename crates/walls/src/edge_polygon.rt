@@ -17,6 +17,7 @@ ghost use Rattle.walls.specs.Places.{place-below};
 use clipping::manifolds;
 use contact_definitions::axis::Axis;
 use contact_definitions::b2_collision::B2manifold;
+use corner_places::places;
 use floats::b2_math;
 use floats::b2_math::B2Transform;
 use floats::b2_math::B2vec2;
@@ -185,7 +186,7 @@ pub fn edge_polygon_manifold(
     if centroid_behind(edge, normal1, xf, polygon.m_centroid) {
         return manifolds::no_points(m);
     }
-    let n = rows::padded(count);
+    let n = places::padded(count);
     let mut xs = [0.0f32; 8];
     let mut ys = [0.0f32; 8];
     let vs = polygon.m_vertices;

@@ -14,11 +14,11 @@ b2-mul-t-rot-by-vec2-requires c κs = search needs
 b2-find-incident-edge-requires : tie.Need-b2-find-incident-edge-requires
 b2-find-incident-edge-requires c κs = search needs
 
-next-index-requires : tie.Need-next-index-requires
-next-index-requires c κs = (c .b2-find-incident-edge .ensures .0, omega arith)
+after-requires : tie.Need-after-requires
+after-requires c κs = (c .b2-find-incident-edge .ensures .0, omega arith)
 
-next-index-requires-2 : tie.Need-next-index-requires-2
-next-index-requires-2 c κs = search needs
+after-requires-2 : tie.Need-after-requires-2
+after-requires-2 c κs = search needs
 
 mul-t24 : tie.Need-mul-t24
 mul-t24 c = search needs
@@ -58,8 +58,8 @@ element-copy-out-t31-3 c = search needs
 
 returns : tie.Need-returns
 returns c =
-    let next-index2 = c .before .next-index2 in
-    let next-index = c .before .before .next-index in
+    let after2 = c .before .after2 in
+    let after = c .before .before .after in
     let b2-find-incident-edge = c .before .before .before .b2-find-incident-edge in
     let b2-mul-t-rot-by-vec2 = c .before .before .before .before .b2-mul-t-rot-by-vec2 in
     let b2-mul-rot-by-vec2 = c .before .before .before .before .before .b2-mul-rot-by-vec2 in
@@ -68,13 +68,13 @@ returns c =
     let pre = c .before .before .before .before .before .before .pre in
     let v1s-size = good .0 .1 .0 .1 in
     let v2s-size = good .1 .1 .1 .1 .1 .0 .1 .0 .1 in
-    let i2-in = next-index .ensures .0 in
-    let iv2-in = next-index2 .ensures .0 in
+    let i2-in = after .ensures .0 in
+    let iv2-in = after2 .ensures .0 in
     face-is (args .t1) (args .edge) (args .normal) (args .count1) (args .xf1) (args .t6) (args .n2s) (args .count2)
     (args .xf2)
     (args .flip) _ _ _ _ _ _ (b2-mul-rot-by-vec2 .ensures) (b2-mul-t-rot-by-vec2 .ensures)
     (b2-find-incident-edge .ensures .1)
-    (next-index .ensures .1) (next-index2 .ensures .1) (omega (arith, pre .0, pre .1)) (omega (arith, pre .1))
+    (after .ensures .1) (after2 .ensures .1) (omega (arith, pre .0, pre .1)) (omega (arith, pre .1))
     (omega (arith, pre .3))
 
 pub face-of-spec : {M : Type 1} → statement M
@@ -84,8 +84,8 @@ face-of-spec =
     b2-mul-rot-by-vec2-requires
     b2-mul-t-rot-by-vec2-requires
     b2-find-incident-edge-requires
-    next-index-requires
-    next-index-requires-2
+    after-requires
+    after-requires-2
     mul-t24
     element-copy-out-t27
     mul-t28

@@ -7,8 +7,8 @@ use Rattle.wall_reference.proofs.edge_reference.reference_a.Tie as tie
 most-against-requires : tie.Need-most-against-requires
 most-against-requires c κs = search needs
 
-next-index-requires : tie.Need-next-index-requires
-next-index-requires c κs = search needs
+after-requires : tie.Need-after-requires
+after-requires c κs = search needs
 
 row-point-requires : tie.Need-row-point-requires
 row-point-requires c κs = search needs
@@ -31,10 +31,10 @@ returns c =
     let face-between′ = c .before .before .face-between in
     let b2-neg′ = c .before .before .before .b2-neg in
     let row-point′ = c .before .before .before .before .row-point in
-    let next-index′ = c .before .before .before .before .before .before .next-index in
+    let after′ = c .before .before .before .before .before .before .after in
     let most-against′ = c .before .before .before .before .before .before .before .most-against in
     let most = most-against′ .ensures in
-    let next = next-index′ .ensures in
+    let next = after′ .ensures in
     λ xf poly count-is corners normals.
     wall-reference-is xf poly _ _ _ count-is _ _ _ _ _ _ _ _ _ _ (most .2 xf poly count-is normals) (next .1)
     (most .1 _ corners) (row-point′ .ensures _ _ (next .0) corners) (b2-neg′ .ensures) (face-between′ .ensures)
@@ -45,7 +45,7 @@ reference-a-spec =
     tie.close
     (tie.spec
     most-against-requires
-    next-index-requires
+    after-requires
     row-point-requires
     b2-neg-requires
     face-between-requires

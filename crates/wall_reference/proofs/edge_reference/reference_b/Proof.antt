@@ -4,8 +4,8 @@ use borrow.Author.Needs.{needs}
 use Rattle.wall_reference.proofs.edge_reference.reference_b.Statement.{statement}
 use Rattle.wall_reference.proofs.edge_reference.reference_b.Tie as tie
 
-next-index-requires : tie.Need-next-index-requires
-next-index-requires c κs = search needs
+after-requires : tie.Need-after-requires
+after-requires c κs = search needs
 
 row-point-requires : tie.Need-row-point-requires
 row-point-requires c κs = search needs
@@ -37,9 +37,9 @@ returns c =
     let row-point2′ = c .before .before .before .before .before .before .row-point2 in
     let row-point′ = c .before .before .before .before .before .before .before .row-point in
     let earlier = c .before .before .before .before .before .before .before .before in
-    let next-index′ = earlier .next-index in
+    let after′ = earlier .after in
     let pre′ = earlier .before .pre in
-    let next = next-index′ .ensures in
+    let next = after′ .ensures in
     λ xf poly count-is corners normals.
     face-reference-is xf poly _ _ _ count-is _ _ _ _ _ _ _ _ _ _ _ (next .1)
     (row-point′ .ensures _ _ (pre′ .0) corners) (row-point2′ .ensures _ _ (next .0) corners)
@@ -50,7 +50,7 @@ pub reference-b-spec : {M : Type 1} → statement M
 reference-b-spec =
     tie.close
     (tie.spec
-    next-index-requires
+    after-requires
     row-point-requires
     row-point-requires-2
     row-point-requires-3

@@ -26,23 +26,23 @@ loop-holds : tie.Need-loop-holds Inv-loop μ-loop
 loop-holds c =
     (omega arith, omega arith, c .pre .1, c .pre .2, λ ahead behind f b. (least-begun ahead _, least-begun behind _))
 
-mul-lesser : tie.Need-mul-lesser Inv-loop μ-loop
-mul-lesser c = search needs
+mul-b2-min : tie.Need-mul-b2-min Inv-loop μ-loop
+mul-b2-min c = search needs
 
-element-copy-out-lesser : tie.Need-element-copy-out-lesser Inv-loop μ-loop
-element-copy-out-lesser c = search needs
+element-copy-out-b2-min : tie.Need-element-copy-out-b2-min Inv-loop μ-loop
+element-copy-out-b2-min c = search needs
 
-lesser-requires : tie.Need-lesser-requires Inv-loop μ-loop
-lesser-requires c κs = search needs
+b2-min-requires : tie.Need-b2-min-requires Inv-loop μ-loop
+b2-min-requires c κs = search needs
 
-mul-lesser-2 : tie.Need-mul-lesser-2 Inv-loop μ-loop
-mul-lesser-2 c = search needs
+mul-b2-min-2 : tie.Need-mul-b2-min-2 Inv-loop μ-loop
+mul-b2-min-2 c = search needs
 
-element-copy-out-lesser-2 : tie.Need-element-copy-out-lesser-2 Inv-loop μ-loop
-element-copy-out-lesser-2 c = search needs
+element-copy-out-b2-min-2 : tie.Need-element-copy-out-b2-min-2 Inv-loop μ-loop
+element-copy-out-b2-min-2 c = search needs
 
-lesser-requires-2 : tie.Need-lesser-requires-2 Inv-loop μ-loop
-lesser-requires-2 c κs = search needs
+b2-min-requires-2 : tie.Need-b2-min-requires-2 Inv-loop μ-loop
+b2-min-requires-2 c κs = search needs
 
 add-i : tie.Need-add-i Inv-loop μ-loop
 add-i c = search needs
@@ -52,7 +52,7 @@ loop-less c = search needs
 
 loop-again : tie.Need-loop-again Inv-loop μ-loop
 loop-again c =
-    let lesser′ = c .before .before .lesser in
+    let min′ = c .before .before .b2-min in
     let loop′ = c .before .before .before .before .before .loop in
     let i = loop′ .i in
     let inv = loop′ .inv in (
@@ -61,9 +61,9 @@ loop-again c =
       inv .2,
       inv .3,
       λ ahead behind f b. (
-        least-next ahead _ _ _ _ i _ (omega arith) (f .at i _ (omega arith)) (lesser′ .ensures)
+        least-next ahead _ _ _ _ i _ (omega arith) (f .at i _ (omega arith)) (min′ .ensures)
             (inv .4 ahead behind f b .0),
-        least-next behind _ _ _ _ i _ (omega arith) (b .at i _ (omega arith)) (c .lesser2 .ensures)
+        least-next behind _ _ _ _ i _ (omega arith) (b .at i _ (omega arith)) (c .b2-min2 .ensures)
             (inv .4 ahead behind f b .1),
       ),
     )
@@ -85,12 +85,12 @@ least-of-spec =
     Inv-loop
     μ-loop
     loop-holds
-    mul-lesser
-    element-copy-out-lesser
-    lesser-requires
-    mul-lesser-2
-    element-copy-out-lesser-2
-    lesser-requires-2
+    mul-b2-min
+    element-copy-out-b2-min
+    b2-min-requires
+    mul-b2-min-2
+    element-copy-out-b2-min-2
+    b2-min-requires-2
     add-i
     loop-less
     loop-again

@@ -4,12 +4,12 @@ use Prim.Native.Nat.{ℕ, _≤_, _-_}
 use native.Mathlib.Omega.{arith}
 use lib.ListN.{length}
 use Rattle.floats.specs.B2Math.{b2-mul-rot-by-vec2, b2-mul-transform-by-vec2}
-use Rattle.axis_search.specs.Rows.{FaceRows}
+use Rattle.coordinate_rows.specs.Rows.{FaceRows}
 use Rattle.algebra.proofs.Lists.{getD-within}
-use Rattle.axis_search.proofs.Places.{face-rows-next}
+use Rattle.coordinate_rows.proofs.Places.{face-rows-next}
 use borrow.Author.Needs.{needs}
-use Rattle.axis_search.proofs.rows.face_rows.Statement.{statement}
-use Rattle.axis_search.proofs.rows.face_rows.Tie as tie
+use Rattle.coordinate_rows.proofs.rows.face_rows.Statement.{statement}
+use Rattle.coordinate_rows.proofs.rows.face_rows.Tie as tie
 
 abbrev Inv-loop : tie.InvT-loop
 Inv-loop xf n nxs₀ nys₀ xs₀ ys₀ vs ns i₀ nxs nys xs ys i =

@@ -15,8 +15,8 @@ use Rattle.floats.specs.declared.b2_math.B2Transform.{B2Transform}
 use Rattle.floats.specs.B2Math.{vec2, b2-sub, b2-dot, b2-mul-rot-by-vec2, b2-mul-transform-by-vec2}
 use Rattle.shape_definitions.specs.Outline.{origin, point-at}
 use Rattle.contact_definitions.specs.declared.axis.Best.{Best}
-use Rattle.axis_search.specs.declared.rows.FarthestFace.{FarthestFace}
-use Rattle.axis_search.specs.Rows.{Eight, at, vector-at, FaceRows, distance-at, faced}
+use Rattle.coordinate_rows.specs.declared.rows.FarthestFace.{FarthestFace}
+use Rattle.coordinate_rows.specs.Rows.{Eight, at, vector-at, FaceRows, distance-at, faced}
 
 pub eight-set : (row : List Float) (i : ℕ) (x : Float) → Eight row → Eight (set row i x)
 eight-set row i x eight = length-set row i x ∙ eight

@@ -2,16 +2,17 @@
 use mathlib.Core.Path.{_≡_, refl, _∙_, ap₂}
 use Prim.Native.Nat.{ℕ, _<_, _≤_, _-_}
 use native.Mathlib.Omega.{arith}
-use Rattle.axis_search.specs.Rows.{Eight, at, lesser, distance-at}
-use Rattle.axis_search.proofs.Places.{eight-set, row-next, rest-next, distance-is}
+use Rattle.floats.specs.B2Math.{b2-min}
+use Rattle.coordinate_rows.specs.Rows.{Eight, at, distance-at}
+use Rattle.coordinate_rows.proofs.Places.{eight-set, row-next, rest-next, distance-is}
 use borrow.Author.Needs.{needs}
-use Rattle.axis_search.proofs.rows.lower.Statement.{statement}
-use Rattle.axis_search.proofs.rows.lower.Tie as tie
+use Rattle.coordinate_rows.proofs.rows.lower.Statement.{statement}
+use Rattle.coordinate_rows.proofs.rows.lower.Tie as tie
 
 abbrev Inv-loop : tie.InvT-loop
 Inv-loop nxs nys xs ys n v s₀ i₀ s i =
     (i ≤ n) × (n ≤ 8) × Eight nxs × Eight nys × Eight xs × Eight ys × Eight s
-    × ((k : ℕ) → k < i → at s k ≡ lesser (at s₀ k) (distance-at nxs nys xs ys v k)) × ((k : ℕ) → i ≤ k → at s k ≡ at
+    × ((k : ℕ) → k < i → at s k ≡ b2-min (distance-at nxs nys xs ys v k) (at s₀ k)) × ((k : ℕ) → i ≤ k → at s k ≡ at
     s₀ k)
 
 abbrev μ-loop : tie.MeasureT-loop
@@ -54,14 +55,14 @@ mul-d-4 c = search needs
 element-copy-out-d-4 : tie.Need-element-copy-out-d-4 Inv-loop μ-loop
 element-copy-out-d-4 c = search needs
 
-mul-lesser : tie.Need-mul-lesser Inv-loop μ-loop
-mul-lesser c = search needs
+mul-b2-min : tie.Need-mul-b2-min Inv-loop μ-loop
+mul-b2-min c = search needs
 
-element-copy-out-lesser : tie.Need-element-copy-out-lesser Inv-loop μ-loop
-element-copy-out-lesser c = search needs
+element-copy-out-b2-min : tie.Need-element-copy-out-b2-min Inv-loop μ-loop
+element-copy-out-b2-min c = search needs
 
-lesser-requires : tie.Need-lesser-requires Inv-loop μ-loop
-lesser-requires c κs = search needs
+b2-min-requires : tie.Need-b2-min-requires Inv-loop μ-loop
+b2-min-requires c κs = search needs
 
 mul-s : tie.Need-mul-s Inv-loop μ-loop
 mul-s c = search needs
@@ -96,8 +97,8 @@ loop-again c =
       inv .4,
       inv .5,
       eight-set s i _ (inv .6),
-      row-next s i _ (λ k. lesser (at old k) (distance-at nxs nys xs ys v k)) (omega (arith, inv .6)) (inv .7)
-          (c .lesser .ensures ∙ ap₂ lesser (inv .8 i (omega arith)) (distance-is nxs nys xs ys v i)),
+      row-next s i _ (λ k. b2-min (distance-at nxs nys xs ys v k) (at old k)) (omega (arith, inv .6)) (inv .7)
+          (c .b2-min .ensures ∙ ap₂ b2-min (distance-is nxs nys xs ys v i) (inv .8 i (omega arith))),
       rest-next s i _ old (inv .8),
     )
 
@@ -122,9 +123,9 @@ lower-spec =
     element-copy-out-d-3
     mul-d-4
     element-copy-out-d-4
-    mul-lesser
-    element-copy-out-lesser
-    lesser-requires
+    mul-b2-min
+    element-copy-out-b2-min
+    b2-min-requires
     mul-s
     element-write-s
     add-i

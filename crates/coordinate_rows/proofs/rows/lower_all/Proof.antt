@@ -3,11 +3,11 @@ use mathlib.Core.Path.{_≡_}
 use Prim.Native.Nat.{_≤_, _-_}
 use native.Mathlib.Omega.{arith}
 use lib.ListN.{length}
-use Rattle.axis_search.specs.Rows.{Eight}
-use Rattle.axis_search.proofs.Separation.{Lowest, lowest-starts, lowest-next, lowest-ended}
+use Rattle.coordinate_rows.specs.Rows.{Eight}
+use Rattle.coordinate_rows.proofs.Lowest.{Lowest, lowest-starts, lowest-next, lowest-ended}
 use borrow.Author.Needs.{needs}
-use Rattle.axis_search.proofs.rows.lower_all.Statement.{statement}
-use Rattle.axis_search.proofs.rows.lower_all.Tie as tie
+use Rattle.coordinate_rows.proofs.rows.lower_all.Statement.{statement}
+use Rattle.coordinate_rows.proofs.rows.lower_all.Tie as tie
 
 abbrev Inv-loop : tie.InvT-loop
 Inv-loop nxs nys xs ys n count2 s₀ v2s j₀ s j =

@@ -5,8 +5,8 @@ use Prim.Native.Nat.{_+_}
 use native.Mathlib.Omega.{arith}
 use borrow.Author.Tests.{lt-ltb, le-ltb}
 use borrow.Author.Needs.{needs}
-use Rattle.outline_builder.proofs.outline.after.Statement.{statement}
-use Rattle.outline_builder.proofs.outline.after.Tie as tie
+use Rattle.corner_places.proofs.places.after.Statement.{statement}
+use Rattle.corner_places.proofs.places.after.Tie as tie
 
 add-next : tie.Need-add-next
 add-next c = search needs

@@ -9,11 +9,11 @@ use Rattle.algebra.specs.Loops.{places, scan}
 use Rattle.contact_definitions.specs.Searches.{valued, is-greater, first-greatest}
 use Rattle.contact_definitions.proofs.Searches.{scan-starts, replaced-by, kept-over, scanned-all}
 use Rattle.contact_definitions.specs.declared.axis.Best.{Best}
-use Rattle.axis_search.specs.Rows.{Eight, at}
-use Rattle.axis_search.proofs.Places.{faced-is}
+use Rattle.coordinate_rows.specs.Rows.{Eight, at}
+use Rattle.coordinate_rows.proofs.Places.{faced-is}
 use borrow.Author.Needs.{needs}
-use Rattle.axis_search.proofs.rows.greatest.Statement.{statement}
-use Rattle.axis_search.proofs.rows.greatest.Tie as tie
+use Rattle.coordinate_rows.proofs.rows.greatest.Statement.{statement}
+use Rattle.coordinate_rows.proofs.rows.greatest.Tie as tie
 
 abbrev Inv-loop : tie.InvT-loop
 Inv-loop s count ns place₀ value₀ i₀ place value i =

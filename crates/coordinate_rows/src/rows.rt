@@ -2,11 +2,13 @@
 // a time. Places from the count on are worked out and never read.
 ghost use mathlib.Core.Path.{_≡_};
 ghost use Prim.Native.Nat.{ℕ, _<_, _≤_};
+ghost use Rattle.floats.specs.B2Math.{b2-min};
 ghost use Rattle.contact_definitions.specs.Searches.{first-greatest};
-ghost use Rattle.axis_search.specs.Rows.{Eight, at, FaceRows, lesser, distance-at, LeastRow, faced};
+ghost use Rattle.coordinate_rows.specs.Rows.{Eight, at, FaceRows, distance-at, LeastRow, faced};
 use floats::b2_common::B2_MAX_FLOAT;
 use floats::b2_math::B2Transform;
 use floats::b2_math::B2vec2;
+use floats::b2_math::b2_min;
 use floats::b2_math::b2_mul_rot_by_vec2;
 use floats::b2_math::b2_mul_transform_by_vec2;
 
@@ -15,14 +17,6 @@ pub struct FarthestFace {
     pub place: usize,
     pub value: f32,
     pub normal: B2vec2,
-}
-
-// 4 or 8: how many places of a row are worked out.
-pub fn padded(count: usize) -> usize
-    requires { ⌜ count ≤ 8 ⌝ }
-    ensures { λ r. ⌜ (count ≤ r) × (r ≤ 8) ⌝ }
-{
-    if count <= 4 { 4 } else { 8 }
 }
 
 // The first n faces of one outline, normals and first corners, carried by xf.
@@ -51,13 +45,6 @@ pub fn face_rows(
     }
 }
 
-// d where it is below m, else m.
-pub fn lesser(m: f32, d: f32) -> f32
-    ensures { λ r. ⌜ r ≡ lesser m d ⌝ }
-{
-    if d < m { d } else { m }
-}
-
 // Every face's least distance so far, with one corner more.
 pub fn lower(
     nxs: &[f32; 8],
@@ -69,13 +56,14 @@ pub fn lower(
     s: &mut [f32; 8],
 )
     requires { ⌜ (n ≤ 8) × Eight (now nxs) × Eight (now nys) × Eight (now xs) × Eight (now ys) × Eight (now s) ⌝ }
-    ensures { λ _. ⌜ Eight (now (s .exit)) × ((i : ℕ) → i < n → at (now (s .exit)) i ≡ lesser (at (now (s .entry)) i)
-        (distance-at (now (nxs .entry)) (now (nys .entry)) (now (xs .entry)) (now (ys .entry)) v i)) ⌝ }
+    ensures { λ _. ⌜ Eight (now (s .exit)) × ((i : ℕ) → i < n → at (now (s .exit)) i
+        ≡ b2-min (distance-at (now (nxs .entry)) (now (nys .entry)) (now (xs .entry)) (now (ys .entry)) v i)
+        (at (now (s .entry)) i)) ⌝ }
 {
     let mut i = 0usize;
     while i < n {
         let d = nxs[i] * (v.x - xs[i]) + nys[i] * (v.y - ys[i]);
-        s[i] = lesser(s[i], d);
+        s[i] = b2_min(d, s[i]);
         i += 1;
     }
 }

@@ -1,11 +1,10 @@
 -- Rows of eight numbers: one coordinate of the normal, or of the first corner, of each face of an outline in the frame
 -- of the other. Places from a count on are worked out and never read. Definitions only.
 use mathlib.Core.Path.{_≡_}
-use mathlib.Core.Bool.{cond}
 use mathlib.Core.List.{List, map}
 use Prim.Native.Nat.{ℕ, _<_}
 use lib.ListN.{length, getD}
-use lib.Ieee.{Float, nan, lt}
+use lib.Ieee.{Float, nan}
 use Rattle.algebra.specs.Loops.{places, scan}
 use Rattle.floats.specs.declared.b2_math.B2vec2.{B2vec2}
 use Rattle.floats.specs.declared.b2_math.B2Transform.{B2Transform}
@@ -13,7 +12,7 @@ use Rattle.floats.specs.B2Math.{vec2, b2-sub, b2-dot, b2-mul-rot-by-vec2, b2-mu
 use Rattle.shape_definitions.specs.Outline.{point-at}
 use Rattle.contact_definitions.specs.declared.axis.Best.{Best}
 use Rattle.contact_definitions.specs.Searches.{below-value}
-use Rattle.axis_search.specs.declared.rows.FarthestFace.{FarthestFace}
+use Rattle.coordinate_rows.specs.declared.rows.FarthestFace.{FarthestFace}
 
 abbrev pub Eight : List Float → Type 0
 Eight row = length row ≡ 8
@@ -36,9 +35,6 @@ pub record FaceRows (xf : B2Transform) (vs ns : List B2vec2) (n : ℕ) (nxs nys 
   pub corners : (i : ℕ) → i < n → vector-at xs ys i ≡ b2-mul-transform-by-vec2 xf (point-at vs i)
 
 -- ---- the least distance
-abbrev pub lesser : Float → Float → Float
-lesser m d = cond (lt d m) d m
-
 -- how far v lies in front of the face at place i
 abbrev pub distance-at : List Float → List Float → List Float → List Float → B2vec2 → ℕ → Float
 distance-at nxs nys xs ys v i = b2-dot (vector-at nxs nys i) (b2-sub v (vector-at xs ys i))
