@@ -189,7 +189,10 @@ pub fn normals(vs: &[f32; 16], m: usize, ns: &mut [f32; 16]) -> bool
 {
     let mut i = 0usize;
     while i < m {
-        let edge = b2_math::b2_sub(coordinates::at(vs, places::after(i, m)), coordinates::at(vs, i));
+        let edge = b2_math::b2_sub(
+            coordinates::at(vs, places::after(i, m)),
+            coordinates::at(vs, i),
+        );
         let squared = b2_math::b2_length_squared(edge);
         if squared > EPSILON_SQUARED {
             coordinates::put(ns, i, normal_of_edge(edge, squared));

@@ -20,8 +20,7 @@ use Rattle.contact_definitions.specs.B2CollidePolygon.{manifold-on, polygons-ma
 use Rattle.axis_search.specs.Outlines.{outlined, Placed}
 use Rattle.outline_faces.specs.declared.faces.Face.{Face}
 use Rattle.outline_faces.specs.Faces.{face-of}
-use Rattle.outline_pairs.specs.Kept.{named-by}
-use Rattle.outline_pairs.specs.OnFace.{manifold-on-face}
+use Rattle.outline_pairs.specs.OnFace.{named-by, manifold-on-face}
 
 -- an outline by its corners, normals and count, as the search takes it
 abbrev pub bare : B2polygonShape → B2polygonShape

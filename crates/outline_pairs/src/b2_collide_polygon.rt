@@ -4,28 +4,41 @@ ghost use Prim.Native.Nat.{_<_, _≤_};
 ghost use lib.Ieee.{binary32, add};
 ghost use Rattle.contact_definitions.specs.Manifold.{with-count};
 ghost use Rattle.contact_definitions.specs.B2CollidePolygon.{polygons-manifold};
-ghost use Rattle.outline_pairs.specs.OnFace.{manifold-on-face};
-use crate::kept::outline_points;
+ghost use Rattle.outline_pairs.specs.OnFace.{placed-end, manifold-on-face};
 use axis_search::b2_collide_polygon::polygons_axis;
 use clipping::clip::clip_to_sides;
+use clipping::manifolds::flipped;
 use clipping::manifolds::kind_of;
 use clipping::manifolds::no_points;
 use clipping::manifolds::only_kind;
 use clipping::unit::unit;
 use contact_definitions::axis::Axis;
+use contact_definitions::b2_collision::B2clipVertex;
 use contact_definitions::b2_collision::B2manifold;
 use floats::b2_math::B2Transform;
 use floats::b2_math::B2vec2;
 use floats::b2_math::b2_add;
 use floats::b2_math::b2_cross_vec_by_scalar;
+use floats::b2_math::b2_mul_t_transform_by_vec2;
 use floats::b2_math::b2_scale;
 use floats::b2_math::b2_sub;
+use kept_points::kept::kept_points;
 use outline_faces::faces::Face;
 use outline_faces::faces::face_of;
 use outline_faces::faces::incident_ends;
 use outline_faces::faces::placed_face;
 use outline_faces::faces::within_skins;
 use shape_definitions::b2_polygon_shape::B2polygonShape;
+
+// An end in the frame of the outline that it is of, its id as A and B have it.
+fn placed_end(flip: bool, xf2: B2Transform, e: B2clipVertex) -> B2clipVertex
+    ensures { λ r. ⌜ r ≡ placed-end flip xf2 e ⌝ }
+{
+    B2clipVertex {
+        v: b2_mul_t_transform_by_vec2(xf2, e.v),
+        id: flipped(e.id, flip),
+    }
+}
 
 // The incident edge clipped to the sides of the reference face, and what is left of it within both skins.
 pub fn collide_face(m: B2manifold, f: Face, total_radius: f32) -> B2manifold
@@ -51,7 +64,9 @@ pub fn collide_face(m: B2manifold, f: Face, total_radius: f32) -> B2manifold
     let near0 = within_skins(total_radius, face, e0);
     let near1 = within_skins(total_radius, face, e1);
     let old = m.points;
-    let k = outline_points(old, e0, e1, f.flip, f.xf2, near0, near1);
+    let w0 = placed_end(f.flip, f.xf2, e0);
+    let w1 = placed_end(f.flip, f.xf2, e1);
+    let k = kept_points(old, w0, w1, near0, near1);
     let points = k.points;
     B2manifold {
         points,

@@ -1,2 +1,1 @@
-pub mod KeptPoints
 pub mod Clipped

@@ -54,8 +54,14 @@ within-skins-requires c κs = search needs
 within-skins-requires-2 : tie.Need-within-skins-requires-2
 within-skins-requires-2 c κs = search needs
 
-outline-points-requires : tie.Need-outline-points-requires
-outline-points-requires c κs = search needs
+placed-end-requires : tie.Need-placed-end-requires
+placed-end-requires c κs = search needs
+
+placed-end-requires-2 : tie.Need-placed-end-requires-2
+placed-end-requires-2 c κs = search needs
+
+kept-points-requires : tie.Need-kept-points-requires
+kept-points-requires c κs = search needs
 
 b2-cross-vec-by-scalar-requires : tie.Need-b2-cross-vec-by-scalar-requires
 b2-cross-vec-by-scalar-requires c κs = search needs
@@ -75,9 +81,11 @@ returns-2 c =
     let b2-add = c .before .before .b2-add in
     let at-b2-cross-vec-by-scalar = c .before .before .before in
     let b2-cross-vec-by-scalar = at-b2-cross-vec-by-scalar .b2-cross-vec-by-scalar in
-    let at-outline-points = at-b2-cross-vec-by-scalar .before .before in
-    let outline-points = at-outline-points .outline-points in
-    let at-within-skins2 = at-outline-points .before .before in
+    let at-kept-points = at-b2-cross-vec-by-scalar .before .before in
+    let kept-points = at-kept-points .kept-points in
+    let placed-end2 = at-kept-points .before .placed-end2 in
+    let placed-end = at-kept-points .before .before .placed-end in
+    let at-within-skins2 = at-kept-points .before .before .before .before in
     let within-skins2 = at-within-skins2 .within-skins2 in
     let within-skins = at-within-skins2 .before .within-skins in
     let at-if1 = at-within-skins2 .before .before .before .before in
@@ -92,9 +100,9 @@ returns-2 c =
     let args = at-unit .before .before .args in
     with-its-points (args .m) (args .f) (args .total-radius) _ _ _ _
     (unit .ensures ∙ ap (λ (v : B2vec2). b2-normalize v .v) (b2-sub .ensures)) (placed-face .ensures) (incident-ends
-    .ensures) (clip-to-sides .ensures) (if1 .left) _ _ _ _ _ _ _
+    .ensures) (clip-to-sides .ensures) (if1 .left) _ _ _ _ _ _ _ _ _
     (within-skins .ensures) (within-skins2 .ensures)
-    (outline-points .ensures) (b2-cross-vec-by-scalar .ensures)
+    (placed-end .ensures) (placed-end2 .ensures) (kept-points .ensures) (b2-cross-vec-by-scalar .ensures)
     (b2-scale′ .ensures ∙ ap (b2-scale half32) (b2-add .ensures)) (c .kind-of .ensures)
 
 pub collide-face-spec : {M : Type 1} → statement M
@@ -112,7 +120,9 @@ collide-face-spec =
     element-copy-out-e1
     within-skins-requires
     within-skins-requires-2
-    outline-points-requires
+    placed-end-requires
+    placed-end-requires-2
+    kept-points-requires
     b2-cross-vec-by-scalar-requires
     b2-add-requires
     b2-scale-requires

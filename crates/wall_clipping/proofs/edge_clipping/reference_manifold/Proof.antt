@@ -1,6 +1,4 @@
 -- By what is left between the two sides. Assumes nothing.
-use mathlib.Core.Path.{_≡_}
-use lib.ListN.{length, length-map}
 use Rattle.contact_definitions.specs.EdgeReference.{within-radius}
 use Rattle.wall_clipping.proofs.Clipped.{given-up, points-left}
 use borrow.Author.Needs.{needs}
@@ -12,9 +10,6 @@ clip-to-sides-requires c κs = search needs
 
 only-kind-requires : tie.Need-only-kind-requires
 only-kind-requires c κs = search needs
-
-two-left : (c : tie.After-clip-to-sides) → length (c .clip-to-sides .result .out) ≡ 2
-two-left c = simp length-map at (c .clip-to-sides .ok .1 .1 .0 .1 .0 .1)
 
 returns : tie.Need-returns
 returns c =
@@ -36,6 +31,12 @@ within-radius-requires c κs = search needs
 within-radius-requires-2 : tie.Need-within-radius-requires-2
 within-radius-requires-2 c κs = search needs
 
+placed-end-requires : tie.Need-placed-end-requires
+placed-end-requires c κs = search needs
+
+placed-end-requires-2 : tie.Need-placed-end-requires-2
+placed-end-requires-2 c κs = search needs
+
 kept-points-requires : tie.Need-kept-points-requires
 kept-points-requires c κs = search needs
 
@@ -46,15 +47,19 @@ returns-2 : tie.Need-returns-2
 unfolding within-radius
 returns-2 c =
     let kept-points′ = c .before .before .before .before .kept-points in
-    let within-radius2′ = c .before .before .before .before .before .before .within-radius2 in
-    let within-radius′ = c .before .before .before .before .before .before .before .within-radius in
-    let earlier = c .before .before .before .before .before .before .before .before .before .before in
+    let at-placed-end2 = c .before .before .before .before .before in
+    let placed-end2′ = at-placed-end2 .placed-end2 in
+    let placed-end′ = at-placed-end2 .before .placed-end in
+    let at-within-radius2 = at-placed-end2 .before .before .before in
+    let within-radius2′ = at-within-radius2 .within-radius2 in
+    let within-radius′ = at-within-radius2 .before .within-radius in
+    let earlier = at-within-radius2 .before .before .before .before in
     let if1′ = earlier .if1 in
     let clip-to-sides′ = earlier .before .clip-to-sides in
     let args′ = earlier .before .before .before .before .before .args in
-    points-left (args′ .f) (args′ .m) (args′ .xf) (args′ .radius) _ (clip-to-sides′ .ensures) _ _ _ _ _
-    (two-left (earlier .before)) (if1′ .left)
-    (within-radius′ .ensures) (within-radius2′ .ensures) (kept-points′ .ensures) (c .kind-of .ensures)
+    points-left (args′ .f) (args′ .m) (args′ .xf) (args′ .radius) _ (clip-to-sides′ .ensures) _ _ _ _ _ _ _
+    (if1′ .left) (within-radius′ .ensures) (within-radius2′ .ensures) (placed-end′ .ensures) (placed-end2′ .ensures)
+    (kept-points′ .ensures) (c .kind-of .ensures)
 
 pub reference-manifold-spec : {M : Type 1} → statement M
 reference-manifold-spec =
@@ -67,6 +72,8 @@ reference-manifold-spec =
     element-copy-out-e1
     within-radius-requires
     within-radius-requires-2
+    placed-end-requires
+    placed-end-requires-2
     kept-points-requires
     kind-of-requires
     returns-2)

@@ -16,8 +16,8 @@ use Rattle.clipping.specs.declared.clip.Clip.{Clip}
 use Rattle.clipping.specs.Places.{left-over}
 use Rattle.clipping.proofs.Two.{Two, two, two-of, first-place, second-place, one-over, two-over}
 use Rattle.clipping.proofs.Sides.{over-both}
-use Rattle.outline_pairs.specs.declared.kept.Kept.{Kept}
-use Rattle.outline_pairs.specs.Kept.{kept-ends, points-of, points-kept}
+use Rattle.kept_points.specs.declared.kept.Kept.{Kept}
+use Rattle.kept_points.specs.Kept.{point-at-end, kept-ends, points-of, points-kept}
 
 -- ---- points of a manifold are points of its places
 points-same : (made : B2manifoldPoint → B2clipVertex → B2manifoldPoint) (m : B2manifold) (i : ℕ) (ends : List
@@ -129,3 +129,13 @@ module _ (made : B2manifoldPoint → B2clipVertex → B2manifoldPoint) (old : Li
 
   pub none-near : near0 ≡ false → near1 ≡ false → _≡_ {A = Kept} (record { points = old; count = 0 }) kept
   none-near first second = kept-of old [] (rw (first, second)) refl
+
+-- ---- ends that are placed first, and then kept as they are
+pub placed-first : (placed : B2clipVertex → B2clipVertex) (old : List B2manifoldPoint) (near0 near1 : Bool)
+    (e0 e1 : B2clipVertex)
+    → points-kept point-at-end old (kept-ends near0 near1 (placed e0) (placed e1))
+    ≡ points-kept (λ p e. point-at-end p (placed e)) old (kept-ends near0 near1 e0 e1)
+placed-first placed old true true e0 e1 = refl
+placed-first placed old true false e0 e1 = refl
+placed-first placed old false true e0 e1 = refl
+placed-first placed old false false e0 e1 = refl

@@ -1,19 +1,18 @@
 -- The ends that are near, and their points over the old ones. Definitions only.
-use mathlib.Core.Bool.{Bool, cond}
+use mathlib.Core.Bool.{Bool}
 use mathlib.Core.List.{List, [], _∷_}
 use Prim.Native.Nat.{ℕ, suc}
 use lib.ListN.{length, getD}
 use Rattle.algebra.specs.Buffer.{over}
-use Rattle.contact_definitions.specs.declared.b2_collision.B2contactId.{B2contactId}
 use Rattle.contact_definitions.specs.declared.b2_collision.B2manifoldPoint.{B2manifoldPoint}
 use Rattle.contact_definitions.specs.declared.b2_collision.B2clipVertex.{B2clipVertex}
-use Rattle.contact_definitions.specs.Manifold.{swapped-id, default-point}
+use Rattle.contact_definitions.specs.Manifold.{default-point, with-local-point}
 use Rattle.contact_definitions.specs.Clip.{kept-if}
-use Rattle.outline_pairs.specs.declared.kept.Kept.{Kept}
+use Rattle.kept_points.specs.declared.kept.Kept.{Kept}
 
--- an id as outlines A and B have it
-abbrev pub named-by : Bool → B2contactId → B2contactId
-named-by flip id = cond flip (swapped-id id) id
+-- an old point with the place and the id of an end
+abbrev pub point-at-end : B2manifoldPoint → B2clipVertex → B2manifoldPoint
+point-at-end old end = with-local-point old (end .v) (end .id)
 
 abbrev pub kept-ends : Bool → Bool → B2clipVertex → B2clipVertex → List B2clipVertex
 kept-ends near0 near1 e0 e1 = kept-if near0 e0 (kept-if near1 e1 [])
