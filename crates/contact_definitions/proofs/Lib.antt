@@ -5,9 +5,7 @@ pub mod Ends
 pub mod Numbers
 pub mod Given
 pub mod CircleCases
-pub mod PolygonCases
 pub mod EdgeCircleCases
-pub mod EdgePolygonCases
 pub mod ClipCases
 pub mod WorldCases
 pub mod StateCases

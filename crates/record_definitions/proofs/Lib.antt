@@ -19,7 +19,4 @@ pub mod Theorem
 pub mod Heats
 pub mod TableCases
 pub mod Controls
-pub mod OutlineHeats
-pub mod WallHeats
-pub mod ExportCases
 pub mod MarkedCases

@@ -1,5 +1,5 @@
--- Closed cases of small tables: the length of each frame, the pairs that are tested, the places of pairs, and the count
--- that holds at its largest. What they give is read off document 01. Assumes nothing.
+-- Closed cases of small tables: the length of each frame, the pairs that are tested, the places of pairs, the kind that
+-- is printed, and the count that holds at its largest. What they give is read off document 01. Assumes nothing.
 use Prim.Native.Nat.{ℕ, _-_}
 use mathlib.Core.Path.{_≡_, refl}
 use mathlib.Core.Bool.{true, false}
@@ -7,8 +7,10 @@ use mathlib.Core.List.{[], _∷_, map}
 use Rattle.contact_definitions.specs.declared.b2_collision.B2pointState.the-variants.{B2NullState, B2AddState}
 use Rattle.contact_definitions.specs.declared.b2_collision.B2pointState.the-variants.{B2PersistState, B2RemoveState}
 use Rattle.contact_definitions.specs.declared.b2_collision.PointStates.{PointStates}
+use Rattle.contact_definitions.specs.declared.b2_collision.B2manifoldType.the-variants.{EFaceB}
+use Rattle.contact_definitions.specs.Manifold.{default-manifold, with-count, with-kind}
 use Rattle.record_definitions.specs.World.{no-body, circle-kind, outline-kind, wall-kind, pair-place}
-use Rattle.record_definitions.specs.Touch.{largest-count, touches-after}
+use Rattle.record_definitions.specs.Touch.{shown-kind, largest-count, touches-after}
 use Rattle.record_definitions.specs.Frame.{frame-length, listed}
 use Rattle.record_definitions.specs.Answer.{longest-answer, longest-line}
 use Rattle.record_definitions.specs.Reading.{kept-length}
@@ -37,6 +39,9 @@ pub record TableCases : Type 0 where
   pub after-wall : map (listed wall-kind) (0 ∷ 1 ∷ 2 ∷ 3 ∷ []) ≡ false ∷ true ∷ true ∷ false ∷ []
   -- the corners of the table of pairs
   pub places : pair-place 0 1 ∷ pair-place 1 0 ∷ pair-place 7 7 ∷ [] ≡ 1 ∷ 8 ∷ 63 ∷ []
+  -- by the count of a manifold of kind face B: without a point the kind is not printed
+  pub kinds-shown : map (λ (n : ℕ). shown-kind (with-kind (with-count default-manifold n) EFaceB)) (0 ∷ 1 ∷ 2 ∷ [])
+      ≡ 0 ∷ 2 ∷ 2 ∷ []
   -- new points are counted, and the count holds at 2^32 - 1
   pub counted : map (touches-after 4) (both-new ∷ both-rest ∷ one-new ∷ []) ≡ 6 ∷ 4 ∷ 5 ∷ []
   pub largest : largest-count ≡ 0xffff_ffff
@@ -45,7 +50,7 @@ pub record TableCases : Type 0 where
   pub sizes : longest-answer ∷ longest-line ∷ kept-length ∷ [] ≡ 45 ∷ 91 ∷ 135 ∷ []
 
 pub table-cases : TableCases
-unfolding frame-length listed touches-after
+unfolding frame-length listed with-kind with-count touches-after
 table-cases = record {
   lengths = refl;
   outline-lengths = refl;
@@ -55,6 +60,7 @@ table-cases = record {
   after-outline = refl;
   after-wall = refl;
   places = refl;
+  kinds-shown = refl;
   counted = refl;
   largest = refl;
   held-by-one = refl;

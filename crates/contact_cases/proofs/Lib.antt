@@ -1,0 +1,2 @@
+pub mod PolygonCases
+pub mod EdgePolygonCases

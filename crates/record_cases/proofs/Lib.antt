@@ -1,0 +1,3 @@
+pub mod OutlineHeats
+pub mod WallHeats
+pub mod ExportCases
