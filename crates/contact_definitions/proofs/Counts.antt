@@ -109,6 +109,12 @@ ends-on-face m normal point near made (end0 ∷ end1 ∷ ends) h kind few =
     let fewer : length kept ≤ length (end0 ∷ end1 ∷ ends) = only-fewer near (end0 ∷ end1 ∷ ends) in
     record { at-most-two = omega arith; is-face = λ some. kind }
 
+-- one point is written over the count, whatever it was
+pub one-point-anew : (m : B2manifold) (kind : B2manifoldType) (normal point centre : B2vec2) (id : B2contactId)
+    → with-one-point m kind normal point centre id ≡ with-one-point (with-count m 0) kind normal point centre id
+unfolding with-one-point with-count
+one-point-anew m kind normal point centre id = refl
+
 pub sides-few : (face : B2referenceFace) (edge : List B2clipVertex) → length (clipped-to-sides face edge) ≤ 2
 unfolding clipped-to-sides
 sides-few face edge =

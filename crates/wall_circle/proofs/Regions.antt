@@ -9,9 +9,7 @@ use Rattle.floats.specs.B2Math.{vec2, b2-add, b2-sub, b2-neg, b2-scale, b2-dot,
 use Rattle.shape_definitions.specs.declared.b2_edge_shape.B2edgeShape.{B2edgeShape}
 use Rattle.shape_definitions.specs.Outline.{origin}
 use Rattle.shape_definitions.specs.Refusal.{wall-too-short}
-use Rattle.contact_definitions.specs.declared.b2_collision.B2contactId.{B2contactId}
 use Rattle.contact_definitions.specs.declared.b2_collision.B2manifold.{B2manifold}
-use Rattle.contact_definitions.specs.declared.b2_collision.B2manifoldType.{B2manifoldType}
 use Rattle.contact_definitions.specs.declared.b2_collision.B2manifoldType.the-variants.{ECircles, EFaceA}
 use Rattle.contact_definitions.specs.declared.b2_collision.ManifoldAnswer.{ManifoldAnswer}
 use Rattle.contact_definitions.specs.Manifold.{vertex-feature, face-feature, contact-id}
@@ -23,12 +21,6 @@ use Rattle.contact_definitions.specs.B2CollideEdge.{edge-circle-answer}
 use Rattle.wall_circle.specs.declared.edge_circle.Touch.{Touch}
 use Rattle.wall_circle.specs.declared.edge_circle.Touch.the-variants.{Nothing, End, Flat}
 use Rattle.wall_circle.specs.EdgeCircle.{end-touch, face-of, face-touch, touch-answer}
-
--- a point is written over the first place whatever the count was
-pub uncounted : (m : B2manifold) (kind : B2manifoldType) (normal point centre : B2vec2) (id : B2contactId)
-    → with-one-point m kind normal point centre id ≡ with-one-point (with-count m 0) kind normal point centre id
-unfolding with-one-point with-count
-uncounted m kind normal point centre id = refl
 
 -- the point of the wall nearest to the circle's centre
 pub foot-is : (e a b su sv sum p : B2vec2) (u v den : Float) → den ≡ b2-dot e e → su ≡ b2-scale u a → sv ≡ b2-scale v b

@@ -1,8 +1,9 @@
 -- By the way that they touch. Assumes nothing.
 use mathlib.Core.Path.{refl, _∙_, ap}
 use Rattle.contact_definitions.specs.Manifold.{manifold-accepted}
+use Rattle.contact_definitions.proofs.Counts.{one-point-anew}
 use Rattle.wall_circle.specs.EdgeCircle.{touch-answer}
-use Rattle.wall_circle.proofs.Regions.{uncounted, answered}
+use Rattle.wall_circle.proofs.Regions.{answered}
 use borrow.Author.Needs.{needs}
 use Rattle.wall_circle.proofs.edge_circle.edge_circle_answer.Statement.{statement}
 use Rattle.wall_circle.proofs.edge_circle.edge_circle_answer.Tie as tie
@@ -47,7 +48,7 @@ returns-2 c =
     let wall-touch′ = c .before .before .before .before .wall-touch in
     let args′ = c .before .before .before .before .before .args in
     answered (args′ .m) (args′ .edge) (args′ .centre) _ _ _ _ (t′ .given .1)
-    (ap manifold-accepted (c .circle-point .ensures ∙ uncounted (args′ .m) _ _ _ _ _))
+    (ap manifold-accepted (c .circle-point .ensures ∙ one-point-anew (args′ .m) _ _ _ _ _))
     (wall-touch′ .ensures (args′ .m) (args′ .centre))
 
 returns-3 : tie.Need-returns-3
@@ -57,7 +58,7 @@ returns-3 c =
     let wall-touch′ = c .before .before .before .before .wall-touch in
     let args′ = c .before .before .before .before .before .args in
     answered (args′ .m) (args′ .edge) (args′ .centre) _ _ _ _ (t2′ .given .1)
-    (ap manifold-accepted (c .circle-point2 .ensures ∙ uncounted (args′ .m) _ _ _ _ _))
+    (ap manifold-accepted (c .circle-point2 .ensures ∙ one-point-anew (args′ .m) _ _ _ _ _))
     (wall-touch′ .ensures (args′ .m) (args′ .centre))
 
 returns-4 : tie.Need-returns-4
