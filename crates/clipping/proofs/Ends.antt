@@ -11,7 +11,7 @@ use Rattle.contact_definitions.specs.declared.b2_collision.B2clipVertex.{B2clip
 use Rattle.contact_definitions.specs.Clip.{clip-distance, clipped-by, clipped}
 use Rattle.clipping.specs.declared.clip.Clip.{Clip}
 use Rattle.clipping.specs.Places.{left-over}
-use Rattle.clipping.proofs.Two.{Two, two, two-of, one-over, two-over}
+use Rattle.clipping.proofs.Two.{Two, two, two-of, two-over}
 
 module _ (vs : List B2clipVertex) (d : B2clipVertex) (vs-two : length vs ≡ 2) (normal : B2vec2) (offset : Float)
     (index : ℕ) (distance0 distance1 : Float) (first-is : distance0 ≡ clip-distance normal offset (getD vs 0 d))
@@ -41,10 +41,9 @@ module _ (vs : List B2clipVertex) (d : B2clipVertex) (vs-two : length vs ≡ 2) 
         left-is out (a ∷ new ∷ []) (a ∷ b ∷ []) clipped-is
         (ap (λ (e : B2clipVertex). a ∷ e ∷ []) new-is ∙ two-over out a b out-two)
 
-    pub one-left : (a c : B2clipVertex) → clipped-by (getD vs 0 d) (getD vs 1 d) distance0 distance1 index ≡ a ∷ []
-        → _≡_ {A = Clip} (record { out = a ∷ getD out 1 c ∷ []; count = 1 })
-        (left-over (clipped vs normal offset index) out)
-    one-left a c clipped-is = left-is out (a ∷ getD out 1 c ∷ []) (a ∷ []) clipped-is (one-over out a c out-two)
+    pub one-left : (a : B2clipVertex) → clipped-by (getD vs 0 d) (getD vs 1 d) distance0 distance1 index ≡ a ∷ []
+        → left-over (a ∷ []) out ≡ left-over (clipped vs normal offset index) out
+    one-left a clipped-is = left-is out (over (a ∷ []) out) (a ∷ []) clipped-is refl
 
     pub nothing-left : clipped-by (getD vs 0 d) (getD vs 1 d) distance0 distance1 index ≡ []
         → _≡_ {A = Clip} (record { out = out; count = 0 }) (left-over (clipped vs normal offset index) out)

@@ -1,7 +1,8 @@
 // A segment clipped to a line, by cases, with stores at constant places (the core of Box2D's b2_clip_segment_to_line).
 ghost use mathlib.Core.Path.{_≡_};
+ghost use mathlib.Core.List.{[], _∷_};
 ghost use Rattle.contact_definitions.specs.Clip.{clip-distance, crossing, clipped};
-ghost use Rattle.clipping.specs.Places.{left-over};
+ghost use Rattle.clipping.specs.Places.{two-ends, left-over};
 use contact_definitions::b2_collision::B2clipVertex;
 use contact_definitions::b2_collision::B2contactFeature;
 use contact_definitions::b2_collision::B2contactId;
@@ -43,6 +44,27 @@ pub fn cut(a: B2clipVertex, b: B2clipVertex, d0: f32, d1: f32, index: usize) -> 
     }
 }
 
+// Two ends that are left.
+fn both_left(a: B2clipVertex, b: B2clipVertex) -> Clip
+    ensures { λ r. ⌜ r ≡ two-ends a b ⌝ }
+{
+    Clip {
+        out: [a, b],
+        count: 2,
+    }
+}
+
+// One that is left, over the first place.
+fn one_left(out: [B2clipVertex; 2], a: B2clipVertex) -> Clip
+    ensures { λ r. ⌜ r ≡ left-over (a ∷ []) out ⌝ }
+{
+    let o = out[1];
+    Clip {
+        out: [a, o],
+        count: 1,
+    }
+}
+
 // What is left of the segment vs, over the places of out. An end that is left on the one side and a crossing are two,
 // never three, and where no end is left there is no crossing.
 pub fn clip_ends(
@@ -60,35 +82,18 @@ pub fn clip_ends(
     let d1 = clip_distance(n, offset, b);
     if d0 <= 0.0 {
         if d1 <= 0.0 {
-            return Clip {
-                out: [a, b],
-                count: 2,
-            };
+            return both_left(a, b);
         }
         if d0 * d1 < 0.0 {
-            return Clip {
-                out: [a, cut(a, b, d0, d1, index)],
-                count: 2,
-            };
+            return both_left(a, cut(a, b, d0, d1, index));
         }
-        let o = out[1];
-        return Clip {
-            out: [a, o],
-            count: 1,
-        };
+        return one_left(out, a);
     }
     if d1 <= 0.0 {
         if d0 * d1 < 0.0 {
-            return Clip {
-                out: [b, cut(a, b, d0, d1, index)],
-                count: 2,
-            };
+            return both_left(b, cut(a, b, d0, d1, index));
         }
-        let o = out[1];
-        return Clip {
-            out: [b, o],
-            count: 1,
-        };
+        return one_left(out, b);
     }
     Clip { out, count: 0 }
 }
