@@ -2,7 +2,8 @@
 ghost use mathlib.Core.Path.{_≡_};
 ghost use mathlib.Core.List.{[], _∷_};
 ghost use Rattle.shape_definitions.specs.Outline.{point-at};
-ghost use Rattle.shape_definitions.specs.Polygon.{put-first, b2-polygon-shape-set-counted, b2-polygon-shape-set};
+ghost use Rattle.shape_definitions.specs.Polygon.{refused, put-first};
+ghost use Rattle.shape_definitions.specs.Polygon.{b2-polygon-shape-set-counted, b2-polygon-shape-set};
 ghost use Rattle.shape_definitions.specs.Boxes.{b2-polygon-shape-set-as-box, b2-polygon-shape-set-as-box-angle};
 ghost use Rattle.shape_definitions.specs.Validate.{b2-polygon-shape-validate};
 use crate::convex;
@@ -21,6 +22,16 @@ use shape_definitions::b2_polygon_shape::ValidateAnswer;
 use shape_definitions::refusal;
 use shape_ranges::polygon_range;
 
+// A call that is turned down hands the outline back.
+fn refused(old: B2polygonShape, number: u8) -> PolygonAnswer
+    ensures { λ r. ⌜ r ≡ refused number old ⌝ }
+{
+    PolygonAnswer {
+        refusal: number,
+        shape: old,
+    }
+}
+
 // The outline of the first count points: weld, start, walk, normals, centroid.
 pub fn b2_polygon_shape_set_core(
     old: B2polygonShape,
@@ -30,49 +41,31 @@ pub fn b2_polygon_shape_set_core(
     ensures { λ r. ⌜ r ≡ b2-polygon-shape-set-counted old points count ⌝ }
 {
     if count < 3 {
-        return PolygonAnswer {
-            refusal: refusal::WRONG_NUMBER_OF_POINTS,
-            shape: old,
-        };
+        return refused(old, refusal::WRONG_NUMBER_OF_POINTS);
     }
     if count > B2_MAX_POLYGON_VERTICES {
-        return PolygonAnswer {
-            refusal: refusal::WRONG_NUMBER_OF_POINTS,
-            shape: old,
-        };
+        return refused(old, refusal::WRONG_NUMBER_OF_POINTS);
     }
     let given = coordinates::coordinates(points);
     if !coordinates::in_range(&given, count) {
-        return PolygonAnswer {
-            refusal: refusal::SHAPE_OUT_OF_RANGE,
-            shape: old,
-        };
+        return refused(old, refusal::SHAPE_OUT_OF_RANGE);
     }
     let mut ps = [0.0f32; 16];
     let n = outline::weld(&given, count, &mut ps);
     if n < 3 {
-        return PolygonAnswer {
-            refusal: refusal::TOO_FEW_AFTER_WELDING,
-            shape: old,
-        };
+        return refused(old, refusal::TOO_FEW_AFTER_WELDING);
     }
     let i0 = outline::start(&ps, n);
     let old_vertices = old.m_vertices;
     let mut vs = coordinates::coordinates(old_vertices);
     let m = outline::walk(&ps, n, i0, &mut vs);
     if m < 3 {
-        return PolygonAnswer {
-            refusal: refusal::WALK_NOT_CLOSED,
-            shape: old,
-        };
+        return refused(old, refusal::WALK_NOT_CLOSED);
     }
     let old_normals = old.m_normals;
     let mut ns = coordinates::coordinates(old_normals);
     if !outline::normals(&vs, m, &mut ns) {
-        return PolygonAnswer {
-            refusal: refusal::EDGE_OR_AREA_TOO_SMALL,
-            shape: old,
-        };
+        return refused(old, refusal::EDGE_OR_AREA_TOO_SMALL);
     }
     let sum = outline::fan(&vs, m);
     if sum.area > B2_EPSILON {
@@ -91,10 +84,7 @@ pub fn b2_polygon_shape_set_core(
             },
         };
     }
-    PolygonAnswer {
-        refusal: refusal::EDGE_OR_AREA_TOO_SMALL,
-        shape: old,
-    }
+    refused(old, refusal::EDGE_OR_AREA_TOO_SMALL)
 }
 
 // The point at place i of a lent slice, or the origin past its end.
@@ -161,10 +151,7 @@ pub fn b2_polygon_shape_set_as_box(old: B2polygonShape, hx: f32, hy: f32) -> Pol
     let hx_in = ranges::coordinate_in_range(hx);
     let hy_in = ranges::coordinate_in_range(hy);
     if !(hx_in & hy_in) {
-        return PolygonAnswer {
-            refusal: refusal::SHAPE_OUT_OF_RANGE,
-            shape: old,
-        };
+        return refused(old, refusal::SHAPE_OUT_OF_RANGE);
     }
     let old_vertices = old.m_vertices;
     let old_normals = old.m_normals;
@@ -208,16 +195,10 @@ pub fn b2_polygon_shape_set_as_box_angle(
     let hy_in = ranges::coordinate_in_range(hy);
     let center_in = ranges::point_in_range(center);
     if !(hx_in & hy_in & center_in) {
-        return PolygonAnswer {
-            refusal: refusal::SHAPE_OUT_OF_RANGE,
-            shape: old,
-        };
+        return refused(old, refusal::SHAPE_OUT_OF_RANGE);
     }
     if !ranges::rotation_in_range(q) {
-        return PolygonAnswer {
-            refusal: refusal::PLACEMENT_OUT_OF_RANGE,
-            shape: old,
-        };
+        return refused(old, refusal::PLACEMENT_OUT_OF_RANGE);
     }
     let xf = B2Transform { p: center, q: q };
     let old_vertices = old.m_vertices;

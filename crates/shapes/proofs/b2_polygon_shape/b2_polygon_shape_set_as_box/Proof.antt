@@ -1,4 +1,5 @@
 -- Both half-widths are in range, or not. Assumes nothing.
+use mathlib.Core.Path.{_∙_}
 use mathlib.Core.Bool.{_&&_}
 use borrow.Author.Tests.{not-true, not-false}
 use Rattle.floats.specs.Ranges.{coordinate-in-range}
@@ -14,13 +15,19 @@ coordinate-in-range-requires c κs = search needs
 coordinate-in-range-requires-2 : tie.Need-coordinate-in-range-requires-2
 coordinate-in-range-requires-2 c κs = search needs
 
+refused-requires : tie.Need-refused-requires
+refused-requires c κs = search needs
+
 returns : tie.Need-returns
 unfolding b2-polygon-shape-set-as-box
-returns c =
+returns r =
+    let c = r .before in
     let tests = c .before in
     let args = tests .before .before .args in
     let both = tests .before .coordinate-in-range .result && tests .coordinate-in-range2 .result in
-    unchosen (coordinate-in-range (args .hx) && coordinate-in-range (args .hy)) both _ _ (not-true both (c .if1 .taken))
+    r .refused .ensures
+    ∙ unchosen (coordinate-in-range (args .hx) && coordinate-in-range (args .hy)) both _ _ (not-true both
+    (c .if1 .taken))
     (simp (tests .coordinate-in-range2 .ensures, tests .before .coordinate-in-range .ensures))
 
 put-four-requires : tie.Need-put-four-requires
@@ -47,6 +54,7 @@ b2-polygon-shape-set-as-box-spec =
     (tie.spec
     coordinate-in-range-requires
     coordinate-in-range-requires-2
+    refused-requires
     returns
     put-four-requires
     put-four-requires-2

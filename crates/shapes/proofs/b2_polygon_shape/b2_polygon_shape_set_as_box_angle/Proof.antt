@@ -19,12 +19,17 @@ coordinate-in-range-requires-2 c κs = search needs
 point-in-range-requires : tie.Need-point-in-range-requires
 point-in-range-requires c κs = search needs
 
+refused-requires : tie.Need-refused-requires
+refused-requires c κs = search needs
+
 returns : tie.Need-returns
 unfolding b2-polygon-shape-set-as-box-angle
-returns c =
+returns r =
+    let c = r .before in
     let tests = c .before in
     let args = tests .before .before .before .args in
-    chosen (not (coordinate-in-range (args .hx) && coordinate-in-range (args .hy) && point-in-range (args .center))) _
+    r .refused .ensures
+    ∙ chosen (not (coordinate-in-range (args .hx) && coordinate-in-range (args .hy) && point-in-range (args .center))) _
     _ _ (c .if1 .taken)
     (simp (
       tests .point-in-range .ensures,
@@ -35,14 +40,19 @@ returns c =
 rotation-in-range-requires : tie.Need-rotation-in-range-requires
 rotation-in-range-requires c κs = search needs
 
+refused-requires-2 : tie.Need-refused-requires-2
+refused-requires-2 c κs = search needs
+
 returns-2 : tie.Need-returns-2
 unfolding b2-polygon-shape-set-as-box-angle
-returns-2 c =
+returns-2 r =
+    let c = r .before in
     let rotation = c .before in
     let shape = rotation .before in
     let tests = shape .before in
     let args = tests .before .before .before .args in
-    chosen (not (rotation-in-range (args .q))) _ _ _ (c .if2 .taken) (simp (rotation .rotation-in-range .ensures))
+    r .refused2 .ensures
+    ∙ chosen (not (rotation-in-range (args .q))) _ _ _ (c .if2 .taken) (simp (rotation .rotation-in-range .ensures))
     ∙ unchosen (not (coordinate-in-range (args .hx) && coordinate-in-range (args .hy)
     && point-in-range (args .center))) _ _ _
     (shape .if1 .left)
@@ -129,8 +139,10 @@ b2-polygon-shape-set-as-box-angle-spec =
     coordinate-in-range-requires
     coordinate-in-range-requires-2
     point-in-range-requires
+    refused-requires
     returns
     rotation-in-range-requires
+    refused-requires-2
     returns-2
     b2-mul-transform-by-vec2-requires
     b2-mul-transform-by-vec2-requires-2

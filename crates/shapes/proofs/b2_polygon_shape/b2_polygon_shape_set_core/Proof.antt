@@ -101,11 +101,21 @@ known : (f : tie.After-normals)
     (walk-of f .walk .result) (corners (walk-of f))
 known f = at-walk (walk-of f) (f .before .before .before .before .before .if5 .left)
 
+refused-requires : tie.Need-refused-requires
+refused-requires c κs = search needs
+
 returns : tie.Need-returns
-returns c = too-few-points _ _ _ (c .if1 .taken)
+returns r =
+    let c = r .before in
+    r .refused .ensures ∙ too-few-points _ _ _ (c .if1 .taken)
+
+refused-requires-2 : tie.Need-refused-requires-2
+refused-requires-2 c κs = search needs
 
 returns-2 : tie.Need-returns-2
-returns-2 c = too-many-points _ _ _ (c .if2 .taken)
+returns-2 r =
+    let c = r .before in
+    r .refused2 .ensures ∙ too-many-points _ _ _ (c .if2 .taken)
 
 coordinates-requires : tie.Need-coordinates-requires
 coordinates-requires c κs = search needs
@@ -113,21 +123,30 @@ coordinates-requires c κs = search needs
 in-range-requires : tie.Need-in-range-requires
 in-range-requires c κs = (omega arith, c .before .coordinates .ensures .0)
 
+refused-requires-3 : tie.Need-refused-requires-3
+refused-requires-3 c κs = search needs
+
 returns-3 : tie.Need-returns-3
-returns-3 c =
+returns-3 r =
+    let c = r .before in
     let start = first-of (c .before) in
-    out-of-range _ _ (start .args .count) (omega arith) (omega arith) (start .good .1 .0 .1 .0 .1)
+    r .refused3 .ensures
+    ∙ out-of-range _ _ (start .args .count) (omega arith) (omega arith) (start .good .1 .0 .1 .0 .1)
     (inside-is (c .before) ∙ not-true _ (c .if3 .taken))
 
 weld-requires : tie.Need-weld-requires
 unfolding points-in
 weld-requires c κs = (omega arith, c .before .before .before .before .before .coordinates .ensures .0, refl)
 
+refused-requires-4 : tie.Need-refused-requires-4
+refused-requires-4 c κs = search needs
+
 returns-4 : tie.Need-returns-4
-returns-4 c =
+returns-4 r =
+    let c = r .before in
     let known = at-weld (c .before) in
     let same = known .kept-length in
-    too-few-kept _ _ (omega arith) ∙ known .kept-so
+    r .refused4 .ensures ∙ too-few-kept _ _ (omega arith) ∙ known .kept-so
 
 start-requires : tie.Need-start-requires
 start-requires c κs = search needs
@@ -149,11 +168,16 @@ walk-requires c κs =
       vertices .coordinates2 .ensures .0,
     )
 
+refused-requires-5 : tie.Need-refused-requires-5
+refused-requires-5 c κs = search needs
+
 returns-5 : tie.Need-returns-5
-returns-5 c =
+returns-5 r =
+    let c = r .before in
     let w = c .before in
     let enough = w .before .before .before .before .before .before .before in
-    walk-not-back _ _ _ _ _ (at-weld (weld-of w)) (enough .if4 .left) _ _ (walked w) (c .if5 .taken)
+    r .refused5 .ensures
+    ∙ walk-not-back _ _ _ _ _ (at-weld (weld-of w)) (enough .if4 .left) _ _ (walked w) (c .if5 .taken)
 
 coordinates-requires-3 : tie.Need-coordinates-requires-3
 coordinates-requires-3 c κs = search needs
@@ -163,10 +187,16 @@ normals-requires c κs =
     let w = c .before .before .before .before .before in
     (w .walk .ensures .0, w .walk .ensures .1, c .before .before .coordinates3 .ensures .0)
 
+refused-requires-6 : tie.Need-refused-requires-6
+refused-requires-6 c κs = search needs
+
 returns-6 : tie.Need-returns-6
-returns-6 c =
+returns-6 r =
+    let c = r .before in
     let f = c .before in
-    edge-too-short (old-of f) (row-of f) _ (faces f) (faced f false (not-true _ (c .if6 .taken))) ∙ known f .corners-so
+    r .refused6 .ensures
+    ∙ edge-too-short (old-of f) (row-of f) _ (faces f) (faced f false (not-true _
+    (c .if6 .taken))) ∙ known f .corners-so
 
 fan-requires : tie.Need-fan-requires
 fan-requires c κs = search needs
@@ -207,31 +237,42 @@ returns-7 c =
     (s .at .ensures ∙ sym (at-first-place (corners w) (w .walk .result) 0 (omega arith)))
     ∙ walked .corners-so
 
+refused-requires-7 : tie.Need-refused-requires-7
+refused-requires-7 c κs = search needs
+
 returns-8 : tie.Need-returns-8
-returns-8 c =
+returns-8 r =
+    let c = r .before in
     let fan = c .before .before in
     let f = fan .before .before .before in
     let long = long-edges (edges (row-of f)) _ (faces f) _
     (faced f true (not-false _ (fan .before .before .if6 .left))) in
-    area-too-small (old-of f) (row-of f) _ (long .0) (fan .fan .ensures) (c .if7 .left) ∙ known f .corners-so
+    r .refused7 .ensures
+    ∙ area-too-small (old-of f) (row-of f) _ (long .0) (fan .fan .ensures) (c .if7 .left) ∙ known f .corners-so
 
 pub b2-polygon-shape-set-core-spec : {M : Type 1} → statement M
 b2-polygon-shape-set-core-spec =
     tie.close
     (tie.spec
+    refused-requires
     returns
+    refused-requires-2
     returns-2
     coordinates-requires
     in-range-requires
+    refused-requires-3
     returns-3
     weld-requires
+    refused-requires-4
     returns-4
     start-requires
     coordinates-requires-2
     walk-requires
+    refused-requires-5
     returns-5
     coordinates-requires-3
     normals-requires
+    refused-requires-6
     returns-6
     fan-requires
     at-requires
@@ -240,4 +281,5 @@ b2-polygon-shape-set-core-spec =
     points-requires
     points-requires-2
     returns-7
+    refused-requires-7
     returns-8)
