@@ -36,7 +36,8 @@ returns c =
     let vs = args .t2 in
     let vs-two = good .1 .0 .1 .0 .1 in
     let out-two = good .0 .1 .0 .1 in
-    c .both-left .ensures ∙ two-left vs _ vs-two (args .n) (args .offset) (args .index) _ _ (clip-distance .ensures) (clip-distance2 .ensures)
+    c .both-left .ensures
+    ∙ two-left vs _ vs-two (args .n) (args .offset) (args .index) _ _ (clip-distance .ensures) (clip-distance2 .ensures)
     (args .out) out-two _ _ _ refl (both-left _ _ _ _ _ (if1 .taken) (if2 .taken))
 
 cut-requires : tie.Need-cut-requires
@@ -60,8 +61,10 @@ returns-2 c =
     let vs = args .t2 in
     let vs-two = good .1 .0 .1 .0 .1 in
     let out-two = good .0 .1 .0 .1 in
-    c .both-left2 .ensures ∙ two-left vs _ vs-two (args .n) (args .offset) (args .index) _ _ (clip-distance .ensures) (clip-distance2 .ensures)
-    (args .out) out-two _ _ _ (c .before .cut .ensures) (first-and-crossing _ _ _ _ _ (if1 .taken) (if2 .left) (if3 .taken))
+    c .both-left2 .ensures
+    ∙ two-left vs _ vs-two (args .n) (args .offset) (args .index) _ _ (clip-distance .ensures) (clip-distance2 .ensures)
+    (args .out) out-two _ _ _ (c .before .cut .ensures) (first-and-crossing _ _ _ _ _ (if1 .taken) (if2 .left)
+    (if3 .taken))
 
 one-left-requires : tie.Need-one-left-requires
 one-left-requires c κs = search needs
@@ -81,7 +84,8 @@ returns-3 c =
     let vs = args .t2 in
     let vs-two = good .1 .0 .1 .0 .1 in
     let out-two = good .0 .1 .0 .1 in
-    c .one-left .ensures ∙ one-left vs _ vs-two (args .n) (args .offset) (args .index) _ _ (clip-distance .ensures) (clip-distance2 .ensures)
+    c .one-left .ensures
+    ∙ one-left vs _ vs-two (args .n) (args .offset) (args .index) _ _ (clip-distance .ensures) (clip-distance2 .ensures)
     (args .out) out-two _ (first-left _ _ _ _ _ (if1 .taken) (if2 .left) (if3 .left))
 
 cut-requires-2 : tie.Need-cut-requires-2
@@ -105,8 +109,10 @@ returns-4 c =
     let vs = args .t2 in
     let vs-two = good .1 .0 .1 .0 .1 in
     let out-two = good .0 .1 .0 .1 in
-    c .both-left3 .ensures ∙ two-left vs _ vs-two (args .n) (args .offset) (args .index) _ _ (clip-distance .ensures) (clip-distance2 .ensures)
-    (args .out) out-two _ _ _ (c .before .cut2 .ensures) (second-and-crossing _ _ _ _ _ (if1 .left) (if4 .taken) (if5 .taken))
+    c .both-left3 .ensures
+    ∙ two-left vs _ vs-two (args .n) (args .offset) (args .index) _ _ (clip-distance .ensures) (clip-distance2 .ensures)
+    (args .out) out-two _ _ _ (c .before .cut2 .ensures) (second-and-crossing _ _ _ _ _ (if1 .left) (if4 .taken)
+    (if5 .taken))
 
 one-left-requires-2 : tie.Need-one-left-requires-2
 one-left-requires-2 c κs = search needs
@@ -126,7 +132,8 @@ returns-5 c =
     let vs = args .t2 in
     let vs-two = good .1 .0 .1 .0 .1 in
     let out-two = good .0 .1 .0 .1 in
-    c .one-left2 .ensures ∙ one-left vs _ vs-two (args .n) (args .offset) (args .index) _ _ (clip-distance .ensures) (clip-distance2 .ensures)
+    c .one-left2 .ensures
+    ∙ one-left vs _ vs-two (args .n) (args .offset) (args .index) _ _ (clip-distance .ensures) (clip-distance2 .ensures)
     (args .out) out-two _ (second-left _ _ _ _ _ (if1 .left) (if4 .taken) (if5 .left))
 
 returns-6 : tie.Need-returns-6
