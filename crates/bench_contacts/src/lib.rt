@@ -5,8 +5,8 @@ ghost use Prim.Native.Nat.{_<_};
 use crate::manifolds::Manifold;
 use crate::points::Clip;
 use crate::points::States;
-use contacts::b2_collision;
-use contacts::point_states;
+use contact_states::point_states;
+use segment_clip::b2_collision;
 
 mod manifolds;
 mod points;

@@ -2,10 +2,10 @@
 use crate::shapes::PlacedCircle;
 use crate::shapes::PlacedEdge;
 use crate::shapes::PlacedPolygon;
+use circle_contacts::b2_collide_circle;
 use contact_definitions::b2_collision::ManifoldAnswer;
-use contacts::b2_collide_circle;
-use contacts::b2_collide_edge;
-use contacts::b2_collide_polygon;
+use outline_contacts::b2_collide_polygon;
+use wall_contacts::b2_collide_edge;
 
 pub fn circles(last: ManifoldAnswer, a: PlacedCircle, b: PlacedCircle) -> ManifoldAnswer {
     let m = last.manifold;

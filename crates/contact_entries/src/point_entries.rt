@@ -1,8 +1,8 @@
 // Clipping and point states: the number of words written, 0 for a malformed request or an output too short.
 ghost use Rattle.wire_records.specs.Words.{Written};
 ghost use Rattle.contact_entries.specs.ContactEntries.{clip-answer, point-states-answer};
-use contacts::b2_collision;
-use contacts::point_states;
+use contact_states::point_states;
+use segment_clip::b2_collision;
 use wire_answers::contact_answers;
 use wire_contacts::contact_records;
 use wire_records::records;
