@@ -1,37 +1,20 @@
 // The contact calls as a program of Rattle makes them, for benchmarks: shapes stand in arrays, and a pass calls one
 // after another, each on the manifold of the last. Nothing but safety is promised: the benchmark compares the answers
 // with the references.
-ghost use Prim.Native.Nat.{_<_};
 use crate::manifolds::Manifold;
-use crate::points::Clip;
-use crate::points::States;
-use contacts::b2_collision;
-use contacts::point_states;
+use bench_clips::clip_passes;
+use bench_clips::clip_records::Clip;
+use bench_outlines::outline_passes;
+use bench_states::state_passes;
+use bench_states::state_records::States;
+use bench_walls::wall_passes;
 
 mod manifolds;
-mod points;
-mod shapes;
-mod steps;
-
-// The case of a number.
-fn case(k: u32) -> usize
-    ensures { λ r. ⌜ r < 1024 ⌝ }
-{
-    (k % 1024) as usize
-}
 
 #[no_mangle]
 pub extern "C" fn pass_circles(old: Manifold, a: &[f32], b: &[f32], order: &[u32]) -> Manifold {
-    let all_a = shapes::all_circles(a);
-    let all_b = shapes::all_circles(b);
-    let mut answer = manifolds::answer_in(old);
-    let mut i = 0usize;
-    while i < order.len() {
-        let k = case(order[i]);
-        answer = steps::circles(answer, all_a[k], all_b[k]);
-        i += 1;
-    }
-    manifolds::answer_out(answer)
+    let answer = manifolds::answer_in(old);
+    manifolds::answer_out(outline_passes::circles(answer, a, b, order))
 }
 
 #[no_mangle]
@@ -42,16 +25,8 @@ pub extern "C" fn pass_polygon_and_circle(
     b: &[f32],
     order: &[u32],
 ) -> Manifold {
-    let all_a = shapes::all_polygons(a, count_a);
-    let all_b = shapes::all_circles(b);
-    let mut answer = manifolds::answer_in(old);
-    let mut i = 0usize;
-    while i < order.len() {
-        let k = case(order[i]);
-        answer = steps::polygon_and_circle(answer, all_a[k], all_b[k]);
-        i += 1;
-    }
-    manifolds::answer_out(answer)
+    let answer = manifolds::answer_in(old);
+    manifolds::answer_out(outline_passes::polygon_and_circle(answer, a, count_a, b, order))
 }
 
 #[no_mangle]
@@ -63,16 +38,8 @@ pub extern "C" fn pass_polygons(
     count_b: usize,
     order: &[u32],
 ) -> Manifold {
-    let all_a = shapes::all_polygons(a, count_a);
-    let all_b = shapes::all_polygons(b, count_b);
-    let mut answer = manifolds::answer_in(old);
-    let mut i = 0usize;
-    while i < order.len() {
-        let k = case(order[i]);
-        answer = steps::polygons(answer, all_a[k], all_b[k]);
-        i += 1;
-    }
-    manifolds::answer_out(answer)
+    let answer = manifolds::answer_in(old);
+    manifolds::answer_out(outline_passes::polygons(answer, a, count_a, b, count_b, order))
 }
 
 #[no_mangle]
@@ -83,16 +50,8 @@ pub extern "C" fn pass_edge_and_circle(
     b: &[f32],
     order: &[u32],
 ) -> Manifold {
-    let all_a = shapes::all_edges(a, one_sided);
-    let all_b = shapes::all_circles(b);
-    let mut answer = manifolds::answer_in(old);
-    let mut i = 0usize;
-    while i < order.len() {
-        let k = case(order[i]);
-        answer = steps::edge_and_circle(answer, all_a[k], all_b[k]);
-        i += 1;
-    }
-    manifolds::answer_out(answer)
+    let answer = manifolds::answer_in(old);
+    manifolds::answer_out(wall_passes::edge_and_circle(answer, a, one_sided, b, order))
 }
 
 #[no_mangle]
@@ -104,45 +63,16 @@ pub extern "C" fn pass_edge_and_polygon(
     count_b: usize,
     order: &[u32],
 ) -> Manifold {
-    let all_a = shapes::all_edges(a, one_sided);
-    let all_b = shapes::all_polygons(b, count_b);
-    let mut answer = manifolds::answer_in(old);
-    let mut i = 0usize;
-    while i < order.len() {
-        let k = case(order[i]);
-        answer = steps::edge_and_polygon(answer, all_a[k], all_b[k]);
-        i += 1;
-    }
-    manifolds::answer_out(answer)
+    let answer = manifolds::answer_in(old);
+    manifolds::answer_out(wall_passes::edge_and_polygon(answer, a, one_sided, b, count_b, order))
 }
 
 #[no_mangle]
 pub extern "C" fn pass_clip(old: Clip, x: &[f32], order: &[u32]) -> Clip {
-    let segments = points::all_segments(x);
-    let mut answer = points::answer_in(old);
-    let mut i = 0usize;
-    while i < order.len() {
-        let k = case(order[i]);
-        let s = segments[k];
-        let ends = s.ends;
-        let last = answer.points;
-        answer = b2_collision::b2_clip_segment_to_line(last, ends, s.normal, s.offset, s.index);
-        i += 1;
-    }
-    points::clip_out(answer)
+    clip_passes::clip(old, x, order)
 }
 
 #[no_mangle]
 pub extern "C" fn pass_point_states(x: &[u8], order: &[u32]) -> States {
-    let first = points::all_manifolds(x, 0);
-    let second = points::all_manifolds(x, 9);
-    let mut answer = points::no_answer();
-    let mut i = 0usize;
-    while i < order.len() {
-        let k = case(order[i]);
-        let last = answer.states;
-        answer = point_states::b2_get_point_states(last, first[k], second[k]);
-        i += 1;
-    }
-    points::states_out(answer)
+    state_passes::states(x, order)
 }

@@ -1,2 +1,1 @@
-pub mod PairWords
 pub mod Dispatch

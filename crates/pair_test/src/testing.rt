@@ -6,7 +6,7 @@ ghost use Rattle.shape_definitions.specs.Refusal.{accepted};
 ghost use Rattle.record_definitions.specs.Touch as results;
 use contact_definitions::b2_collision::B2manifold;
 use contact_definitions::b2_collision::WorldAnswer;
-use contacts::point_states;
+use contact_states::point_states;
 use meetings::meeting;
 use record_definitions::touch::TestAnswer;
 use record_definitions::world::Body;

@@ -8,9 +8,10 @@ use lib.Ieee.{Float}
 use Rattle.floats.specs.declared.b2_math.Normalized.{Normalized}
 use Rattle.floats.specs.B2Math.{vec2, b2-sqrt, b2-normalize}
 use Rattle.contact_entries.specs.ContactEntries.{contact-answer}
-use Rattle.wire_records.specs.Words.{word-at}
+use Rattle.wire_words.specs.Words.{word-at}
 use Rattle.wire_records.specs.Records.{float-at, bits}
-use Rattle.test_calls.specs.Entries.{root-answer, normalize-answer, shape-answer, entry-answer, answer}
+use Rattle.shape_entries.specs.ShapeEntries.{shape-answer}
+use Rattle.test_calls.specs.Entries.{root-answer, normalize-answer, entry-answer, answer}
 
 pub root-words : (request : List ℕ) (x root : Float) (w : ℕ) → length request ≡ 8 → x ≡ float-at request 1
     → root ≡ b2-sqrt x
@@ -37,16 +38,6 @@ unfolding normalize-answer
 normalize-malformed request size = simp (ne-eqb _ _ size)
 
 -- ---- which entry answers
-pub answers-as : (number entry : ℕ) (request : List ℕ) → entry ≡ number
-    → shape-answer number request ≡ shape-answer entry request
-answers-as number entry request is = rw is
-
-pub no-shape : (entry : ℕ) (request : List ℕ) → (entry ≡ 1 → ⊥) → (entry ≡ 2 → ⊥) → (entry ≡ 3 → ⊥)
-    → (entry ≡ 4 → ⊥) → (entry ≡ 5 → ⊥) → (entry ≡ 6 → ⊥) → shape-answer entry request ≡ []
-unfolding shape-answer
-no-shape entry request no-1 no-2 no-3 no-4 no-5 no-6 =
-    simp (ne-eqb _ _ no-1, ne-eqb _ _ no-2, ne-eqb _ _ no-3, ne-eqb _ _ no-4, ne-eqb _ _ no-5, ne-eqb _ _ no-6)
-
 pub no-entry : (request : List ℕ) → length request < 4 → answer request ≡ []
 unfolding answer
 no-entry request short = simp (lt-ltb _ _ short)

@@ -1,12 +1,10 @@
 // The C entry points for tests: every call behind a number, on byte slices.
-ghost use Rattle.wire_records.specs.Words.{Written};
+ghost use Rattle.wire_words.specs.Words.{Written};
 ghost use Rattle.test_calls.specs.Entries.{root-answer, normalize-answer, answer};
 use floats::b2_math;
 use floats::b2_math::B2vec2;
 use floats::bits;
-use wire_records::words;
-
-mod shape_entries;
+use wire_words::words;
 
 // 15, x: the root.
 fn root(input: &[u8], out: &mut [u8]) -> u32

@@ -1,33 +1,18 @@
--- The words of records that hold two points, from the words of each: a place of a pair is the same whatever stands
--- behind its end. Assumes nothing.
-use Prim.Native.Nat.{ℕ, _<_}
+-- The words of a manifold from the words of its two points: a place of a pair is the same whatever stands behind its
+-- end. And those of a call of two shapes, from what was read. Assumes nothing.
+use Prim.Native.Nat.{ℕ}
 use mathlib.Core.Path.{_≡_}
 use mathlib.Core.List.{List, [], _∷_, _++_}
-use native.Mathlib.Omega.{arith}
-use lib.Ieee.{Float}
 use lib.ListN.{length, getD}
-use Rattle.algebra.proofs.Lists.{getD-within}
-use Rattle.floats.specs.declared.b2_math.B2vec2.{B2vec2}
-use Rattle.rounding.specs.Literals.{zero32}
-use Rattle.shape_definitions.specs.Outline.{origin}
+use Rattle.floats.specs.declared.b2_math.B2Transform.{B2Transform}
 use Rattle.contact_definitions.specs.declared.b2_collision.B2manifoldPoint.{B2manifoldPoint}
-use Rattle.contact_definitions.specs.declared.b2_collision.B2clipVertex.{B2clipVertex}
+use Rattle.contact_definitions.specs.declared.b2_collision.B2manifold.{B2manifold}
 use Rattle.contact_definitions.specs.declared.b2_collision.ManifoldAnswer.{ManifoldAnswer}
-use Rattle.contact_definitions.specs.declared.b2_collision.ClipAnswer.{ClipAnswer}
-use Rattle.contact_definitions.specs.declared.b2_collision.WorldAnswer.{WorldAnswer}
 use Rattle.contact_definitions.specs.Manifold.{default-point, kind-number}
+use Rattle.clipping.proofs.Two.{first-place, second-place}
 use Rattle.wire_records.specs.Records.{bits, low-word}
-use Rattle.wire_answers.specs.ContactAnswers.{id-word, vector-words, manifold-point-words, manifold-words}
-use Rattle.wire_answers.specs.ContactAnswers.{manifold-answer-words, no-vertex, clip-vertex-words}
-use Rattle.wire_answers.specs.ContactAnswers.{clip-answer-words}
-use Rattle.wire_answers.specs.ContactAnswers.{world-manifold-words, world-answer-words}
-
-module _ {A : Type 0} (l : List A) (d e : A) (two : length l ≡ 2) where
-  first-of : getD l 0 d ≡ getD l 0 e
-  first-of = let within : 0 < length l = omega arith in getD-within l 0 d e within
-
-  second-of : getD l 1 d ≡ getD l 1 e
-  second-of = let within : 1 < length l = omega arith in getD-within l 1 d e within
+use Rattle.wire_answers.specs.ContactAnswers.{id-word, manifold-point-words, manifold-words}
+use Rattle.wire_answers.specs.ContactAnswers.{manifold-answer-words}
 
 -- ---- manifolds: the words of a point, and of the record
 pub point-words : (p : B2manifoldPoint) (x y normal tangent id : ℕ) → x ≡ bits (p .«local_point» .x)
@@ -60,56 +45,15 @@ manifold-written a d refusal kind count nx ny px py words0 words1 two refusal-is
       py-is,
       words0-is,
       words1-is,
-      first-of (a .manifold .points) d default-point two,
-      second-of (a .manifold .points) d default-point two,
+      first-place (a .manifold .points) d default-point two,
+      second-place (a .manifold .points) d default-point two,
     )
 
--- ---- clips
-pub clip-written : (a : ClipAnswer) (d : B2clipVertex) (refusal count x0 y0 id0 x1 y1 id1 : ℕ) → length (a .points) ≡ 2
-    → refusal ≡ a .refusal → count ≡ low-word (a .count)
-    → x0 ≡ bits (getD (a .points) 0 d .v .x) → y0 ≡ bits (getD (a .points) 0 d .v .y)
-    → id0 ≡ id-word (getD (a .points) 0 d .id)
-    → x1 ≡ bits (getD (a .points) 1 d .v .x) → y1 ≡ bits (getD (a .points) 1 d .v .y)
-    → id1 ≡ id-word (getD (a .points) 1 d .id)
-    → refusal ∷ count ∷ x0 ∷ y0 ∷ id0 ∷ x1 ∷ y1 ∷ id1 ∷ [] ≡ clip-answer-words a
-unfolding clip-answer-words clip-vertex-words
-clip-written a d refusal count x0 y0 id0 x1 y1 id1 two refusal-is count-is x0-is y0-is id0-is x1-is y1-is id1-is =
-    simp (
-      refusal-is,
-      count-is,
-      x0-is,
-      y0-is,
-      id0-is,
-      x1-is,
-      y1-is,
-      id1-is,
-      first-of (a .points) d no-vertex two,
-      second-of (a .points) d no-vertex two,
-    )
-
--- ---- world manifolds
-pub world-written : (a : WorldAnswer) (d : B2vec2) (e : Float) (refusal nx ny x0 y0 x1 y1 s0 s1 : ℕ)
-    → length (a .world .points) ≡ 2 → length (a .world .separations) ≡ 2
-    → refusal ≡ a .refusal → nx ≡ bits (a .world .normal .x) → ny ≡ bits (a .world .normal .y)
-    → x0 ≡ bits (getD (a .world .points) 0 d .x) → y0 ≡ bits (getD (a .world .points) 0 d .y)
-    → x1 ≡ bits (getD (a .world .points) 1 d .x) → y1 ≡ bits (getD (a .world .points) 1 d .y)
-    → s0 ≡ bits (getD (a .world .separations) 0 e) → s1 ≡ bits (getD (a .world .separations) 1 e)
-    → refusal ∷ nx ∷ ny ∷ x0 ∷ y0 ∷ x1 ∷ y1 ∷ s0 ∷ s1 ∷ [] ≡ world-answer-words a
-unfolding world-manifold-words
-world-written a d e refusal nx ny x0 y0 x1 y1 s0 s1 two two-separations refusal-is nx-is ny-is x0-is y0-is x1-is y1-is
-    s0-is s1-is =
-    simp (
-      refusal-is,
-      nx-is,
-      ny-is,
-      x0-is,
-      y0-is,
-      x1-is,
-      y1-is,
-      s0-is,
-      s1-is,
-      first-of (a .world .points) d origin two,
-      second-of (a .world .points) d origin two,
-      first-of (a .world .separations) e zero32 two-separations,
-      second-of (a .world .separations) e zero32 two-separations,
-    )
+-- ---- a call of two shapes
+pub pair-words : {A B : Type 0} (call : B2manifold → A → B2Transform → B → B2Transform → ManifoldAnswer)
+    (old old′ : B2manifold) (a a′ : A) (xfa xfa′ : B2Transform) (b b′ : B) (xfb xfb′ : B2Transform)
+    (answer : ManifoldAnswer) → old ≡ old′ → a ≡ a′ → xfa ≡ xfa′ → b ≡ b′ → xfb ≡ xfb′
+    → answer ≡ call old a xfa b xfb
+    → manifold-answer-words answer ≡ manifold-answer-words (call old′ a′ xfa′ b′ xfb′)
+pair-words call old old′ a a′ xfa xfa′ b b′ xfb xfb′ answer old-is a-is xfa-is b-is xfb-is answer-is =
+    simp (answer-is, old-is, a-is, xfa-is, b-is, xfb-is)

@@ -1,2 +1,2 @@
-// The answers of contact calls as words: manifolds, clips, world manifolds and point states.
+// Answers of the calls of two shapes, to words.
 pub mod contact_answers;

@@ -21,7 +21,7 @@ use Rattle.contact_definitions.specs.declared.b2_collision.B2pointState.the-var
 use Rattle.contact_definitions.specs.declared.b2_collision.PointStates.{PointStates}
 use Rattle.contact_definitions.specs.Manifold.{contact-id}
 use Rattle.lines.specs.Fields.{byte-at, placement-at}
-use Rattle.wire_records.specs.Words.{word-at}
+use Rattle.wire_words.specs.Words.{word-at}
 use Rattle.wire_records.specs.Records.{float-at, vector-at}
 
 -- ---- circles and placements

@@ -19,7 +19,7 @@ use floats::b2_math::B2Transform;
 use lines::fields;
 use shape_definitions::b2_circle_shape::B2circleShape;
 use wire_records::records;
-use wire_records::words;
+use wire_words::words;
 
 pub fn circle(input: &[u8], i: usize) -> B2circleShape
     requires { ⌜ 4 * i + 12 ≤ length (now input) ⌝ }

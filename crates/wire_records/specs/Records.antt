@@ -11,7 +11,7 @@ use Rattle.floats.specs.declared.b2_math.B2Rot.{B2Rot}
 use Rattle.shape_definitions.specs.declared.b2_polygon_shape.B2polygonShape.{B2polygonShape}
 use Rattle.shape_definitions.specs.declared.b2_edge_shape.B2edgeShape.{B2edgeShape}
 use Rattle.lines.specs.Fields as Fields
-use Rattle.wire_records.specs.Words.{word-at}
+use Rattle.wire_words.specs.Words.{word-at}
 
 -- ---- decoding
 abbrev pub float-at : List ℕ → ℕ → Float

@@ -3,10 +3,9 @@ ghost use mathlib.Core.Path.{_≡_};
 ghost use mathlib.Core.List.{_∷_, _++_};
 ghost use Prim.Native.Nat.{_+_, _*_, _≤_};
 ghost use lib.ListN.{length, take};
-ghost use Rattle.wire_records.specs.Words.{Written};
+ghost use Rattle.wire_words.specs.Words.{Written};
 ghost use Rattle.wire_records.specs.Records.{float-at, vector-at, points-at, rotation-at, polygon-at, edge-at};
 ghost use Rattle.wire_records.specs.Records.{low-word, flag, points-words, polygon-words, edge-words};
-use crate::words;
 use floats::b2_math::B2Rot;
 use floats::b2_math::B2vec2;
 use floats::bits;
@@ -15,6 +14,7 @@ use shape_definitions::b2_edge_shape::B2edgeShape;
 use shape_definitions::b2_edge_shape::EdgeAnswer;
 use shape_definitions::b2_polygon_shape::B2polygonShape;
 use shape_definitions::b2_polygon_shape::PolygonAnswer;
+use wire_words::words;
 
 pub fn float(input: &[u8], i: usize) -> f32
     requires { ⌜ 4 * i + 4 ≤ length (now input) ⌝ }

@@ -4,9 +4,9 @@ use Prim.Native.Nat.{ℕ}
 use mathlib.Core.List.{List}
 use Rattle.contact_definitions.specs.WorldManifold.{b2-world-manifold-initialize}
 use Rattle.wire_records.specs.Records.{float-at}
-use Rattle.wire_records.specs.Requests.{well-formed}
+use Rattle.wire_words.specs.Requests.{well-formed}
 use Rattle.wire_contacts.specs.ContactRecords.{transform-at, manifold-at, kind-known, world-manifold-at}
-use Rattle.wire_answers.specs.ContactAnswers.{world-answer-words}
+use Rattle.wire_points.specs.PointAnswers.{world-answer-words}
 
 -- 13, a world manifold, a manifold, placement A, radius A, placement B, radius B
 unfoldable pub world-points-answer : List ℕ → List ℕ

@@ -1,8 +1,8 @@
 // The entry of the world points: a request of bytes, and the answer's words.
-ghost use Rattle.wire_records.specs.Words.{Written};
+ghost use Rattle.wire_words.specs.Words.{Written};
 ghost use Rattle.world_entries.specs.WorldEntries.{world-points-answer};
-use wire_answers::contact_answers;
 use wire_contacts::contact_records;
+use wire_points::point_answers;
 use wire_records::records;
 use world_manifold::b2_collision;
 
@@ -31,5 +31,5 @@ pub fn points(input: &[u8], out: &mut [u8]) -> u32
         xfb,
         radius_b,
     );
-    contact_answers::put_world(out, answer)
+    point_answers::put_world(out, answer)
 }

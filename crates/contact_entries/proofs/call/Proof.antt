@@ -1,5 +1,5 @@
 -- `call` answers what the entry of its number answers, and nothing under another number. Assumes nothing.
-use Rattle.wire_records.proofs.Bytes.{nothing-written, written-as}
+use Rattle.wire_words.proofs.Bytes.{nothing-written, written-as}
 use Rattle.contact_entries.specs.ContactEntries.{contact-answer}
 use Rattle.contact_entries.proofs.Dispatch.{answers-as, no-contact}
 use borrow.Author.Needs.{needs}

@@ -1,6 +1,6 @@
 -- Entry 13 answers the world points, or nothing to another length or kind. Assumes nothing.
-use Rattle.wire_records.proofs.Bytes.{nothing-written, written-as}
-use Rattle.wire_records.proofs.Requests.{other-length, unknown, answered}
+use Rattle.wire_words.proofs.Bytes.{nothing-written, written-as}
+use Rattle.wire_words.proofs.Requests.{other-length, unknown, answered}
 use Rattle.world_entries.specs.WorldEntries.{world-points-answer}
 use borrow.Author.Needs.{needs}
 use Rattle.world_entries.proofs.points.Statement.{statement}

@@ -1,7 +1,7 @@
 -- `put_manifold` writes the refusal and the manifold's sixteen words. Assumes nothing.
 use mathlib.Core.Path.{sym, _∙_}
 use lib.ListN.{getD, length-map}
-use Rattle.wire_records.proofs.Bytes.{written-as}
+use Rattle.wire_words.proofs.Bytes.{written-as}
 use Rattle.wire_answers.proofs.Pairs.{point-words, manifold-written}
 use borrow.Author.Needs.{needs}
 use Rattle.wire_answers.proofs.contact_answers.put_manifold.Statement.{statement}

@@ -1,6 +1,6 @@
 -- `put_edge` writes the refusal and the wall's ten words. Assumes nothing.
 use Rattle.wire_records.specs.Records.{edge-words, points-words}
-use Rattle.wire_records.proofs.Bytes.{written-as}
+use Rattle.wire_words.proofs.Bytes.{written-as}
 use borrow.Author.Needs.{needs}
 use Rattle.wire_records.proofs.records.put_edge.Statement.{statement}
 use Rattle.wire_records.proofs.records.put_edge.Tie as tie

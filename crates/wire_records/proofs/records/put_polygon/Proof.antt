@@ -1,5 +1,5 @@
 -- `put_polygon` writes the refusal and the outline's thirty-six words. Assumes nothing.
-use Rattle.wire_records.proofs.Bytes.{written-as}
+use Rattle.wire_words.proofs.Bytes.{written-as}
 use Rattle.wire_records.proofs.Rows.{outline-written}
 use borrow.Author.Needs.{needs}
 use Rattle.wire_records.proofs.records.put_polygon.Statement.{statement}

@@ -1,0 +1,2 @@
+// Placed shapes in arrays, for the passes of the benchmark.
+pub mod placed;

@@ -1,0 +1,2 @@
+// Passes over walls, for the benchmark.
+pub mod wall_passes;

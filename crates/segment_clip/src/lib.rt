@@ -1,0 +1,2 @@
+// The call that clips a segment to a line.
+pub mod b2_collision;

@@ -1,0 +1,2 @@
+// Requests and answers as words of four bytes.
+pub mod words;
