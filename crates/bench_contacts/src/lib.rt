@@ -1,10 +1,10 @@
 // The contact calls as a program of Rattle makes them, for benchmarks: shapes stand in arrays, and a pass calls one
 // after another, each on the manifold of the last. Nothing but safety is promised: the benchmark compares the answers
 // with the references.
-ghost use Prim.Native.Nat.{_<_};
 use crate::manifolds::Manifold;
 use crate::points::Clip;
 use crate::points::States;
+use bench_cases::numbers::case;
 use contacts::b2_collision;
 use contacts::point_states;
 
@@ -12,13 +12,6 @@ mod manifolds;
 mod points;
 mod shapes;
 mod steps;
-
-// The case of a number.
-fn case(k: u32) -> usize
-    ensures { λ r. ⌜ r < 1024 ⌝ }
-{
-    (k % 1024) as usize
-}
 
 #[no_mangle]
 pub extern "C" fn pass_circles(old: Manifold, a: &[f32], b: &[f32], order: &[u32]) -> Manifold {

@@ -2,8 +2,8 @@
 // can name. A case without numbers has none but 0.
 ghost use Prim.Native.Nat.{_+_, _≤_};
 ghost use lib.ListN.{length};
-use crate::shapes::CASES;
-use crate::shapes::at_most_cases;
+use bench_cases::numbers::CASES;
+use bench_cases::numbers::at_most_cases;
 use contact_definitions::b2_collision::B2clipVertex;
 use contact_definitions::b2_collision::B2contactFeature;
 use contact_definitions::b2_collision::B2contactId;
