@@ -47,7 +47,8 @@ fn of_rust(w: &B2worldManifold) -> Numbers {
 }
 
 fn circles(r: &mut Random) -> Asked {
-    let c = cases::circles(r, 1.1);
+    let distance = r.between(0.3, 1.2);
+    let c = cases::circles(r, distance);
     let mut m = B2manifold::default();
     b2_collide_circles(&mut m, &c.a, &c.at_a, &c.b, &c.at_b);
     Asked { m, at: [c.at_a, c.at_b], radii: [c.a.base.m_radius, c.b.base.m_radius] }
