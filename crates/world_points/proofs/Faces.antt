@@ -60,6 +60,17 @@ kept-is old d e points-two separations-two =
     ap₂ (λ (p : B2vec2) (s : Float). record { middle = p; separation = s })
     (second-place (old .points) d origin points-two) (second-place (old .separations) e zero32 separations-two)
 
+pub counted-is : (m : B2manifold) (d : B2manifoldPoint) (normal plane carried : B2vec2) (radius1 : Float)
+    (xf2 : B2Transform) (radius2 : Float) (r : WorldPoint) → length (m .points) ≡ 2
+    → carried ≡ b2-mul-transform-by-vec2 xf2 (getD (m .points) 1 d .«local_point»)
+    → r ≡ at-plane normal plane radius1 radius2 carried
+    → r ≡ at-plane normal plane radius1 radius2 (b2-mul-transform-by-vec2 xf2 (manifold-point m 1 .«local_point»))
+counted-is m d normal plane carried radius1 xf2 radius2 r m-two carried-is r-is =
+    r-is ∙ ap (at-plane normal plane radius1 radius2) carried-is
+    ∙ ap (λ (p : B2manifoldPoint). at-plane normal plane radius1 radius2
+    (b2-mul-transform-by-vec2 xf2 (p .«local_point»)))
+    (second-place (m .points) d default-point m-two)
+
 chosen-middle : (t : Bool) (a b : WorldPoint) → cond t a b .middle ≡ cond t (a .middle) (b .middle)
 chosen-middle true a b = refl
 chosen-middle false a b = refl
@@ -85,7 +96,8 @@ module _ (is-b : Bool) (old : B2worldManifold) (m : B2manifold) (d : B2manifoldP
         separations = plane-separation normal plane radius1 radius2 carried0 ∷ second .separation ∷ [];
       }
 
-  middles : (normal plane : B2vec2) → made normal plane (carry (getD (m .points) 0 d)) .points ≡ over (map (plane-middle is-b normal plane radius1 radius2) (carried-points m xf2)) (old .points)
+  middles : (normal plane : B2vec2) → made normal plane (carry (getD (m .points) 0 d)) .points
+      ≡ over (map (plane-middle is-b normal plane radius1 radius2) (carried-points m xf2)) (old .points)
   unfolding carried-points counted-points
   middles normal plane =
       ap₂ (λ (p q : B2vec2). p ∷ q ∷ [])
@@ -93,8 +105,8 @@ module _ (is-b : Bool) (old : B2worldManifold) (m : B2manifold) (d : B2manifoldP
       (chosen-middle (eqb (m .«point_count») 1) _ _
       ∙ ap (cond (eqb (m .«point_count») 1) (getD (old .points) 1 origin))
       (middle-either is-b normal plane radius1 radius2 (carry (manifold-point m 1))))
-      ∙ over-places carry (plane-middle is-b normal plane radius1 radius2) d default-point origin (m .«point_count») (m .points)
-      (old .points) m-two points-two some few
+      ∙ over-places carry (plane-middle is-b normal plane radius1 radius2) d default-point origin (m .«point_count»)
+      (m .points) (old .points) m-two points-two some few
 
   distances : (normal plane : B2vec2)
       → made normal plane (carry (getD (m .points) 0 d)) .separations
@@ -103,8 +115,8 @@ module _ (is-b : Bool) (old : B2worldManifold) (m : B2manifold) (d : B2manifoldP
   distances normal plane =
       ap (λ (s : Float). plane-separation normal plane radius1 radius2 (carry (getD (m .points) 0 d)) ∷ s ∷ [])
       (chosen-separation (eqb (m .«point_count») 1) _ _)
-      ∙ over-places carry (plane-separation normal plane radius1 radius2) d default-point zero32 (m .«point_count») (m .points)
-      (old .separations) m-two separations-two some few
+      ∙ over-places carry (plane-separation normal plane radius1 radius2) d default-point zero32 (m .«point_count»)
+      (m .points) (old .separations) m-two separations-two some few
 
   made-is : made (b2-mul-rot-by-vec2 (xf1 .q) (m .«local_normal»)) (b2-mul-transform-by-vec2 xf1 (m .«local_point»))
       (carry (getD (m .points) 0 d)) ≡ world-of-face is-b old m xf1 radius1 xf2 radius2

@@ -1,13 +1,7 @@
 -- By the count. Assumes nothing.
-use mathlib.Core.Path.{ap, _∙_}
 use lib.ListN.{length-map}
-use Rattle.floats.specs.B2Math.{b2-mul-transform-by-vec2}
-use Rattle.contact_definitions.specs.declared.b2_collision.B2manifoldPoint.{B2manifoldPoint}
-use Rattle.contact_definitions.specs.Manifold.{default-point}
 use borrow.Author.Tests.{eq-eqb, ne-eqb}
-use Rattle.clipping.proofs.Two.{second-place}
-use Rattle.world_points.specs.Points.{at-plane}
-use Rattle.world_points.proofs.Faces.{kept-is}
+use Rattle.world_points.proofs.Faces.{kept-is, counted-is}
 use borrow.Author.Needs.{needs}
 use Rattle.world_points.proofs.face_points.second_point.Statement.{statement}
 use Rattle.world_points.proofs.face_points.second_point.Tie as tie
@@ -43,10 +37,7 @@ returns-2 c =
     let a = start .args in
     let m-two = simp length-map at (start .good .1 .0 .1 .1 .0 .1 .0 .1) in
     simp (ne-eqb _ _ (more .if1 .left))
-    (c .face-point .ensures
-    ∙ ap (at-plane (a .normal) (a .plane) (a .radius1) (a .radius2)) (carried .b2-mul-transform-by-vec2 .ensures
-    ∙ ap (λ (p : B2manifoldPoint). b2-mul-transform-by-vec2 (a .xf2) (p .«local_point»))
-    (second-place (a .t2 .points) _ default-point m-two)))
+    (counted-is (a .t2) _ _ _ _ _ _ _ _ m-two (carried .b2-mul-transform-by-vec2 .ensures) (c .face-point .ensures))
 
 pub second-point-spec : {M : Type 1} → statement M
 second-point-spec =
