@@ -3,6 +3,10 @@
 //! the rows whose name has it.
 mod cases;
 mod contacts;
+mod manifolds;
+mod points;
+mod race;
+mod world;
 
 use box2d_rs::b2_math::{b2_sqrt, B2vec2};
 use box2d_rs::shapes::b2_polygon_shape::B2polygonShape;
@@ -218,5 +222,9 @@ fn main() {
     boxes(rounds);
     validates(4, rounds);
     validates(8, rounds);
+    race::heading();
     contacts::run(5 * rounds);
+    points::clips(5 * rounds);
+    points::states(5 * rounds);
+    world::run(5 * rounds);
 }

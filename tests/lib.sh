@@ -5,9 +5,9 @@ cd "$(dirname "${BASH_SOURCE[0]}")/.." || exit 1
 
 # The crates with C exports and their header: a new name is written here, and in examples/host.c, which includes it.
 calls_crate=test_calls
-bench_crate=bench_calls
+roots_crate=bench_calls
+bench_crates="bench_calls bench_contacts bench_world"
 record_crate=record
-contacts_crate=bench_contacts
 header=netxurbil_test_calls.h
 
 build=target/tests

@@ -63,3 +63,9 @@ extern "C" int32_t box2d_clip(b2ClipVertex *out, const b2ClipVertex *in, const b
 extern "C" void box2d_point_states(b2PointState *states, const b2Manifold *m1, const b2Manifold *m2) {
     b2GetPointStates(states, states + 2, m1, m2);
 }
+
+// A placement is its position, sine and cosine.
+extern "C" void box2d_world_points(b2WorldManifold *world, const b2Manifold *m, const b2Transform *at_a, float radius_a,
+                                   const b2Transform *at_b, float radius_b) {
+    world->Initialize(m, *at_a, radius_a, *at_b, radius_b);
+}

@@ -3,8 +3,8 @@ ghost use Prim.Native.Nat.{_+_, _≤_};
 ghost use lib.ListN.{length};
 use crate::clip_records;
 use crate::clip_records::Clip;
-use bench_shapes::placed;
-use bench_shapes::placed::CASES;
+use bench_cases::numbers;
+use bench_cases::numbers::CASES;
 use contact_definitions::b2_collision::B2clipVertex;
 use contact_definitions::b2_collision::B2contactFeature;
 use contact_definitions::b2_collision::B2contactId;
@@ -56,7 +56,7 @@ fn segment_at(x: &[f32], i: usize, index: usize) -> Segment
 }
 
 fn all_segments(x: &[f32]) -> [Segment; CASES] {
-    let n = placed::at_most_cases(x.len() / SEGMENT);
+    let n = numbers::at_most_cases(x.len() / SEGMENT);
     let none = Segment {
         ends: [end_of(0.0, 0.0, 0), end_of(0.0, 0.0, 0)],
         normal: B2vec2 { x: 0.0, y: 0.0 },
@@ -83,7 +83,7 @@ fn clips(mut answer: ClipAnswer, x: &[f32], order: &[u32]) -> ClipAnswer {
     let segments = all_segments(x);
     let mut i = 0usize;
     while i < order.len() {
-        let k = placed::case(order[i]);
+        let k = numbers::case(order[i]);
         answer = clip_once(answer, segments[k]);
         i += 1;
     }

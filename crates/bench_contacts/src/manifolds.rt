@@ -1,4 +1,5 @@
 // Manifolds as records that C can name: without an enum, and with the refusal beside them.
+use bench_cases::manifolds::kind_in;
 use contact_definitions::b2_collision::B2contactFeature;
 use contact_definitions::b2_collision::B2contactId;
 use contact_definitions::b2_collision::B2manifold;
@@ -44,14 +45,6 @@ fn point_in(p: Point) -> B2manifoldPoint {
                 type_b: p.type_b,
             },
         },
-    }
-}
-
-fn kind_in(kind: u32) -> B2manifoldType {
-    match kind {
-        0 => B2manifoldType::ECircles,
-        1 => B2manifoldType::EFaceA,
-        _ => B2manifoldType::EFaceB,
     }
 }
 

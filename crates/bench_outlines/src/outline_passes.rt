@@ -1,4 +1,5 @@
 // Passes over circles and outlines: each call on the manifold of the last.
+use bench_cases::numbers;
 use bench_shapes::placed;
 use bench_shapes::placed::PlacedCircle;
 use bench_shapes::placed::PlacedPolygon;
@@ -16,7 +17,7 @@ pub fn circles(mut answer: ManifoldAnswer, a: &[f32], b: &[f32], order: &[u32]) 
     let all_b = placed::all_circles(b);
     let mut i = 0usize;
     while i < order.len() {
-        let k = placed::case(order[i]);
+        let k = numbers::case(order[i]);
         answer = circles_once(answer, all_a[k], all_b[k]);
         i += 1;
     }
@@ -43,7 +44,7 @@ pub fn polygon_and_circle(
     let all_b = placed::all_circles(b);
     let mut i = 0usize;
     while i < order.len() {
-        let k = placed::case(order[i]);
+        let k = numbers::case(order[i]);
         answer = polygon_and_circle_once(answer, all_a[k], all_b[k]);
         i += 1;
     }
@@ -67,7 +68,7 @@ pub fn polygons(
     let all_b = placed::all_polygons(b, count_b);
     let mut i = 0usize;
     while i < order.len() {
-        let k = placed::case(order[i]);
+        let k = numbers::case(order[i]);
         answer = polygons_once(answer, all_a[k], all_b[k]);
         i += 1;
     }

@@ -1,16 +1,17 @@
 // Placed shapes from numbers, each with its placement after it: a circle's centre and radius; a wall's four vertices
 // and radius; an outline's eight corners, eight normals, centroid and radius. A case without numbers has none but 0.
-ghost use Prim.Native.Nat.{_+_, _<_, _≤_};
+ghost use Prim.Native.Nat.{_+_, _≤_};
 ghost use lib.ListN.{length};
-use floats::b2_math::B2Rot;
+use bench_cases::numbers::CASES;
+use bench_cases::numbers::at_most_cases;
+use bench_cases::numbers::origin;
+use bench_cases::numbers::placement;
+use bench_cases::numbers::vector;
 use floats::b2_math::B2Transform;
 use floats::b2_math::B2vec2;
 use shape_definitions::b2_circle_shape::B2circleShape;
 use shape_definitions::b2_edge_shape::B2edgeShape;
 use shape_definitions::b2_polygon_shape::B2polygonShape;
-
-// How many cases a pass is over.
-pub const CASES: usize = 1024;
 
 // How many numbers each shape has with its placement.
 const CIRCLE: usize = 7;
@@ -34,15 +35,6 @@ pub struct PlacedPolygon {
     pub place: B2Transform,
 }
 
-fn vector(x: &[f32], i: usize) -> B2vec2
-    requires { ⌜ i + 2 ≤ length (now x) ⌝ }
-{
-    B2vec2 {
-        x: x[i],
-        y: x[i + 1],
-    }
-}
-
 fn eight(x: &[f32], i: usize) -> [B2vec2; 8]
     requires { ⌜ i + 16 ≤ length (now x) ⌝ }
 {
@@ -56,18 +48,6 @@ fn eight(x: &[f32], i: usize) -> [B2vec2; 8]
         vector(x, i + 12),
         vector(x, i + 14),
     ]
-}
-
-// The placement whose position is at i.
-fn placement(x: &[f32], i: usize) -> B2Transform
-    requires { ⌜ i + 4 ≤ length (now x) ⌝ }
-{
-    let p = vector(x, i);
-    let q = B2Rot {
-        s: x[i + 2],
-        c: x[i + 3],
-    };
-    B2Transform { p, q }
 }
 
 fn circle(x: &[f32], i: usize) -> B2circleShape
@@ -109,13 +89,6 @@ fn polygon(x: &[f32], i: usize, m_count: usize) -> B2polygonShape
         m_vertices,
         m_normals,
         m_count,
-    }
-}
-
-fn origin() -> B2Transform {
-    B2Transform {
-        p: B2vec2 { x: 0.0, y: 0.0 },
-        q: B2Rot { s: 0.0, c: 0.0 },
     }
 }
 
@@ -183,19 +156,6 @@ fn no_polygon(m_count: usize) -> PlacedPolygon {
         },
         place: origin(),
     }
-}
-
-// The case of a number.
-pub fn case(k: u32) -> usize
-    ensures { λ r. ⌜ r < 1024 ⌝ }
-{
-    (k % 1024) as usize
-}
-
-pub fn at_most_cases(n: usize) -> usize
-    ensures { λ r. ⌜ (r ≤ 1024) × (r ≤ n) ⌝ }
-{
-    if n < CASES { n } else { CASES }
 }
 
 pub fn all_circles(x: &[f32]) -> [PlacedCircle; CASES] {

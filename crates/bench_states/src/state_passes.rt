@@ -3,8 +3,8 @@ ghost use Prim.Native.Nat.{_+_, _≤_};
 ghost use lib.ListN.{length};
 use crate::state_records;
 use crate::state_records::States;
-use bench_shapes::placed;
-use bench_shapes::placed::CASES;
+use bench_cases::numbers;
+use bench_cases::numbers::CASES;
 use contact_definitions::b2_collision::B2contactFeature;
 use contact_definitions::b2_collision::B2contactId;
 use contact_definitions::b2_collision::B2manifold;
@@ -68,7 +68,7 @@ fn manifold_at(x: &[u8], i: usize) -> B2manifold
 fn all_manifolds(x: &[u8], from: usize) -> [B2manifold; CASES]
     requires { ⌜ from ≤ 9 ⌝ }
 {
-    let n = placed::at_most_cases(x.len() / MARKS);
+    let n = numbers::at_most_cases(x.len() / MARKS);
     let mut all = [no_manifold(); CASES];
     let mut k = 0usize;
     while k < n {
@@ -88,7 +88,7 @@ fn all_states(mut answer: PointStatesAnswer, x: &[u8], order: &[u32]) -> PointSt
     let second = all_manifolds(x, 9);
     let mut i = 0usize;
     while i < order.len() {
-        let k = placed::case(order[i]);
+        let k = numbers::case(order[i]);
         answer = states_once(answer, first[k], second[k]);
         i += 1;
     }

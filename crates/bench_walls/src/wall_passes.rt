@@ -1,4 +1,5 @@
 // Passes over walls: each call on the manifold of the last.
+use bench_cases::numbers;
 use bench_shapes::placed;
 use bench_shapes::placed::PlacedCircle;
 use bench_shapes::placed::PlacedEdge;
@@ -22,7 +23,7 @@ pub fn edge_and_circle(
     let all_b = placed::all_circles(b);
     let mut i = 0usize;
     while i < order.len() {
-        let k = placed::case(order[i]);
+        let k = numbers::case(order[i]);
         answer = edge_and_circle_once(answer, all_a[k], all_b[k]);
         i += 1;
     }
@@ -46,7 +47,7 @@ pub fn edge_and_polygon(
     let all_b = placed::all_polygons(b, count_b);
     let mut i = 0usize;
     while i < order.len() {
-        let k = placed::case(order[i]);
+        let k = numbers::case(order[i]);
         answer = edge_and_polygon_once(answer, all_a[k], all_b[k]);
         i += 1;
     }

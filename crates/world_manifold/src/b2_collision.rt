@@ -33,10 +33,10 @@ pub fn world_of_kind(
             circle_points::world_of_circles(old, m, xf_a, radius_a, xf_b, radius_b)
         }
         B2manifoldType::EFaceA => {
-            face_points::world_of_face(false, old, m, xf_a, radius_a, xf_b, radius_b)
+            face_points::world_of_face_a(old, m, xf_a, radius_a, xf_b, radius_b)
         }
         B2manifoldType::EFaceB => {
-            face_points::world_of_face(true, old, m, xf_b, radius_b, xf_a, radius_a)
+            face_points::world_of_face_b(old, m, xf_b, radius_b, xf_a, radius_a)
         }
     }
 }

@@ -1,2 +1,3 @@
 pub mod Faces
 pub mod Circles
+pub mod Distance

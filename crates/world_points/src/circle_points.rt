@@ -8,7 +8,6 @@ use floats::b2_common::B2_EPSILON;
 use floats::b2_math::B2Transform;
 use floats::b2_math::B2vec2;
 use floats::b2_math::b2_add;
-use floats::b2_math::b2_distance_vec2_squared;
 use floats::b2_math::b2_dot;
 use floats::b2_math::b2_mul_transform_by_vec2;
 use floats::b2_math::b2_scale;
@@ -20,8 +19,9 @@ const EPSILON_SQUARED: f32 = B2_EPSILON * B2_EPSILON;
 pub fn circles_normal(a: B2vec2, b: B2vec2) -> B2vec2
     ensures { λ r. ⌜ r ≡ circles-normal a b ⌝ }
 {
-    if b2_distance_vec2_squared(a, b) > EPSILON_SQUARED {
-        return unit::unit(b2_sub(b, a));
+    let d = b2_sub(b, a);
+    if b2_dot(d, d) > EPSILON_SQUARED {
+        return unit::unit(d);
     }
     B2vec2 { x: 1.0, y: 0.0 }
 }

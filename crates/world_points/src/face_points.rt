@@ -1,9 +1,7 @@
 // The world points of a face: 1 is the shape of the face, 2 the other.
 ghost use mathlib.Core.Path.{_≡_};
-ghost use mathlib.Core.Bool.{cond};
+ghost use mathlib.Core.Bool.{true, false};
 ghost use Prim.Native.Nat.{_<_, _≤_};
-ghost use lib.Dec.{eqb};
-ghost use Rattle.floats.specs.B2Math.{b2-neg};
 ghost use Rattle.contact_definitions.specs.WorldManifold.{world-of-face};
 ghost use Rattle.world_points.specs.Points.{at-plane, second-of};
 use contact_definitions::b2_collision::B2manifold;
@@ -45,30 +43,29 @@ pub fn face_point(
 }
 
 // What stands at the second place: what stood there where one point is counted.
-pub fn second_point(old: B2worldManifold, count: usize, new: WorldPoint) -> WorldPoint
-    ensures { λ r. ⌜ r ≡ cond (eqb count 1) (second-of old) new ⌝ }
+pub fn second_point(
+    old: B2worldManifold,
+    m: B2manifold,
+    normal: B2vec2,
+    plane: B2vec2,
+    radius1: f32,
+    xf2: B2Transform,
+    radius2: f32,
+) -> WorldPoint
+    ensures { λ r. ⌜ r ≡ second-of old m normal plane radius1 xf2 radius2 ⌝ }
 {
-    if count == 1 {
+    if m.point_count == 1 {
         let middle = old.points[1];
         let separation = old.separations[1];
         return WorldPoint { middle, separation };
     }
-    new
+    let p1 = m.points[1];
+    let carried = b2_mul_transform_by_vec2(xf2, p1.local_point);
+    face_point(normal, plane, radius1, radius2, carried)
 }
 
-// The normal from A to B, of a face of A, or of B.
-pub fn outward(is_b: bool, normal: B2vec2) -> B2vec2
-    ensures { λ r. ⌜ r ≡ cond «is_b» (b2-neg normal) normal ⌝ }
-{
-    if is_b {
-        return b2_neg(normal);
-    }
-    normal
-}
-
-// Both points are computed, so that the compiler can do it side by side; the second is kept where it is counted.
-pub fn world_of_face(
-    is_b: bool,
+// A face of A. The same stands here for a face of B: as one function with two callers it is not inlined.
+pub fn world_of_face_a(
     old: B2worldManifold,
     m: B2manifold,
     xf1: B2Transform,
@@ -77,21 +74,45 @@ pub fn world_of_face(
     radius2: f32,
 ) -> B2worldManifold
     requires { ⌜ (0 < m .«point_count») × (m .«point_count» ≤ 2) ⌝ }
-    ensures { λ r. ⌜ r ≡ world-of-face «is_b» old m xf1 radius1 xf2 radius2 ⌝ }
+    ensures { λ r. ⌜ r ≡ world-of-face false old m xf1 radius1 xf2 radius2 ⌝ }
 {
     let normal = b2_mul_rot_by_vec2(xf1.q, m.local_normal);
     let plane = b2_mul_transform_by_vec2(xf1, m.local_point);
     let p0 = m.points[0];
-    let p1 = m.points[1];
-    let carried0 = b2_mul_transform_by_vec2(xf2, p0.local_point);
-    let carried1 = b2_mul_transform_by_vec2(xf2, p1.local_point);
-    let first = face_point(normal, plane, radius1, radius2, carried0);
-    let both = face_point(normal, plane, radius1, radius2, carried1);
-    let second = second_point(old, m.point_count, both);
+    let carried = b2_mul_transform_by_vec2(xf2, p0.local_point);
+    let first = face_point(normal, plane, radius1, radius2, carried);
+    let second = second_point(old, m, normal, plane, radius1, xf2, radius2);
     let middle0 = first.middle;
     let middle1 = second.middle;
     B2worldManifold {
-        normal: outward(is_b, normal),
+        normal,
+        points: [middle0, middle1],
+        separations: [first.separation, second.separation],
+    }
+}
+
+// A face of B: the normal is turned round, to point from A to B.
+pub fn world_of_face_b(
+    old: B2worldManifold,
+    m: B2manifold,
+    xf1: B2Transform,
+    radius1: f32,
+    xf2: B2Transform,
+    radius2: f32,
+) -> B2worldManifold
+    requires { ⌜ (0 < m .«point_count») × (m .«point_count» ≤ 2) ⌝ }
+    ensures { λ r. ⌜ r ≡ world-of-face true old m xf1 radius1 xf2 radius2 ⌝ }
+{
+    let normal = b2_mul_rot_by_vec2(xf1.q, m.local_normal);
+    let plane = b2_mul_transform_by_vec2(xf1, m.local_point);
+    let p0 = m.points[0];
+    let carried = b2_mul_transform_by_vec2(xf2, p0.local_point);
+    let first = face_point(normal, plane, radius1, radius2, carried);
+    let second = second_point(old, m, normal, plane, radius1, xf2, radius2);
+    let middle0 = first.middle;
+    let middle1 = second.middle;
+    B2worldManifold {
+        normal: b2_neg(normal),
         points: [middle0, middle1],
         separations: [first.separation, second.separation],
     }
