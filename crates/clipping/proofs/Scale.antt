@@ -1,5 +1,5 @@
 -- A vector times the factor of `unit-scale` is what normalising leaves: where the length is below 2^-23 the factor is
--- 1, and times 1 is nothing. Assumes nothing.
+-- 1, and times 1 is nothing; and the factor from the length's square. Assumes nothing.
 use mathlib.Core.Path.{_≡_, refl, ap, ap₂, _∙_}
 use mathlib.Core.Bool.{Bool, true, false, cond}
 use lib.Dec.{T}
@@ -9,8 +9,12 @@ use Rattle.floats.specs.declared.b2_math.Normalized.{Normalized}
 use Rattle.rounding.specs.Literals.{zero32, one32}
 use Rattle.rounding.proofs.TimesOne.{times-one}
 use Rattle.floats.specs.B2Common.{b2-epsilon}
-use Rattle.floats.specs.B2Math.{vec2, b2-length, times-reciprocal, b2-normalize}
-use Rattle.clipping.specs.Unit.{unit-scale}
+use Rattle.floats.specs.B2Math.{vec2, b2-length-squared, b2-length, times-reciprocal, b2-normalize}
+use Rattle.clipping.specs.Unit.{inverse-root, unit-scale}
+
+pub scale-by-square : (a : B2vec2) → inverse-root (b2-length-squared a) ≡ unit-scale a
+unfolding inverse-root unit-scale b2-length
+scale-by-square a = refl
 
 module _ (a : B2vec2) (x-fits : T (fits binary32 (a .x))) (y-fits : T (fits binary32 (a .y))) where
   by-test : (short : Bool) (length : Float)

@@ -1,24 +1,20 @@
--- The factor by the test of the length. Assumes nothing.
-use mathlib.Core.Path.{sym}
-use Rattle.clipping.specs.Unit.{unit-scale}
+-- The factor from the length's square. Assumes nothing.
+use mathlib.Core.Path.{ap, _∙_}
+use Rattle.clipping.specs.Unit.{inverse-root}
+use Rattle.clipping.proofs.Scale.{scale-by-square}
 use borrow.Author.Needs.{needs}
 use Rattle.clipping.proofs.unit.unit_scale.Statement.{statement}
 use Rattle.clipping.proofs.unit.unit_scale.Tie as tie
 
-b2-length-requires : tie.Need-b2-length-requires
-b2-length-requires c κs = search needs
+b2-length-squared-requires : tie.Need-b2-length-squared-requires
+b2-length-squared-requires c κs = search needs
+
+inverse-root-requires : tie.Need-inverse-root-requires
+inverse-root-requires c κs = search needs
 
 returns : tie.Need-returns
-unfolding unit-scale
 returns c =
-    let b2-length = c .before .b2-length in
-    simp (sym (b2-length .ensures), c .if1 .taken)
-
-returns-2 : tie.Need-returns-2
-unfolding unit-scale
-returns-2 c =
-    let b2-length = c .before .b2-length in
-    simp (sym (b2-length .ensures), c .if1 .left)
+    c .inverse-root .ensures ∙ ap inverse-root (c .before .b2-length-squared .ensures) ∙ scale-by-square _
 
 pub unit-scale-spec : {M : Type 1} → statement M
-unit-scale-spec = tie.close (tie.spec b2-length-requires returns returns-2)
+unit-scale-spec = tie.close (tie.spec b2-length-squared-requires inverse-root-requires returns)

@@ -21,26 +21,40 @@ significand b = b % 2 ^ 23 + 2 ^ 23
 abbrev scale : ℕ → ℕ
 scale b = b / 2 ^ 23 + 127
 
+-- the last 24 digits of the pattern above which the code has g - 2
+abbrev last-digits : ℕ → ℕ
+last-digits b = (b + 125 * 2 ^ 23) % 2 ^ 24
+
 -- the code's n
-abbrev radicand : ℕ → ℕ
-radicand b = significand b * (2 ^ 24 - b / 2 ^ 23 % 2 * 2 ^ 23)
+abbrev number : ℕ → ℕ
+number u = (u % 2 ^ 23 + 2 ^ 23) * 2 ^ 23 * (u / 2 ^ 23 + 1)
 
-radicand-widened : (b : ℕ) → radicand b ≡ widened (significand b) (scale b)
-radicand-widened b =
-    let parity : 2 ^ 24 - b / 2 ^ 23 % 2 * 2 ^ 23 ≡ 2 ^ 23 * (scale b % 2 + 1) = omega arith in
-    ap (λ (x : ℕ). significand b * x) parity ∙ sym (mul-assoc (significand b) (2 ^ 23) (scale b % 2 + 1))
+first-digit : (s : ℕ) → s % 2 ^ 24 / 2 ^ 23 ≡ s / 2 ^ 23 % 2
+first-digit s = omega arith
 
-radicand-bounds : (b : ℕ) → (2 ^ 46 ≤ radicand b) × (radicand b < 2 ^ 48)
-radicand-bounds b =
-    subst (λ (n : ℕ). (2 ^ 46 ≤ n) × (n < 2 ^ 48)) (sym (radicand-widened b))
+same-parity : (e : ℕ) → (e + 125) % 2 ≡ (e + 127) % 2
+same-parity e = omega arith
+
+number-widened : (b : ℕ) → number (last-digits b) ≡ widened (significand b) (scale b)
+number-widened b =
+    let digits : last-digits b % 2 ^ 23 ≡ b % 2 ^ 23 = omega arith in
+    let moved : (b + 125 * 2 ^ 23) / 2 ^ 23 ≡ b / 2 ^ 23 + 125 = omega arith in
+    let parity : last-digits b / 2 ^ 23 ≡ scale b % 2 =
+    first-digit (b + 125 * 2 ^ 23) ∙ ap (λ (x : ℕ). x % 2) moved ∙ same-parity (b / 2 ^ 23) in
+    ap (λ (x : ℕ). (x + 2 ^ 23) * 2 ^ 23 * (last-digits b / 2 ^ 23 + 1)) digits
+    ∙ ap (λ (x : ℕ). significand b * 2 ^ 23 * (x + 1)) parity
+
+bounds : (b n : ℕ) → n ≡ number (last-digits b) → (2 ^ 46 ≤ n) × (n < 2 ^ 48)
+bounds b n n-is =
+    subst (λ (m : ℕ). (2 ^ 46 ≤ m) × (m < 2 ^ 48)) (sym (n-is ∙ number-widened b))
     (widened-bounds (significand b) (scale b) (omega arith) (omega arith))
 
 -- k is the exponent that the code gives its result
-pattern-of-root : (b k r : ℕ) → 2 ^ 23 ≤ b → b < 255 * 2 ^ 23 → k ≡ scale b / 2 - 1 → NearestRoot (radicand b) r
-    → ofBits binary32 (k * 2 ^ 23 + r) ≡ sqrt binary32 (ofBits binary32 b)
-pattern-of-root b k r b-low b-high k-is r-nearest =
-    let nearest : NearestRoot (widened (significand b) (scale b)) r = subst (λ (n : ℕ). NearestRoot n r)
-    (radicand-widened b) r-nearest in
+pattern-of-root : (b n k r : ℕ) → 2 ^ 23 ≤ b → b < 255 * 2 ^ 23 → n ≡ number (last-digits b) → k ≡ scale b / 2 - 1
+    → NearestRoot n r → ofBits binary32 (k * 2 ^ 23 + r) ≡ sqrt binary32 (ofBits binary32 b)
+pattern-of-root b n k r b-low b-high n-is k-is r-nearest =
+    let nearest : NearestRoot (widened (significand b) (scale b)) r = subst (λ (m : ℕ). NearestRoot m r)
+    (n-is ∙ number-widened b) r-nearest in
     ap (λ (x : ℕ). ofBits binary32 (x * 2 ^ 23 + r)) k-is
     ∙ scaled-root-pattern (significand b) (scale b) r (omega arith) (omega arith) (omega arith) (omega arith) nearest
     ∙ sym (sqrt-of-normal (b / 2 ^ 23) (b % 2 ^ 23) (omega arith) (omega arith) (omega arith))
@@ -48,37 +62,31 @@ pattern-of-root b k r b-low b-high k-is r-nearest =
 
 root-small : (c : tie.After-nearest-root) → c .nearest-root .result ≤ 2 ^ 24
 root-small c =
-    nearest-root-le-2^24 _ (c .nearest-root .result) (radicand-bounds (c .before .before .args .b) .1)
+    let given = c .before .before in
+    nearest-root-le-2^24 _ (c .nearest-root .result)
+    (bounds (given .before .args .b) (given .radicand .result) (given .radicand .ensures) .1)
     (c .nearest-root .ensures)
 
-add-f : tie.Need-add-f
-add-f c = search needs
+add-s : tie.Need-add-s
+add-s c = search needs
 
-mul-n : tie.Need-mul-n
-mul-n c = search needs
-
-sub-n : tie.Need-sub-n
-sub-n c = search needs
-
-mul-n-2 : tie.Need-mul-n-2
-mul-n-2 c = omega (arith, radicand-bounds (c .args .b) .1)
+radicand-requires : tie.Need-radicand-requires
+radicand-requires c κs = search needs
 
 candidate-requires : tie.Need-candidate-requires
 candidate-requires c κs = search needs
 
 nearest-root-requires : tie.Need-nearest-root-requires
 nearest-root-requires c κs =
-    let n-bounds = radicand-bounds (c .before .args .b) in
+    let given = c .before in
+    let n-bounds = bounds (given .before .args .b) (given .radicand .result) (given .radicand .ensures) in
     (omega arith, n-bounds .1, c .candidate .ensures)
-
-add-result : tie.Need-add-result
-add-result c = search needs
 
 mul-result : tie.Need-mul-result
 mul-result c = search needs
 
-add-result-2 : tie.Need-add-result-2
-add-result-2 c = omega (arith, root-small c)
+add-result : tie.Need-add-result
+add-result c = omega (arith, root-small c)
 
 cast-result : tie.Need-cast-result
 cast-result c = omega (arith, root-small c)
@@ -90,22 +98,23 @@ float-from-bits-result c =
 
 returns : tie.Need-returns
 returns c =
-    let b = c .before .before .args .b in
-    pattern-of-root b _ (c .nearest-root .result) (omega arith) (omega arith) (omega arith) (c .nearest-root .ensures)
+    let given = c .before .before in
+    pattern-of-root (given .before .args .b) (given .radicand .result) _ (c .nearest-root .result) (omega arith)
+    (omega arith)
+    (given .radicand .ensures)
+    (omega arith)
+    (c .nearest-root .ensures)
 
 pub normal-root-spec : {M : Type 1} → statement M
 normal-root-spec =
     tie.close
     (tie.spec
-    add-f
-    mul-n
-    sub-n
-    mul-n-2
+    add-s
+    radicand-requires
     candidate-requires
     nearest-root-requires
-    add-result
     mul-result
-    add-result-2
+    add-result
     cast-result
     float-from-bits-result
     returns)
