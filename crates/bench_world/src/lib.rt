@@ -1,11 +1,26 @@
 // World points as a program of Rattle asks for them, for benchmarks: manifolds, placements and radii stand in an array,
 // and a pass asks one after another, each on the world manifold of the last. Nothing but safety is promised: the
 // benchmark compares the answers with the references.
+use crate::worlds::Question;
 use crate::worlds::World;
 use bench_cases::numbers::case;
+use contact_definitions::b2_collision::WorldAnswer;
 use world_manifold::b2_collision;
 
 mod worlds;
+
+// One question, on the world manifold of the last.
+fn asked(last: WorldAnswer, q: Question) -> WorldAnswer {
+    let world = last.world;
+    b2_collision::b2_world_manifold_initialize_core(
+        world,
+        q.m,
+        q.xf_a,
+        q.radius_a,
+        q.xf_b,
+        q.radius_b,
+    )
+}
 
 // All cases have manifolds of one kind, with one count.
 #[no_mangle]
@@ -16,21 +31,12 @@ pub extern "C" fn pass_world_points(
     count: usize,
     order: &[u32],
 ) -> World {
-    let all = worlds::all_asked(x, kind, count);
+    let all = worlds::all_questions(x, kind, count);
     let mut answer = worlds::answer_in(old);
     let mut i = 0usize;
     while i < order.len() {
         let k = case(order[i]);
-        let g = all[k];
-        let last = answer.world;
-        answer = b2_collision::b2_world_manifold_initialize_core(
-            last,
-            g.m,
-            g.xf_a,
-            g.radius_a,
-            g.xf_b,
-            g.radius_b,
-        );
+        answer = asked(answer, all[k]);
         i += 1;
     }
     worlds::answer_out(answer)

@@ -30,7 +30,7 @@ pub struct World {
     pub refusal: u32,
 }
 
-pub struct Asked {
+pub struct Question {
     pub m: B2manifold,
     pub xf_a: B2Transform,
     pub radius_a: f32,
@@ -97,7 +97,7 @@ fn manifold(x: &[f32], i: usize, kind: u32, point_count: usize) -> B2manifold
     }
 }
 
-fn nothing() -> Asked {
+fn nothing() -> Question {
     let zero = B2vec2 { x: 0.0, y: 0.0 };
     let m = B2manifold {
         points: [point_of(zero), point_of(zero)],
@@ -106,7 +106,7 @@ fn nothing() -> Asked {
         manifold_type: kind_in(0),
         point_count: 0,
     };
-    Asked {
+    Question {
         m,
         xf_a: origin(),
         radius_a: 0.0,
@@ -115,10 +115,10 @@ fn nothing() -> Asked {
     }
 }
 
-fn asked_at(x: &[f32], i: usize, kind: u32, count: usize) -> Asked
+fn question_at(x: &[f32], i: usize, kind: u32, count: usize) -> Question
     requires { ⌜ i + 18 ≤ length (now x) ⌝ }
 {
-    Asked {
+    Question {
         m: manifold(x, i, kind, count),
         xf_a: placement(x, i + 8),
         radius_a: x[i + 12],
@@ -127,13 +127,13 @@ fn asked_at(x: &[f32], i: usize, kind: u32, count: usize) -> Asked
     }
 }
 
-pub fn all_asked(x: &[f32], kind: u32, count: usize) -> [Asked; CASES] {
+pub fn all_questions(x: &[f32], kind: u32, count: usize) -> [Question; CASES] {
     let n = at_most_cases(x.len() / NUMBERS);
     let mut all = [nothing(); CASES];
     let mut k = 0usize;
     while k < n {
         let at = k * NUMBERS;
-        all[k] = asked_at(x, at, kind, count);
+        all[k] = question_at(x, at, kind, count);
         k += 1;
     }
     all

@@ -13,8 +13,8 @@ Inv-loop x kind count order all answer₀ i₀ answer i =
 abbrev μ-loop : tie.MeasureT-loop
 μ-loop x kind count order all answer₀ i₀ answer i = length order - i
 
-all-asked-requires : tie.Need-all-asked-requires Inv-loop μ-loop
-all-asked-requires c κs = search needs
+all-questions-requires : tie.Need-all-questions-requires Inv-loop μ-loop
+all-questions-requires c κs = search needs
 
 answer-in-requires : tie.Need-answer-in-requires Inv-loop μ-loop
 answer-in-requires c κs = search needs
@@ -31,15 +31,14 @@ shared-slice-read-case c = search needs
 case-requires : tie.Need-case-requires Inv-loop μ-loop
 case-requires c κs = search needs
 
-mul-g : tie.Need-mul-g Inv-loop μ-loop
-mul-g c = search needs
+mul-asked : tie.Need-mul-asked Inv-loop μ-loop
+mul-asked c = search needs
 
-array-copy-out-g : tie.Need-array-copy-out-g Inv-loop μ-loop
-array-copy-out-g c = search needs
+array-copy-out-asked : tie.Need-array-copy-out-asked Inv-loop μ-loop
+array-copy-out-asked c = search needs
 
-b2-world-manifold-initialize-core-requires :
-    tie.Need-b2-world-manifold-initialize-core-requires Inv-loop μ-loop
-b2-world-manifold-initialize-core-requires c κs = search needs
+asked-requires : tie.Need-asked-requires Inv-loop μ-loop
+asked-requires c κs = search needs
 
 add-i : tie.Need-add-i Inv-loop μ-loop
 add-i c = search needs
@@ -62,15 +61,15 @@ pass-world-points-spec =
     (tie.spec
     Inv-loop
     μ-loop
-    all-asked-requires
+    all-questions-requires
     answer-in-requires
     loop-holds
     mul-case
     shared-slice-read-case
     case-requires
-    mul-g
-    array-copy-out-g
-    b2-world-manifold-initialize-core-requires
+    mul-asked
+    array-copy-out-asked
+    asked-requires
     add-i
     loop-less
     loop-again

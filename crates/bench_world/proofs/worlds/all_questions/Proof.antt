@@ -3,8 +3,8 @@ use mathlib.Core.Path.{_≡_}
 use Prim.Native.Nat.{_*_, _≤_, _-_}
 use lib.ListN.{length}
 use borrow.Author.Needs.{needs}
-use Rattle.bench_world.proofs.worlds.all_asked.Statement.{statement}
-use Rattle.bench_world.proofs.worlds.all_asked.Tie as tie
+use Rattle.bench_world.proofs.worlds.all_questions.Statement.{statement}
+use Rattle.bench_world.proofs.worlds.all_questions.Tie as tie
 
 abbrev Inv-loop : tie.InvT-loop
 Inv-loop x kind count n all₀ k₀ all k =
@@ -25,8 +25,8 @@ loop-holds c = search needs
 mul-at : tie.Need-mul-at Inv-loop μ-loop
 mul-at c = search needs
 
-asked-at-requires : tie.Need-asked-at-requires Inv-loop μ-loop
-asked-at-requires c κs = search needs
+question-at-requires : tie.Need-question-at-requires Inv-loop μ-loop
+question-at-requires c κs = search needs
 
 mul-all : tie.Need-mul-all Inv-loop μ-loop
 mul-all c = search needs
@@ -46,8 +46,8 @@ loop-again c = search needs
 returns : tie.Need-returns Inv-loop μ-loop
 returns c = search needs
 
-pub all-asked-spec : {M : Type 1} → statement M
-all-asked-spec =
+pub all-questions-spec : {M : Type 1} → statement M
+all-questions-spec =
     tie.close
     (tie.spec
     Inv-loop
@@ -56,7 +56,7 @@ all-asked-spec =
     nothing-requires
     loop-holds
     mul-at
-    asked-at-requires
+    question-at-requires
     mul-all
     array-set-from-all
     add-k
