@@ -11,6 +11,7 @@ use contact_definitions::b2_collision::B2worldManifold;
 use contact_definitions::b2_collision::WorldAnswer;
 use floats::b2_common::B2_MAX_MANIFOLD_POINTS;
 use floats::b2_math::B2Transform;
+use pair_ranges::placement_pair;
 use shape_definitions::refusal;
 use world_points::circle_points;
 use world_points::face_points;
@@ -71,7 +72,7 @@ pub fn b2_world_manifold_initialize_core(
             refusal: refusal::CONTACT_OUT_OF_RANGE,
         };
     }
-    if !point_ranges::placements_in_range(xf_a, xf_b) {
+    if !placement_pair::placements_in_range(xf_a, xf_b) {
         return WorldAnswer {
             world: old,
             refusal: refusal::PLACEMENT_OUT_OF_RANGE,

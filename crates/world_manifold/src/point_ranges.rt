@@ -3,10 +3,9 @@
 ghost use mathlib.Core.Path.{_≡_};
 ghost use mathlib.Core.Bool.{_&&_};
 ghost use Prim.Native.Nat.{_<_, _≤_};
-ghost use Rattle.floats.specs.Ranges.{radius-in-range, transform-in-range};
+ghost use Rattle.floats.specs.Ranges.{radius-in-range};
 ghost use Rattle.contact_definitions.specs.WorldManifold.{manifold-in-range};
 use contact_definitions::b2_collision::B2manifold;
-use floats::b2_math::B2Transform;
 use floats::ranges;
 
 // Tested together, so that the compiler can do it side by side; then the second point, where it is counted.
@@ -28,12 +27,4 @@ pub fn numbers_in_range(m: B2manifold, radius_a: f32, radius_b: f32) -> bool
     }
     let p1 = m.points[1];
     ranges::contact_point_in_range(p1.local_point)
-}
-
-pub fn placements_in_range(a: B2Transform, b: B2Transform) -> bool
-    ensures { λ r. ⌜ r ≡ (transform-in-range a && transform-in-range b) ⌝ }
-{
-    let a_in = ranges::transform_in_range(a);
-    let b_in = ranges::transform_in_range(b);
-    a_in & b_in
 }
