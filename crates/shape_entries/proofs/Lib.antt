@@ -1,3 +1,2 @@
 pub mod Outlines
-pub mod Walls
 pub mod Dispatch

@@ -1,27 +1,23 @@
 -- What the entries that make and test shapes answer: the refusal (0 for accepted), and then the complete record after
 -- the call. The answer to a malformed request is no word at all. Definitions only.
 use Prim.Native.Nat.{ℕ, _+_, _*_}
-use mathlib.Core.Bool.{cond, _&&_}
+use mathlib.Core.Bool.{cond}
 use mathlib.Core.List.{List, [], _∷_}
-use lib.Dec.{ltb, eqb}
+use lib.Dec.{eqb}
 use lib.ListN.{length}
 use Rattle.shape_definitions.specs.declared.b2_polygon_shape.PolygonAnswer.{PolygonAnswer}
 use Rattle.shape_definitions.specs.declared.b2_polygon_shape.ValidateAnswer.{ValidateAnswer}
-use Rattle.shape_definitions.specs.declared.b2_edge_shape.EdgeAnswer.{EdgeAnswer}
 use Rattle.shape_definitions.specs.Polygon.{b2-polygon-shape-set}
 use Rattle.shape_definitions.specs.Boxes.{b2-polygon-shape-set-as-box, b2-polygon-shape-set-as-box-angle}
 use Rattle.shape_definitions.specs.Validate.{b2-polygon-shape-validate}
-use Rattle.shape_definitions.specs.Edge.{b2-set-one-sided, b2-set-two-sided}
+use Rattle.wall_entries.specs.WallEntries.{one-sided-answer, two-sided-answer}
 use Rattle.wire_words.specs.Words.{word-at}
-use Rattle.wire_records.specs.Records.{float-at, vector-at, points-at, rotation-at, polygon-at, edge-at}
-use Rattle.wire_records.specs.Records.{flag, polygon-words, edge-words}
+use Rattle.wire_records.specs.Records.{float-at, vector-at, points-at, rotation-at, polygon-at}
+use Rattle.wire_records.specs.Records.{flag, polygon-words}
 
 -- an answer is the refusal, and the record after the call
 abbrev pub outline-answer : PolygonAnswer → List ℕ
 outline-answer a = a .refusal ∷ polygon-words (a .shape)
-
-abbrev pub wall-answer : EdgeAnswer → List ℕ
-wall-answer a = a .refusal ∷ edge-words (a .shape)
 
 -- 1, an outline, n, n points
 unfoldable pub set-answer : List ℕ → List ℕ
@@ -50,20 +46,6 @@ validity-answer v = v .refusal ∷ flag (v .valid) ∷ []
 unfoldable pub validate-answer : List ℕ → List ℕ
 validate-answer request = cond (eqb (length request) (4 * 37))
     (validity-answer (b2-polygon-shape-validate (polygon-at request 1))) []
-
--- 5, a wall, v0, v1, v2, v3; the wall's flag is 0 or 1
-unfoldable pub one-sided-answer : List ℕ → List ℕ
-one-sided-answer request =
-    cond (eqb (length request) (4 * 19) && ltb (word-at request 2) 2)
-    (wall-answer (b2-set-one-sided (edge-at request 1) (vector-at request 11) (vector-at request 13)
-    (vector-at request 15)
-    (vector-at request 17))) []
-
--- 6, a wall, v1, v2
-unfoldable pub two-sided-answer : List ℕ → List ℕ
-two-sided-answer request =
-    cond (eqb (length request) (4 * 15) && ltb (word-at request 2) 2)
-    (wall-answer (b2-set-two-sided (edge-at request 1) (vector-at request 11) (vector-at request 13))) []
 
 -- the entry of a number, and none under another
 unfoldable pub shape-answer : ℕ → List ℕ → List ℕ

@@ -3,9 +3,8 @@ ghost use mathlib.Core.Path.{_≡_};
 ghost use Prim.Native.Nat.{_≤_};
 ghost use Rattle.wire_words.specs.Words.{Written};
 ghost use Rattle.shape_entries.specs.ShapeEntries.{set-answer, box-answer, box-angle-answer, validate-answer};
-ghost use Rattle.shape_entries.specs.ShapeEntries.{one-sided-answer, two-sided-answer, shape-answer};
+ghost use Rattle.shape_entries.specs.ShapeEntries.{shape-answer};
 use lines::fields;
-use shapes::b2_edge_shape;
 use shapes::b2_polygon_shape;
 use wire_records::records;
 use wire_words::words;
@@ -79,44 +78,6 @@ pub fn validate(input: &[u8], out: &mut [u8]) -> u32
     words::put_words(out, &answer)
 }
 
-// 5, a wall, v0, v1, v2, v3: a wall that is met from one side.
-pub fn set_one_sided(input: &[u8], out: &mut [u8]) -> u32
-    ensures { λ r. ⌜ Written (one-sided-answer (now (input .entry))) (now (out .entry)) r (now (out .exit)) ⌝ }
-{
-    if input.len() != 76 {
-        return 0;
-    }
-    let flag = words::word(input, 2);
-    if flag > 1 {
-        return 0;
-    }
-    let old = records::edge(input, 1);
-    let v0 = records::vector(input, 11);
-    let v1 = records::vector(input, 13);
-    let v2 = records::vector(input, 15);
-    let v3 = records::vector(input, 17);
-    let answer = b2_edge_shape::b2_set_one_sided(old, v0, v1, v2, v3);
-    records::put_edge(out, answer)
-}
-
-// 6, a wall, v1, v2: a wall that is met from both sides.
-pub fn set_two_sided(input: &[u8], out: &mut [u8]) -> u32
-    ensures { λ r. ⌜ Written (two-sided-answer (now (input .entry))) (now (out .entry)) r (now (out .exit)) ⌝ }
-{
-    if input.len() != 60 {
-        return 0;
-    }
-    let flag = words::word(input, 2);
-    if flag > 1 {
-        return 0;
-    }
-    let old = records::edge(input, 1);
-    let v1 = records::vector(input, 11);
-    let v2 = records::vector(input, 13);
-    let answer = b2_edge_shape::b2_set_two_sided(old, v1, v2);
-    records::put_edge(out, answer)
-}
-
 // The entry of this number, or 0 where no entry here has it.
 pub fn call(entry: u32, input: &[u8], out: &mut [u8]) -> u32
     ensures { λ r. ⌜ Written (shape-answer entry (now (input .entry))) (now (out .entry)) r (now (out .exit)) ⌝ }
@@ -126,8 +87,8 @@ pub fn call(entry: u32, input: &[u8], out: &mut [u8]) -> u32
         2 => set_as_box(input, out),
         3 => set_as_box_angle(input, out),
         4 => validate(input, out),
-        5 => set_one_sided(input, out),
-        6 => set_two_sided(input, out),
+        5 => wall_entries::set_one_sided(input, out),
+        6 => wall_entries::set_two_sided(input, out),
         _ => 0,
     }
 }

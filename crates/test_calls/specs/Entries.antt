@@ -3,30 +3,15 @@
 -- all. Definitions only.
 use Prim.Native.Nat.{ℕ}
 use mathlib.Core.Bool.{cond}
-use mathlib.Core.List.{List, [], _∷_}
+use mathlib.Core.List.{List, []}
 use lib.Dec.{ltb, eqb}
 use lib.ListN.{length}
-use Rattle.floats.specs.declared.b2_math.Normalized.{Normalized}
-use Rattle.floats.specs.B2Math.{vec2, b2-sqrt, b2-normalize}
+use Rattle.number_entries.specs.NumberEntries.{root-answer, normalize-answer}
 use Rattle.shape_entries.specs.ShapeEntries.{shape-answer}
 use Rattle.contact_entries.specs.ContactEntries.{contact-answer}
 use Rattle.wire_words.specs.Words.{word-at}
-use Rattle.wire_records.specs.Records.{float-at, bits}
 
--- ---- numbers
--- 15, x: the root
-unfoldable pub root-answer : List ℕ → List ℕ
-root-answer request = cond (eqb (length request) 8) (0 ∷ bits (b2-sqrt (float-at request 1)) ∷ []) []
-
--- 16, x, y: the length that was found, and the vector made unit
-abbrev pub normalized-words : Normalized → List ℕ
-normalized-words n = 0 ∷ bits (n .length) ∷ bits (n .v .x) ∷ bits (n .v .y) ∷ []
-
-unfoldable pub normalize-answer : List ℕ → List ℕ
-normalize-answer request =
-    cond (eqb (length request) 12) (normalized-words (b2-normalize (vec2 (float-at request 1) (float-at request 2)))) []
-
--- ---- the entry is the first word: 1 to 6 make and test shapes, 7 to 14 are contact calls
+-- the entry is the first word: 1 to 6 make and test shapes, 7 to 14 are contact calls
 unfoldable pub entry-answer : ℕ → List ℕ → List ℕ
 entry-answer entry request =
     cond (eqb entry 15) (root-answer request)

@@ -1,41 +1,7 @@
 // The C entry points for tests: every call behind a number, on byte slices.
 ghost use Rattle.wire_words.specs.Words.{Written};
-ghost use Rattle.test_calls.specs.Entries.{root-answer, normalize-answer, answer};
-use floats::b2_math;
-use floats::b2_math::B2vec2;
-use floats::bits;
+ghost use Rattle.test_calls.specs.Entries.{answer};
 use wire_words::words;
-
-// 15, x: the root.
-fn root(input: &[u8], out: &mut [u8]) -> u32
-    ensures { λ r. ⌜ Written (root-answer (now (input .entry))) (now (out .entry)) r (now (out .exit)) ⌝ }
-{
-    if input.len() != 8 {
-        return 0;
-    }
-    let x = bits::f32_from_bits(words::word(input, 1));
-    let answer = [0, bits::f32_to_bits(b2_math::b2_sqrt(x))];
-    words::put_words(out, &answer)
-}
-
-// 16, x, y: the length that was found, and the vector made unit.
-fn normalize(input: &[u8], out: &mut [u8]) -> u32
-    ensures { λ r. ⌜ Written (normalize-answer (now (input .entry))) (now (out .entry)) r (now (out .exit)) ⌝ }
-{
-    if input.len() != 12 {
-        return 0;
-    }
-    let x = bits::f32_from_bits(words::word(input, 1));
-    let y = bits::f32_from_bits(words::word(input, 2));
-    let n = b2_math::b2_normalize(B2vec2 { x, y });
-    let answer = [
-        0,
-        bits::f32_to_bits(n.length),
-        bits::f32_to_bits(n.v.x),
-        bits::f32_to_bits(n.v.y),
-    ];
-    words::put_words(out, &answer)
-}
 
 // The number of words written: 0, and the output as it was, for a malformed request or an output too short for the
 // answer.
@@ -48,8 +14,8 @@ pub extern "C" fn calls(input: &[u8], out: &mut [u8]) -> u32
     }
     let entry = words::word(input, 0);
     match entry {
-        15 => root(input, out),
-        16 => normalize(input, out),
+        15 => number_entries::root(input, out),
+        16 => number_entries::normalize(input, out),
         _ => {
             if entry < 7 {
                 shape_entries::call(entry, input, out)

@@ -12,7 +12,7 @@ use Rattle.shape_definitions.specs.declared.b2_edge_shape.EdgeAnswer.{EdgeAnswe
 use Rattle.shape_definitions.specs.Edge.{b2-set-one-sided, b2-set-two-sided}
 use Rattle.wire_words.specs.Words.{word-at}
 use Rattle.wire_records.specs.Records.{vector-at, edge-at}
-use Rattle.shape_entries.specs.ShapeEntries.{wall-answer, one-sided-answer, two-sided-answer}
+use Rattle.wall_entries.specs.WallEntries.{wall-answer, one-sided-answer, two-sided-answer}
 
 module _ (request : List ℕ) where
   pub one-sided-malformed : (length request ≡ 76 → ⊥) → one-sided-answer request ≡ []

@@ -2,10 +2,10 @@
 use mathlib.Core.Path.{_∙_, ap}
 use lib.Ieee.{binary32, ofBits}
 use Rattle.wire_words.proofs.Bytes.{nothing-written, written-as}
-use Rattle.test_calls.proofs.Answers.{normalize-words, normalize-malformed}
+use Rattle.number_entries.proofs.Numbers.{normalize-words, normalize-malformed}
 use borrow.Author.Needs.{needs}
-use Rattle.test_calls.proofs.normalize.Statement.{statement}
-use Rattle.test_calls.proofs.normalize.Tie as tie
+use Rattle.number_entries.proofs.normalize.Statement.{statement}
+use Rattle.number_entries.proofs.normalize.Tie as tie
 
 returns : tie.Need-returns
 returns c = nothing-written _ _ (normalize-malformed _ (c .if1 .taken))

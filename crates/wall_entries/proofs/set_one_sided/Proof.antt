@@ -1,9 +1,9 @@
 -- Entry 5 answers a wall that is met from one side, or nothing to another length or flag. Assumes nothing.
 use Rattle.wire_words.proofs.Bytes.{nothing-written, written-as}
-use Rattle.shape_entries.proofs.Walls.{one-sided-malformed, one-sided-unflagged, one-sided-words}
+use Rattle.wall_entries.proofs.Walls.{one-sided-malformed, one-sided-unflagged, one-sided-words}
 use borrow.Author.Needs.{needs}
-use Rattle.shape_entries.proofs.set_one_sided.Statement.{statement}
-use Rattle.shape_entries.proofs.set_one_sided.Tie as tie
+use Rattle.wall_entries.proofs.set_one_sided.Statement.{statement}
+use Rattle.wall_entries.proofs.set_one_sided.Tie as tie
 
 returns : tie.Need-returns
 returns c = nothing-written _ _ (one-sided-malformed _ (c .if1 .taken))

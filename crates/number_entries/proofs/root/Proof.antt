@@ -2,10 +2,10 @@
 use mathlib.Core.Path.{_∙_, ap}
 use lib.Ieee.{binary32, ofBits}
 use Rattle.wire_words.proofs.Bytes.{nothing-written, written-as}
-use Rattle.test_calls.proofs.Answers.{root-words, root-malformed}
+use Rattle.number_entries.proofs.Numbers.{root-words, root-malformed}
 use borrow.Author.Needs.{needs}
-use Rattle.test_calls.proofs.root.Statement.{statement}
-use Rattle.test_calls.proofs.root.Tie as tie
+use Rattle.number_entries.proofs.root.Statement.{statement}
+use Rattle.number_entries.proofs.root.Tie as tie
 
 returns : tie.Need-returns
 returns c = nothing-written _ _ (root-malformed _ (c .if1 .taken))

@@ -1,9 +1,9 @@
 -- Entry 6 answers a wall that is met from both sides, or nothing to another length or flag. Assumes nothing.
 use Rattle.wire_words.proofs.Bytes.{nothing-written, written-as}
-use Rattle.shape_entries.proofs.Walls.{two-sided-malformed, two-sided-unflagged, two-sided-words}
+use Rattle.wall_entries.proofs.Walls.{two-sided-malformed, two-sided-unflagged, two-sided-words}
 use borrow.Author.Needs.{needs}
-use Rattle.shape_entries.proofs.set_two_sided.Statement.{statement}
-use Rattle.shape_entries.proofs.set_two_sided.Tie as tie
+use Rattle.wall_entries.proofs.set_two_sided.Statement.{statement}
+use Rattle.wall_entries.proofs.set_two_sided.Tie as tie
 
 returns : tie.Need-returns
 returns c = nothing-written _ _ (two-sided-malformed _ (c .if1 .taken))
