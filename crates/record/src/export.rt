@@ -78,8 +78,7 @@ fn both_changes<'a>(shape: &'a [u8], placement: &'a [u8]) -> Change
     let blank = world::blank_body();
     let fresh = world::fresh_pair();
     let c = frame::frame(blank, blank, fresh, shape);
-    let said = c.said;
-    if refusal_in(said) != 0 {
+    if refusal_in(c.said) != 0 {
         return c;
     }
     frame::frame(c.body, blank, fresh, placement)
@@ -93,19 +92,16 @@ fn run<'a>(f0: &'a [u8], f1: &'a [u8], f2: &'a [u8], f3: &'a [u8]) -> Said
         (now (f1 .entry) ∷ now (f2 .entry) ∷ now (f3 .entry) ∷ Export.test-frame ∷ []) ⌝ }
 {
     let a = both_changes(f0, f1);
-    let said_a = a.said;
-    if refusal_in(said_a) != 0 {
-        return said_a;
+    if refusal_in(a.said) != 0 {
+        return a.said;
     }
     let b = both_changes(f2, f3);
-    let said_b = b.said;
-    if refusal_in(said_b) != 0 {
-        return said_b;
+    if refusal_in(b.said) != 0 {
+        return b.said;
     }
     let fresh = world::fresh_pair();
     let c = frame::frame(a.body, b.body, fresh, b"\x05\x00\x01");
-    let said = c.said;
-    said
+    c.said
 }
 
 // 13, 33 or 45, the bytes written to the front of the output; or 256 and a refusal, and the output as it was.

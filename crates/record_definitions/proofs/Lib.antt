@@ -10,10 +10,12 @@ pub mod States
 pub mod Counting
 pub mod Lengths
 pub mod TwoPlaces
+pub mod MetPlaces
 pub mod Sound
 pub mod SoundKept
 pub mod BuiltCounts
 pub mod SoundTests
+pub mod SoundFrames
 pub mod Again
 pub mod Theorem
 pub mod Heats

@@ -32,7 +32,7 @@ use Rattle.contact_definitions.specs.declared.b2_collision.PointStates.{PointSt
 use Rattle.record_definitions.specs.Touch.{meet, largest-count, touches-after, tested-as}
 use Rattle.record_definitions.specs.World.{pair-place, forget}
 use Rattle.record_definitions.proofs.Counting.{contact-taken, met-few}
-use Rattle.record_definitions.proofs.TwoPlaces.{met-two}
+use Rattle.record_definitions.proofs.MetPlaces.{met-two}
 use Rattle.record_definitions.proofs.Sound.{SoundBody, SoundPair, Sound, fresh-pair-sound, blank-sound}
 use Rattle.record_definitions.proofs.Sound.{circle-sound, outline-sound, wall-sound, placed-sound}
 use Rattle.record_definitions.proofs.Sound.{wall-at-in-range}

@@ -41,12 +41,13 @@ use Rattle.record_definitions.proofs.States.{no-second-state}
 use Rattle.record_definitions.proofs.Counting.{states-printed, touches-printed, count-printed, ids-kept}
 use Rattle.record_definitions.proofs.Counting.{touches-kept, first-printed, second-printed, contact-taken}
 use Rattle.record_definitions.proofs.Counting.{met-few}
-use Rattle.record_definitions.proofs.TwoPlaces.{met-two}
+use Rattle.record_definitions.proofs.MetPlaces.{met-two}
 use Rattle.record_definitions.proofs.Again.{change-again, counts-no-more}
 use Rattle.record_definitions.proofs.Lengths.{touch-size, said-within, line-within}
 use Rattle.record_definitions.proofs.Sound.{Sound}
 use Rattle.record_definitions.proofs.SoundKept.{fresh-sound, frame-keeps-sound}
-use Rattle.record_definitions.proofs.SoundTests.{NotOfHost, test-frame-fine}
+use Rattle.record_definitions.proofs.SoundTests.{NotOfHost}
+use Rattle.record_definitions.proofs.SoundFrames.{test-frame-fine}
 
 -- ---- however the reads split the input, what is printed is `touches` of it
 pub split-input : (pieces : List (List ℕ)) → fed-pieces said-line begin pieces ≡ touches (joined pieces)

@@ -1,10 +1,9 @@
--- A contact from a default manifold keeps its two places for points, whatever is written to them. Assumes nothing.
+-- Two places for points, and what the parts of each contact write to them: they stay two. Assumes nothing.
 use Prim.Native.Nat.{ℕ, suc, _≤_}
 use mathlib.Core.Path.{_≡_, refl, _∙_, ap}
-use mathlib.Core.Bool.{Bool, _&&_, _||_}
+use mathlib.Core.Bool.{Bool, _&&_}
 use mathlib.Core.List.{List, [], _∷_}
 use native.Mathlib.Omega.{arith}
-use lib.Dec.{eqb}
 use lib.Ieee.{Float, binary32, add, div, le, lt}
 use lib.ListN.{length}
 use Rattle.algebra.specs.Buffer.{over}
@@ -14,44 +13,34 @@ use Rattle.floats.specs.declared.b2_math.B2vec2.{B2vec2}
 use Rattle.floats.specs.declared.b2_math.B2Transform.{B2Transform}
 use Rattle.floats.specs.B2Common.{b2-epsilon}
 use Rattle.floats.specs.B2Math.{vec2, b2-add, b2-sub, b2-neg, b2-scale, b2-dot, b2-normalize}
-use Rattle.floats.specs.B2Math.{b2-mul-transform-by-vec2, b2-mul-t-transform}
+use Rattle.floats.specs.B2Math.{b2-mul-transform-by-vec2}
 use Rattle.shape_definitions.specs.declared.b2_edge_shape.B2edgeShape.{B2edgeShape}
 use Rattle.shape_definitions.specs.declared.b2_polygon_shape.B2polygonShape.{B2polygonShape}
-use Rattle.shape_definitions.specs.declared.b2_circle_shape.B2circleShape.{B2circleShape}
-use Rattle.shape_definitions.specs.Circle.{circle-in-range}
-use Rattle.shape_definitions.specs.Edge.{edge-in-range}
 use Rattle.shape_definitions.specs.Outline.{origin}
-use Rattle.shape_definitions.specs.Validate.{polygon-in-range}
 use Rattle.contact_definitions.specs.declared.b2_collision.B2clipVertex.{B2clipVertex}
 use Rattle.contact_definitions.specs.declared.b2_collision.B2contactId.{B2contactId}
 use Rattle.contact_definitions.specs.declared.b2_collision.B2manifold.{B2manifold}
 use Rattle.contact_definitions.specs.declared.b2_collision.B2manifoldPoint.{B2manifoldPoint}
 use Rattle.contact_definitions.specs.declared.b2_collision.B2manifoldType.{B2manifoldType}
 use Rattle.contact_definitions.specs.declared.b2_collision.B2manifoldType.the-variants.{ECircles, EFaceA, EFaceB}
-use Rattle.contact_definitions.specs.declared.b2_collision.ManifoldAnswer.{ManifoldAnswer}
 use Rattle.contact_definitions.specs.Manifold.{with-count, with-kind, with-one-point, default-id, swapped-id}
-use Rattle.contact_definitions.specs.Manifold.{with-local-point, manifold-point, default-manifold, miscounted}
-use Rattle.contact_definitions.specs.Manifold.{where-in-range}
+use Rattle.contact_definitions.specs.Manifold.{with-local-point, manifold-point}
 use Rattle.contact_definitions.specs.ReferenceFace.{only, points-from, with-points, manifold-of-ends}
 use Rattle.contact_definitions.specs.declared.axis.Axis.{Axis}
 use Rattle.contact_definitions.specs.declared.axis.Axis.the-variants.{Apart, FaceA, FaceB}
 use Rattle.contact_definitions.specs.Searches.{some-below}
-use Rattle.contact_definitions.specs.B2CollideCircle.{farther, circles-manifold, b2-collide-circles, circle-separation}
+use Rattle.contact_definitions.specs.B2CollideCircle.{farther, circle-separation}
 use Rattle.contact_definitions.specs.B2CollideCircle.{circle-at-corner, circle-at-face, circle-at-best}
-use Rattle.contact_definitions.specs.B2CollideCircle.{polygon-circle-manifold, b2-collide-polygon-and-circle}
+use Rattle.contact_definitions.specs.B2CollideCircle.{polygon-circle-manifold}
 use Rattle.contact_definitions.specs.B2CollidePolygon.{outline-face, b2-find-incident-edge, outline-manifold}
-use Rattle.contact_definitions.specs.B2CollidePolygon.{manifold-on, polygons-axis, polygons-manifold}
-use Rattle.contact_definitions.specs.B2CollidePolygon.{b2-collide-polygons}
+use Rattle.contact_definitions.specs.B2CollidePolygon.{manifold-on}
 use Rattle.contact_definitions.specs.EdgeAxis.{right-of, edge-polygon-axis}
 use Rattle.contact_definitions.specs.EdgeReference.{face-between, most-against, outline-edge, wall-manifold, wall-edge}
 use Rattle.contact_definitions.specs.EdgeReference.{placed-face, face-manifold, edge-manifold-on}
 use Rattle.contact_definitions.specs.B2CollideEdge.{circle-at-end, circle-at-wall, over-before, over-after}
-use Rattle.contact_definitions.specs.B2CollideEdge.{edge-circle-answer, b2-collide-edge-and-circle}
-use Rattle.contact_definitions.specs.B2CollideEdge.{edge-polygon-manifold, b2-collide-edge-and-polygon}
-use Rattle.contact_definitions.proofs.Counts.{Accepted, either, refused, counted, in-range, sides-few}
-use Rattle.record_definitions.specs.declared.world.Body.{Body}
-use Rattle.record_definitions.specs.World.{circle-kind, outline-kind}
-use Rattle.record_definitions.specs.Touch.{meet-circle, meet-outline, meet}
+use Rattle.contact_definitions.specs.B2CollideEdge.{edge-circle-answer}
+use Rattle.contact_definitions.specs.B2CollideEdge.{edge-polygon-manifold}
+use Rattle.contact_definitions.proofs.Counts.{Accepted, either, refused, sides-few}
 
 pub record TwoPlaces (m : B2manifold) : Type 0 where
   pub two : length (m .points) ≡ 2
@@ -119,7 +108,7 @@ module _ (m : B2manifold) (h : TwoPlaces m) (c : B2vec2) (radius : Float) (centr
       (either TwoPlaces (le (b2-dot (b2-sub c v2) (b2-sub v1 v2)) zero32) _ _ (at-corner v2)
       (either TwoPlaces (lt radius (b2-dot (b2-sub c middle) normal)) _ _ h written)))
 
-  at-outline : (poly : B2polygonShape) → TwoPlaces (polygon-circle-manifold m poly c radius centre)
+  pub at-outline : (poly : B2polygonShape) → TwoPlaces (polygon-circle-manifold m poly c radius centre)
   unfolding polygon-circle-manifold circle-at-best
   at-outline poly =
       either TwoPlaces (some-below (λ i. lt radius (circle-separation poly c i)) (poly .«m_count»)) _ _ h
@@ -140,7 +129,7 @@ module _ (m : B2manifold) (h : TwoPlaces m) (c : B2vec2) (radius : Float) (centr
       (farther radius c (b2-scale (div binary32 one32 den) (b2-add (b2-scale u a) (b2-scale v b)))) _ _ h
       (one-written m EFaceA _ a centre _ h)
 
-edge-circle-two : (old : B2manifold) (edge : B2edgeShape) (q : B2vec2) (radius : Float) (centre : B2vec2)
+pub edge-circle-two : (old : B2manifold) (edge : B2edgeShape) (q : B2vec2) (radius : Float) (centre : B2vec2)
     → TwoPlaces old → Accepted TwoPlaces (edge-circle-answer old edge q radius centre)
 unfolding edge-circle-answer
 edge-circle-two old edge q radius centre h =
@@ -167,7 +156,7 @@ outlines-two m named total poly1 xf1 edge1 poly2 xf2 h =
     ends-written m _ _ _ _ _ h
     (sides-few (outline-face total poly1 xf1 edge1) (b2-find-incident-edge poly1 xf1 edge1 poly2 xf2))
 
-axis-two : (axis : Axis) (m : B2manifold) (total : Float) (polyA : B2polygonShape) (xfA : B2Transform)
+pub axis-two : (axis : Axis) (m : B2manifold) (total : Float) (polyA : B2polygonShape) (xfA : B2Transform)
     (polyB : B2polygonShape) (xfB : B2Transform) → TwoPlaces m
     → TwoPlaces (manifold-on axis m total polyA xfA polyB xfB)
 axis-two (Apart s) m total polyA xfA polyB xfB h = h
@@ -190,7 +179,7 @@ edge-axis-two (FaceB s x y i) m edge edge1 xf poly radius h =
     ends-written (with-kind m EFaceB) _ _ _ _ _ (kind-written m EFaceB h)
     (sides-few (placed-face xf poly i) (wall-edge edge i))
 
-edge-polygon-two : (m : B2manifold) (edge : B2edgeShape) (xf : B2Transform) (poly : B2polygonShape) → TwoPlaces m
+pub edge-polygon-two : (m : B2manifold) (edge : B2edgeShape) (xf : B2Transform) (poly : B2polygonShape) → TwoPlaces m
     → TwoPlaces (edge-polygon-manifold m edge xf poly)
 unfolding edge-polygon-manifold
 edge-polygon-two m edge xf poly h =
@@ -200,69 +189,3 @@ edge-polygon-two m edge xf poly h =
     let offset1 = b2-dot (right-of edge1) (b2-sub centroid (edge .«m_vertex1»)) in
     either TwoPlaces (edge .«m_one_sided» && lt offset1 zero32) _ _ h
     (edge-axis-two (edge-polygon-axis radius edge edge1 xf poly) m edge edge1 xf poly radius h)
-
--- ---- the five calls, from a default manifold
-default-two : TwoPlaces (with-count default-manifold 0)
-default-two = count-written default-manifold 0 (record { two = refl })
-
-circles-written : (m : B2manifold) (circleA : B2circleShape) (xfA : B2Transform) (circleB : B2circleShape)
-    (xfB : B2Transform) → TwoPlaces m → TwoPlaces (circles-manifold m circleA xfA circleB xfB)
-unfolding circles-manifold
-circles-written m circleA xfA circleB xfB h =
-    either TwoPlaces
-    (farther (add binary32 (circleA .«m_radius») (circleB .«m_radius»)) (b2-mul-transform-by-vec2 xfB (circleB .«m_p»))
-    (b2-mul-transform-by-vec2 xfA (circleA .«m_p»))) _ _ h
-    (one-written m ECircles origin (circleA .«m_p») (circleB .«m_p») default-id h)
-
-module _ (a b : Body) where
-  ranged : (shapes : Bool) (answer : ManifoldAnswer) → Accepted TwoPlaces answer
-      → Accepted TwoPlaces (where-in-range shapes (a .xf) (b .xf) default-manifold answer)
-  ranged shapes answer h = in-range TwoPlaces shapes (a .xf) (b .xf) default-manifold answer h
-
-  circles-two : Accepted TwoPlaces (b2-collide-circles default-manifold (a .circle) (a .xf) (b .circle) (b .xf))
-  unfolding b2-collide-circles
-  circles-two =
-      ranged (circle-in-range (a .circle) && circle-in-range (b .circle)) _
-      (λ taken. circles-written (with-count default-manifold 0) (a .circle) (a .xf) (b .circle) (b .xf) default-two)
-
-  outline-circle-two : Accepted TwoPlaces
-      (b2-collide-polygon-and-circle default-manifold (a .outline) (a .xf) (b .circle) (b .xf))
-  unfolding b2-collide-polygon-and-circle
-  outline-circle-two =
-      counted TwoPlaces (miscounted (a .outline .«m_count»)) default-manifold _
-      (ranged (polygon-in-range (a .outline) && circle-in-range (b .circle)) _
-      (λ taken. at-outline (with-count default-manifold 0) default-two _ _ (b .circle .«m_p») (a .outline)))
-
-  wall-circle-two : Accepted TwoPlaces
-      (b2-collide-edge-and-circle default-manifold (a .wall) (a .xf) (b .circle) (b .xf))
-  unfolding b2-collide-edge-and-circle
-  wall-circle-two =
-      ranged (edge-in-range (a .wall) && circle-in-range (b .circle)) _
-      (edge-circle-two default-manifold (a .wall) _ _ (b .circle .«m_p») (record { two = refl }))
-
-  outlines-met-two : Accepted TwoPlaces
-      (b2-collide-polygons default-manifold (a .outline) (a .xf) (b .outline) (b .xf))
-  unfolding b2-collide-polygons polygons-manifold
-  outlines-met-two =
-      let total = add binary32 (a .outline .«m_radius») (b .outline .«m_radius») in
-      counted TwoPlaces (miscounted (a .outline .«m_count») || miscounted (b .outline .«m_count»)) default-manifold _
-      (ranged (polygon-in-range (a .outline) && polygon-in-range (b .outline)) _
-      (λ taken. axis-two (polygons-axis total (a .outline) (a .xf) (b .outline) (b .xf)) (with-count default-manifold 0)
-      total (a .outline) (a .xf) (b .outline) (b .xf) default-two))
-
-  wall-outline-two : Accepted TwoPlaces
-      (b2-collide-edge-and-polygon default-manifold (a .wall) (a .xf) (b .outline) (b .xf))
-  unfolding b2-collide-edge-and-polygon
-  wall-outline-two =
-      counted TwoPlaces (miscounted (b .outline .«m_count»)) default-manifold _
-      (ranged (edge-in-range (a .wall) && polygon-in-range (b .outline)) _
-      (λ taken. edge-polygon-two (with-count default-manifold 0) (a .wall) (b2-mul-t-transform (a .xf) (b .xf))
-      (b .outline) default-two))
-
-  pub met-two : Accepted TwoPlaces (meet a b)
-  unfolding meet meet-circle meet-outline
-  met-two =
-      either (Accepted TwoPlaces) (eqb (b .kind) circle-kind) _ _
-      (either (Accepted TwoPlaces) (eqb (a .kind) circle-kind) _ _ circles-two
-      (either (Accepted TwoPlaces) (eqb (a .kind) outline-kind) _ _ outline-circle-two wall-circle-two))
-      (either (Accepted TwoPlaces) (eqb (a .kind) outline-kind) _ _ outlines-met-two wall-outline-two)

@@ -1,5 +1,6 @@
 pub mod Caps
 pub mod Vectors
+pub mod Coordinates
 pub mod Normalised
 pub mod Clipped
 pub mod Manifolds

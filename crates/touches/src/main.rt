@@ -1,7 +1,7 @@
 // The program `touches`: frames on standard input, a line each, and their answers on standard output.
 ghost use mathlib.Core.Path.{_≡_};
 ghost use mathlib.Core.Bool.{true};
-ghost use Prim.Native.Nat.{_≤_};
+ghost use Prim.Native.Nat.{_≤_, _<_};
 ghost use lib.ListN.{length};
 ghost use Rattle.record_definitions.specs.Answer.{said-line, longest-line};
 ghost use Rattle.record_definitions.specs.Reading.{reading, after, printed};
@@ -9,6 +9,8 @@ use feeding::feed;
 use libc::STDIN_FILENO;
 use libc::STDOUT_FILENO;
 use record_definitions::reader::Reader;
+
+const LINE_FEED: u8 = 10;
 
 // The state after a piece of input, and whether to go on.
 pub struct Going {
@@ -25,70 +27,80 @@ fn put_out<'a>(s: Reader, input: &'a [u8], output: &'a [u8]) -> bool
 }
 
 // A whole piece of input: what it prints is written, as often as the output is full. It ends early where a write fails.
-fn piece(s: Reader, chunk: &[u8], out: &mut [u8]) -> Going
+fn piece(mut s: Reader, chunk: &[u8], out: &mut [u8]) -> Going
     requires { ⌜ longest-line ≤ length (now out) ⌝ }
     ensures { λ r. ⌜ (r .more ≡ true → reading (r .reader) ≡ after (reading s) (now (chunk .entry))) ⌝ }
 {
-    let mut reader = s;
     let mut from = 0usize;
     while from < chunk.len() {
-        let f = feed::feed(reader, &chunk[from..], out);
+        let f = feed::feed(s, &chunk[from..], out);
         let taken = f.taken;
         let written = f.written;
         let end = from + taken;
-        if !put_out(reader, &chunk[from..end], &out[..written]) {
+        if !put_out(s, &chunk[from..end], &out[..written]) {
             return Going {
                 reader: s,
                 more: false,
             };
         }
-        let next = f.reader;
-        reader = next;
+        s = f.reader;
         from = end;
     }
-    Going { reader, more: true }
-}
-
-// The last line, where it lacks its line feed.
-fn finish(s: Reader, out: &mut [u8])
-    requires { ⌜ longest-line ≤ length (now out) ⌝ }
-{
-    if s.len == 0 {
-        return;
+    Going {
+        reader: s,
+        more: true,
     }
-    piece(s, b"\n", out);
 }
 
-// One read, and what it brought. Where it brought nothing the input ends; where it failed, so does the program.
-fn turn(s: Reader, chunk: &mut [u8], out: &mut [u8]) -> Going
-    requires { ⌜ longest-line ≤ length (now out) ⌝ }
+// What a read brought: so many bytes, and whether more can follow.
+pub struct Got {
+    pub count: usize,
+    pub more: bool,
+}
+
+// One read. Where it brought nothing the input ends, and a line that has begun gets the line feed that it lacks; where
+// it failed, the program ends.
+fn input(chunk: &mut [u8], begun: usize) -> Got
+    requires { ⌜ 0 < length (now chunk) ⌝ }
+    ensures { λ r. ⌜ r .count ≤ length (now (chunk .exit)) ⌝ }
 {
     let got = libc::read(STDIN_FILENO, chunk);
     if got > 0 {
         let n = io::count(got, chunk);
-        return piece(s, &chunk[..n], out);
+        return Got {
+            count: n,
+            more: true,
+        };
     }
     if got == 0 {
-        finish(s, out);
+        if begun != 0 {
+            chunk[0] = LINE_FEED;
+            return Got {
+                count: 1,
+                more: false,
+            };
+        }
     }
-    Going {
-        reader: s,
+    Got {
+        count: 0,
         more: false,
     }
 }
 
-// Turn after turn. Nothing says that an input ends: the count of turns does, after 2^64 - 1 of them.
+// Piece after piece. Nothing says that an input ends: the count of pieces does, after 2^64 - 1 of them.
 fn all(chunk: &mut [u8], out: &mut [u8])
-    requires { ⌜ longest-line ≤ length (now out) ⌝ }
+    requires { ⌜ (0 < length (now chunk)) × (longest-line ≤ length (now out)) ⌝ }
 {
     let mut turns = u64::MAX;
     let mut reader = feed::start();
-    let mut more = true;
-    while turns > 0 && more {
-        let g = turn(reader, chunk, out);
-        let next = g.reader;
-        reader = next;
-        more = g.more;
+    while turns > 0 {
+        let got = input(chunk, reader.len);
+        let n = got.count;
+        let g = piece(reader, &chunk[..n], out);
+        if !(got.more & g.more) {
+            return;
+        }
+        reader = g.reader;
         turns -= 1;
     }
 }

@@ -1,18 +1,20 @@
--- At most 2^64 turns; the output keeps its room. Assumes nothing.
-use Prim.Native.Nat.{_≤_}
-use mathlib.Core.Path.{_≡_, refl, _∙_}
+-- At most 2^64 pieces; the input and the output keep their room. Assumes nothing.
+use Prim.Native.Nat.{_≤_, _<_}
+use mathlib.Core.Path.{_≡_, refl, sym, _∙_}
+use native.Mathlib.Omega.{arith}
 use lib.ListN.{length}
+use lib.Seq.{length-take-le}
 use Rattle.record_definitions.specs.Answer.{longest-line}
 use borrow.Author.Needs.{needs}
 use Rattle.touches.proofs.all.Statement.{statement}
 use Rattle.touches.proofs.all.Tie as tie
 
 abbrev Inv-loop : tie.InvT-loop
-Inv-loop chunk₀ out₀ turns₀ reader₀ more₀ chunk out turns reader more =
-    (length chunk ≡ length chunk₀) × (length out ≡ length out₀) × (longest-line ≤ length out₀)
+Inv-loop chunk₀ out₀ turns₀ reader₀ chunk out turns reader =
+    (length chunk ≡ length chunk₀) × (length out ≡ length out₀) × (0 < length chunk₀) × (longest-line ≤ length out₀)
 
 abbrev μ-loop : tie.MeasureT-loop
-μ-loop chunk₀ out₀ turns₀ reader₀ more₀ chunk out turns reader more = turns
+μ-loop chunk₀ out₀ turns₀ reader₀ chunk out turns reader = turns
 
 start-requires : tie.Need-start-requires Inv-loop μ-loop
 start-requires c κs = search needs
@@ -20,23 +22,19 @@ start-requires c κs = search needs
 loop-holds : tie.Need-loop-holds Inv-loop μ-loop
 loop-holds c =
     let pre′ = c .before .before .before .pre in
-    (refl, refl, pre′)
+    (refl, refl, pre′ .0, pre′ .1)
 
-turn-requires : tie.Need-turn-requires Inv-loop μ-loop
-turn-requires c κs = search needs
+input-requires : tie.Need-input-requires Inv-loop μ-loop
+input-requires c κs = search needs
 
-sub-turns : tie.Need-sub-turns Inv-loop μ-loop
-sub-turns c = search needs
+slice-reshare-prefix-piece : tie.Need-slice-reshare-prefix-piece Inv-loop μ-loop
+slice-reshare-prefix-piece c = search needs
 
-loop-less : tie.Need-loop-less Inv-loop μ-loop
-loop-less c = search needs
+slice-aggregate-piece : tie.Need-slice-aggregate-piece Inv-loop μ-loop
+slice-aggregate-piece c = sym (length-take-le _ _ (omega arith))
 
-loop-again : tie.Need-loop-again Inv-loop μ-loop
-loop-again c =
-    let turn′ = c .before .before .before .before .before .turn in
-    let before-loop = c .before .before .before .before .before .before .before .before .before in
-    let loop′ = before-loop .before .loop in
-    (turn′ .kept .1 .0 ∙ loop′ .inv .0, turn′ .kept .1 .1 .0 ∙ loop′ .inv .1, loop′ .inv .2)
+piece-requires : tie.Need-piece-requires Inv-loop μ-loop
+piece-requires c κs = search needs
 
 same-length : tie.Need-same-length Inv-loop μ-loop
 same-length c = search needs
@@ -46,6 +44,15 @@ same-length-2 c = search needs
 
 returns : tie.Need-returns Inv-loop μ-loop
 returns c = search needs
+
+sub-turns : tie.Need-sub-turns Inv-loop μ-loop
+sub-turns c = search needs
+
+loop-less : tie.Need-loop-less Inv-loop μ-loop
+loop-less c = search needs
+
+loop-again : tie.Need-loop-again Inv-loop μ-loop
+loop-again c = search needs
 
 same-length-3 : tie.Need-same-length-3 Inv-loop μ-loop
 same-length-3 c = search needs
@@ -64,13 +71,16 @@ all-spec =
     μ-loop
     start-requires
     loop-holds
-    turn-requires
-    sub-turns
-    loop-less
-    loop-again
+    input-requires
+    slice-reshare-prefix-piece
+    slice-aggregate-piece
+    piece-requires
     same-length
     same-length-2
     returns
+    sub-turns
+    loop-less
+    loop-again
     same-length-3
     same-length-4
     returns-2)

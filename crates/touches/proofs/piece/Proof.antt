@@ -12,10 +12,10 @@ use Rattle.touches.proofs.piece.Statement.{statement}
 use Rattle.touches.proofs.piece.Tie as tie
 
 abbrev Inv-loop : tie.InvT-loop
-Inv-loop s chunk out₀ reader₀ from₀ out reader from = PieceSoFar s chunk out₀ out reader from
+Inv-loop s₀ chunk out₀ from₀ s out from = PieceSoFar s₀ chunk out₀ out s from
 
 abbrev μ-loop : tie.MeasureT-loop
-μ-loop s chunk out₀ reader₀ from₀ out reader from = length chunk - from
+μ-loop s₀ chunk out₀ from₀ s out from = length chunk - from
 
 loop-holds : tie.Need-loop-holds Inv-loop μ-loop
 loop-holds c =
@@ -41,7 +41,7 @@ add-end c =
     let at-args = c .before .before .before .before .before .before .before .before .before in
     let args′ = at-args .args in
     let good′ = at-args .good in
-    let within = end-within (args′ .s) (args′ .chunk .now) (args′ .out .now) (loop′ .out) (loop′ .reader)
+    let within = end-within (args′ .s) (args′ .chunk .now) (args′ .out .now) (loop′ .out) (loop′ .s)
     (loop′ .from) (loop′ .inv) (feed′ .result) _ (feed′ .kept .1 .1 .0) (feed′ .ensures) in
     omega (arith, within, good′ .1 .0 .0)
 
@@ -57,7 +57,7 @@ part-put-out-end c =
     let loop′ = c .before .before .before .before .before .before .loop in
     let at-args = c .before .before .before .before .before .before .before .before .before in
     let args′ = at-args .args in
-    let within = end-within (args′ .s) (args′ .chunk .now) (args′ .out .now) (loop′ .out) (loop′ .reader)
+    let within = end-within (args′ .s) (args′ .chunk .now) (args′ .out .now) (loop′ .out) (loop′ .s)
     (loop′ .from) (loop′ .inv) (feed′ .result) _ (feed′ .kept .1 .1 .0) (feed′ .ensures) in
     omega (arith, within)
 
@@ -67,7 +67,7 @@ slice-reshare-prefix-put-out c =
     let at-loop = c .before .before .before .before .before .before .before in
     let loop′ = at-loop .loop in
     let args′ = at-loop .before .before .before .args in
-    let within = written-within (args′ .s) (args′ .chunk .now) (args′ .out .now) (loop′ .out) (loop′ .reader)
+    let within = written-within (args′ .s) (args′ .chunk .now) (args′ .out .now) (loop′ .out) (loop′ .s)
     (loop′ .from) (loop′ .inv) (feed′ .result) _ (feed′ .kept .1 .1 .0) (feed′ .ensures) in
     omega (arith, within)
 
@@ -77,7 +77,7 @@ slice-aggregate-put-out c =
     let at-loop = c .before .before .before .before .before .before .before .before in
     let loop′ = at-loop .loop in
     let args′ = at-loop .before .before .before .args in
-    let within = written-within (args′ .s) (args′ .chunk .now) (args′ .out .now) (loop′ .out) (loop′ .reader)
+    let within = written-within (args′ .s) (args′ .chunk .now) (args′ .out .now) (loop′ .out) (loop′ .s)
     (loop′ .from) (loop′ .inv) (feed′ .result) _ (feed′ .kept .1 .1 .0) (feed′ .ensures) in
     sym (length-take-le _ _ within)
 
@@ -87,7 +87,7 @@ put-out-requires c κs =
     let at-loop = c .before .before .before .before .before .before .before .before in
     let loop′ = at-loop .loop in
     let args′ = at-loop .before .before .before .args in
-    handed (args′ .s) (args′ .chunk .now) (args′ .out .now) (loop′ .out) (loop′ .reader)
+    handed (args′ .s) (args′ .chunk .now) (args′ .out .now) (loop′ .out) (loop′ .s)
     (loop′ .from) (loop′ .inv) (feed′ .result) _ (feed′ .kept .1 .1 .0) (feed′ .ensures)
 
 same-length : tie.Need-same-length Inv-loop μ-loop
@@ -104,9 +104,9 @@ loop-less c =
     let loop′ = at-feed .before .before .before .before .loop in
     let at-args = at-feed .before .before .before .before .before .before .before in
     let args′ = at-args .args in
-    let within = end-within (args′ .s) (args′ .chunk .now) (args′ .out .now) (loop′ .out) (loop′ .reader)
+    let within = end-within (args′ .s) (args′ .chunk .now) (args′ .out .now) (loop′ .out) (loop′ .s)
     (loop′ .from) (loop′ .inv) (feed′ .result) _ (feed′ .kept .1 .1 .0) (feed′ .ensures) in
-    let some = some-taken (args′ .s) (args′ .chunk .now) (args′ .out .now) (loop′ .out) (loop′ .reader)
+    let some = some-taken (args′ .s) (args′ .chunk .now) (args′ .out .now) (loop′ .out) (loop′ .s)
     (loop′ .from) (loop′ .inv) (feed′ .result) _ (feed′ .kept .1 .1 .0) (feed′ .ensures) (loop-test′ .taken) in
     omega (arith, within, some)
 
@@ -117,7 +117,7 @@ loop-again c =
     let loop′ = at-feed .before .before .before .before .loop in
     let at-args = at-feed .before .before .before .before .before .before .before in
     let args′ = at-args .args in
-    more-fed (args′ .s) (args′ .chunk .now) (args′ .out .now) (loop′ .out) (loop′ .reader)
+    more-fed (args′ .s) (args′ .chunk .now) (args′ .out .now) (loop′ .out) (loop′ .s)
     (loop′ .from) (loop′ .inv) (feed′ .result) _ (feed′ .kept .1 .1 .0) (feed′ .ensures)
 
 same-length-2 : tie.Need-same-length-2 Inv-loop μ-loop

@@ -19,10 +19,10 @@ refusal-in-requires c κs = search needs
 returns : tie.Need-returns
 returns c =
     let refusal-in′ = c .before .refusal-in in
-    let frame′ = c .before .before .before .frame in
-    let fresh-pair′ = c .before .before .before .before .fresh-pair in
-    let blank-body′ = c .before .before .before .before .before .blank-body in
-    let at-args = c .before .before .before .before .before .before .before .before in
+    let frame′ = c .before .before .frame in
+    let fresh-pair′ = c .before .before .before .fresh-pair in
+    let blank-body′ = c .before .before .before .before .blank-body in
+    let at-args = c .before .before .before .before .before .before .before in
     let args′ = at-args .args in
     refused-alone (args′ .shape .now) (args′ .placement .now) (frame′ .result) _
     (rw (blank-body′ .ensures, fresh-pair′ .ensures) at (frame′ .ensures)) (refusal-in′ .ensures) (c .if1 .taken)
@@ -34,10 +34,10 @@ returns-2 : tie.Need-returns-2
 returns-2 c =
     let if1′ = c .before .if1 in
     let refusal-in′ = c .before .before .refusal-in in
-    let frame′ = c .before .before .before .before .frame in
-    let fresh-pair′ = c .before .before .before .before .before .fresh-pair in
-    let blank-body′ = c .before .before .before .before .before .before .blank-body in
-    let at-args = c .before .before .before .before .before .before .before .before .before in
+    let frame′ = c .before .before .before .frame in
+    let fresh-pair′ = c .before .before .before .before .fresh-pair in
+    let blank-body′ = c .before .before .before .before .before .blank-body in
+    let at-args = c .before .before .before .before .before .before .before .before in
     let args′ = at-args .args in
     taken-both (args′ .shape .now) (args′ .placement .now) (frame′ .result) _ (c .frame2 .result)
     (rw (blank-body′ .ensures, fresh-pair′ .ensures) at (frame′ .ensures)) (refusal-in′ .ensures) (if1′ .left)

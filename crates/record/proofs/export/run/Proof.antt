@@ -12,13 +12,14 @@ refusal-in-requires c κs = search needs
 
 returns : tie.Need-returns
 returns c =
-    let refusal-in′ = c .before .refusal-in in
+    let if1′ = c .before .if1 in
+    let refusal-in′ = c .before .before .refusal-in in
     let both-changes′ = c .before .before .before .both-changes in
     let at-args = c .before .before .before .before .before .before .before .before in
     let args′ = at-args .args in
     let pre′ = at-args .pre in
     first-body-refused (args′ .f0 .now) (args′ .f1 .now) (args′ .f2 .now) (args′ .f3 .now) (pre′)
-    (both-changes′ .result) (both-changes′ .ensures) _ (refusal-in′ .ensures) (c .if1 .taken)
+    (both-changes′ .result) (both-changes′ .ensures) _ (refusal-in′ .ensures) (if1′ .taken)
 
 both-changes-requires-2 : tie.Need-both-changes-requires-2
 both-changes-requires-2 c κs = search needs
@@ -28,17 +29,18 @@ refusal-in-requires-2 c κs = search needs
 
 returns-2 : tie.Need-returns-2
 returns-2 c =
-    let refusal-in2′ = c .before .refusal-in2 in
+    let if2′ = c .before .if2 in
+    let refusal-in2′ = c .before .before .refusal-in2 in
     let both-changes2′ = c .before .before .before .both-changes2 in
     let if1′ = c .before .before .before .before .if1 in
     let refusal-in′ = c .before .before .before .before .before .refusal-in in
-    let at-both-changes = c .before .before .before .before .before .before .before in
+    let at-both-changes = c .before .before .before .before .before .before in
     let both-changes′ = at-both-changes .both-changes in
     let args′ = at-both-changes .before .before .before .before .before .args in
     let pre′ = at-both-changes .before .before .before .before .before .pre in
     second-body-refused (args′ .f0 .now) (args′ .f1 .now) (args′ .f2 .now) (args′ .f3 .now) (pre′)
     (both-changes′ .result) (both-changes′ .ensures) _ (refusal-in′ .ensures) (if1′ .left)
-    (both-changes2′ .result) (both-changes2′ .ensures) _ (refusal-in2′ .ensures) (c .if2 .taken)
+    (both-changes2′ .result) (both-changes2′ .ensures) _ (refusal-in2′ .ensures) (if2′ .taken)
 
 fresh-pair-requires : tie.Need-fresh-pair-requires
 fresh-pair-requires c κs = search needs
@@ -55,12 +57,12 @@ returns-3 c =
     let fresh-pair′ = c .before .before .before .fresh-pair in
     let if2′ = c .before .before .before .before .if2 in
     let refusal-in2′ = c .before .before .before .before .before .refusal-in2 in
-    let at-both-changes2 = c .before .before .before .before .before .before .before in
+    let at-both-changes2 = c .before .before .before .before .before .before in
     let both-changes2′ = at-both-changes2 .both-changes2 in
     let if1′ = at-both-changes2 .before .if1 in
     let refusal-in′ = at-both-changes2 .before .before .refusal-in in
-    let both-changes′ = at-both-changes2 .before .before .before .before .both-changes in
-    let at-args = at-both-changes2 .before .before .before .before .before .before .before .before .before in
+    let both-changes′ = at-both-changes2 .before .before .before .both-changes in
+    let at-args = at-both-changes2 .before .before .before .before .before .before .before .before in
     let args′ = at-args .args in
     let pre′ = at-args .pre in
     bodies-tested (args′ .f0 .now) (args′ .f1 .now) (args′ .f2 .now) (args′ .f3 .now) (pre′)
