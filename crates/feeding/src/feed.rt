@@ -13,14 +13,13 @@ use frames::frame;
 use lines::fields;
 use lines::hex;
 use lines::hex::LARGEST_FRAME;
+use lines::hex::LINE_FEED;
 use lines::hex::LINE_LIMIT;
 use record_definitions::reader::Fed;
 use record_definitions::reader::Reader;
 
 // The characters of a line that are kept: one more than the longest line has.
 const KEPT_LENGTH: usize = LINE_LIMIT + 1;
-
-const LINE_FEED: u8 = 10;
 
 // The state before any input.
 pub fn start() -> Reader

@@ -12,7 +12,7 @@ pub const LARGEST_FRAME: usize = 67;
 
 pub const LINE_LIMIT: usize = 2 * LARGEST_FRAME;
 
-const LINE_FEED: u8 = 10;
+pub const LINE_FEED: u8 = 10;
 
 // The value of a digit, 16 for another character. Both tests come first, so that the compiler branches on neither.
 fn nibble(x: u8) -> u8

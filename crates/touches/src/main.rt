@@ -8,9 +8,8 @@ ghost use Rattle.record_definitions.specs.Reading.{reading, after, printed};
 use feeding::feed;
 use libc::STDIN_FILENO;
 use libc::STDOUT_FILENO;
+use lines::hex::LINE_FEED;
 use record_definitions::reader::Reader;
-
-const LINE_FEED: u8 = 10;
 
 // The state after a piece of input, and whether to go on.
 pub struct Going {
