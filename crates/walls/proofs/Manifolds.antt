@@ -2,9 +2,7 @@
 use mathlib.Core.Path.{_≡_, refl, sym, _∙_, ap}
 use mathlib.Core.Bool.{Bool, true, false, cond, _&&_}
 use mathlib.Core.List.{List}
-use Prim.Native.Nat.{ℕ, _<_}
-use native.Mathlib.Omega.{arith}
-use lib.ListN.{length, getD}
+use Prim.Native.Nat.{ℕ}
 use lib.Ieee.{Float, binary32, neg, add, lt}
 use Rattle.rounding.specs.Literals.{zero32}
 use Rattle.floats.specs.declared.b2_math.B2vec2.{B2vec2}
@@ -21,12 +19,9 @@ use Rattle.contact_definitions.specs.Manifold.{with-count}
 use Rattle.contact_definitions.specs.EdgeAxis.{placed-corner, placed-normal, right-of, b2-compute-edge-separation}
 use Rattle.contact_definitions.specs.EdgeAxis.{b2-compute-polygon-separation, primary-axis, smoothed, smoothed-if}
 use Rattle.contact_definitions.specs.EdgeAxis.{edge-polygon-axis}
-use Rattle.contact_definitions.specs.EdgeReference.{outline-edge, wall-edge, wall-manifold, face-manifold}
 use Rattle.contact_definitions.specs.EdgeReference.{edge-manifold-on}
 use Rattle.contact_definitions.specs.B2CollideEdge.{edge-polygon-manifold}
 use Rattle.wall_separation.specs.Rows.{Row, PointRows, face-distance}
-use Rattle.wall_separation.proofs.Filled.{at-place}
-use Rattle.wall_reference.specs.Reference.{wall-reference, face-reference, reference-manifold}
 
 -- ---- the rows, by the names of the definitions
 pub corners-placed : (xf : B2Transform) (poly : B2polygonShape) {n : ℕ} {xs ys : List Float}
@@ -47,29 +42,6 @@ pub faces-placed : (xf : B2Transform) (poly : B2polygonShape) (v1 v2 : B2vec2) {
     → Row (λ i. face-distance (placed-normal xf poly i) (placed-corner xf poly i) v1 v2) n faces
 unfolding placed-normal
 faces-placed xf poly v1 v2 row = row
-
--- ---- the manifold of a reference is that of its axis
-module _ (m : B2manifold) (edge : B2edgeShape) (xf : B2Transform) (poly : B2polygonShape) (radius : Float) where
-  pub on-wall : (edge1 normal : B2vec2)
-      → reference-manifold (wall-reference xf poly (edge .«m_vertex1») (edge .«m_vertex2») edge1 normal) m xf radius
-      ≡ wall-manifold (with-count m 0) edge edge1 normal xf poly radius
-  unfolding reference-manifold wall-reference wall-manifold outline-edge
-  on-wall edge1 normal = refl
-
-  on-face : (i : ℕ)
-      → reference-manifold (face-reference xf poly (edge .«m_vertex1») (edge .«m_vertex2») i
-      (point-at (poly .«m_normals») i) (point-at (poly .«m_vertices») i)) m xf radius
-      ≡ face-manifold (with-count m 0) edge i xf poly radius
-  unfolding reference-manifold face-reference face-manifold wall-edge
-  on-face i = refl
-
-  -- its normal and point are read from the outline; d and e are whatever is said to stand past the end
-  pub on-face-read : (i : ℕ) (d e : B2vec2) → i < 8 → length (poly .«m_normals») ≡ 8 → length (poly .«m_vertices») ≡ 8
-      → reference-manifold (face-reference xf poly (edge .«m_vertex1») (edge .«m_vertex2») i
-      (getD (poly .«m_normals») i d) (getD (poly .«m_vertices») i e)) m xf radius
-      ≡ face-manifold (with-count m 0) edge i xf poly radius
-  on-face-read i d e below normals vertices =
-      rw (at-place (poly .«m_normals») i d (omega arith), at-place (poly .«m_vertices») i e (omega arith)) (on-face i)
 
 -- ---- the search
 module _ (edge : B2edgeShape) (edge1 : B2vec2) (xf : B2Transform) (poly : B2polygonShape) (radius : Float) where

@@ -21,7 +21,7 @@ use Rattle.contact_definitions.specs.EdgeAxis.{right-of, side-axis, outline-axi
 use Rattle.contact_definitions.specs.EdgeAxis.{b2-compute-edge-separation}
 use Rattle.contact_definitions.specs.EdgeAxis.{b2-compute-polygon-separation, primary-axis, gauss-region, in-region}
 use Rattle.contact_definitions.specs.EdgeAxis.{smoothed, edge-polygon-axis}
-use Rattle.walls.specs.Places.{place-below}
+use Rattle.wall_manifold.specs.Places.{place-below}
 
 picked : (P : Axis → Type 0) (t : Bool) (a b : Axis) → P a → P b → P (cond t a b)
 picked P true a b a-has b-has = a-has

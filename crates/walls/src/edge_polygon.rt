@@ -7,13 +7,12 @@ ghost use Rattle.rounding.specs.Literals.{zero32};
 ghost use Rattle.floats.specs.B2Math.{b2-sub, b2-dot, b2-normalize, b2-mul-transform-by-vec2};
 ghost use Rattle.contact_definitions.specs.Axis.{separation-of};
 ghost use Rattle.contact_definitions.specs.Manifold.{with-count};
-ghost use Rattle.contact_definitions.specs.EdgeAxis.{placed-corner, placed-normal, right-of, smoothed-if};
+ghost use Rattle.contact_definitions.specs.EdgeAxis.{placed-corner, right-of, smoothed-if};
 ghost use Rattle.contact_definitions.specs.EdgeAxis.{b2-compute-edge-separation, edge-polygon-axis};
 ghost use Rattle.contact_definitions.specs.EdgeReference.{edge-manifold-on};
 ghost use Rattle.contact_definitions.specs.B2CollideEdge.{edge-polygon-manifold};
 ghost use Rattle.clipping.specs.Unit.{unit-scale};
 ghost use Rattle.wall_separation.specs.Rows.{PointRows};
-ghost use Rattle.walls.specs.Places.{place-below};
 use clipping::manifolds;
 use contact_definitions::axis::Axis;
 use contact_definitions::b2_collision::B2manifold;
@@ -25,57 +24,10 @@ use shape_definitions::b2_edge_shape::B2edgeShape;
 use shape_definitions::b2_polygon_shape::B2polygonShape;
 use wall_axis::axes;
 use wall_axis::gauss_map;
-use wall_clipping::edge_clipping;
-use wall_reference::edge_reference;
+use wall_manifold::edge_manifold;
 use wall_separation::edge_separation;
 use wall_separation::polygon_separation;
 use wall_separation::rows;
-
-// The axis is known: the reference face is made of it, and the rest is clipping.
-fn edge_manifold_on(
-    axis: Axis,
-    m: B2manifold,
-    edge: B2edgeShape,
-    edge1: B2vec2,
-    xf: B2Transform,
-    polygon: B2polygonShape,
-    radius: f32,
-    xs: &[f32; 8],
-    ys: &[f32; 8],
-    nxs: &[f32; 8],
-    nys: &[f32; 8],
-) -> B2manifold
-    requires { ⌜ (0 < polygon .«m_count») × (polygon .«m_count» ≤ 8) × place-below (polygon .«m_count») axis
-        × PointRows (placed-corner xf polygon) (polygon .«m_count») (now xs) (now ys)
-        × PointRows (placed-normal xf polygon) (polygon .«m_count») (now nxs) (now nys) ⌝ }
-    ensures { λ r. ⌜ r ≡ edge-manifold-on axis (with-count m 0) edge edge1 xf polygon radius ⌝ }
-{
-    let count = polygon.m_count;
-    let v1 = edge.m_vertex1;
-    let v2 = edge.m_vertex2;
-    let f = match axis {
-        Axis::Apart(s) => {
-            return manifolds::no_points(m);
-        }
-        Axis::FaceA(s, x, y, i) => edge_reference::reference_a(
-            xs,
-            ys,
-            nxs,
-            nys,
-            count,
-            v1,
-            v2,
-            edge1,
-            B2vec2 { x, y },
-        ),
-        Axis::FaceB(s, x, y, i) => {
-            let vb = polygon.m_vertices;
-            let nb = polygon.m_normals;
-            edge_reference::reference_b(xs, ys, nxs, nys, count, v1, v2, i, nb[i], vb[i])
-        }
-    };
-    edge_clipping::reference_manifold(m, f, xf, radius)
-}
 
 // The Gauss map is asked of one-sided walls only.
 fn smoothed_if(edge: B2edgeShape, edge1: B2vec2, edge_axis: Axis, axis: Axis) -> Axis
@@ -125,7 +77,7 @@ fn with_faces(
     );
     let face = polygon_separation::b2_compute_polygon_separation(&faces, &nxs, &nys, count);
     let axis = smoothed_if(edge, edge1, wall, axes::primary_axis(radius, wall, face));
-    edge_manifold_on(
+    edge_manifold::edge_manifold_on(
         axis,
         m,
         edge,

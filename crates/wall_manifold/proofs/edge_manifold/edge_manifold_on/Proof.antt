@@ -9,11 +9,11 @@ use Rattle.wall_reference.specs.declared.edge_reference.Reference.{Reference}
 use Rattle.contact_definitions.specs.EdgeReference.{edge-manifold-on}
 use Rattle.contact_definitions.specs.Manifold.{with-count}
 use Rattle.wall_reference.specs.Reference.{reference-manifold}
-use Rattle.walls.specs.Places.{place-below}
-use Rattle.walls.proofs.Manifolds.{on-wall, on-face-read}
+use Rattle.wall_manifold.specs.Places.{place-below}
+use Rattle.wall_manifold.proofs.References.{on-wall, on-face-read}
 use borrow.Author.Needs.{needs}
-use Rattle.walls.proofs.edge_polygon.edge_manifold_on.Statement.{statement}
-use Rattle.walls.proofs.edge_polygon.edge_manifold_on.Tie as tie
+use Rattle.wall_manifold.proofs.edge_manifold.edge_manifold_on.Statement.{statement}
+use Rattle.wall_manifold.proofs.edge_manifold.edge_manifold_on.Tie as tie
 
 enum-known-axis : tie.Need-enum-known-axis
 enum-known-axis c = search needs
