@@ -10,6 +10,11 @@ bench_crates="bench_calls bench_contacts bench_world"
 record_crate=record
 header=netxurbil_test_calls.h
 
+# A check makes thousands of small files and removes them: in memory that takes a second or two less. Programs are run
+# from there too.
+in_memory() { awk '$2 == "/dev/shm" { options = $4 } END { exit options !~ /^rw/ || options ~ /noexec/ }' /proc/mounts; }
+if [ -z "$TMPDIR" ] && in_memory; then export TMPDIR=/dev/shm; fi
+
 build=target/tests
 oracle=$PWD/target/oracle
 warnings="-Wall -Wextra -Werror -O2"

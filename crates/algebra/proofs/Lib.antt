@@ -10,6 +10,7 @@ pub mod Compared
 pub mod Lists
 pub mod All
 pub mod Buffer
+pub mod Two
 pub mod Loops
 pub mod Scan
 pub mod Weld

@@ -5,12 +5,12 @@ ghost use mathlib.Core.Bool.{cond};
 ghost use Prim.Native.Nat.{_≤_, _<_};
 ghost use Rattle.contact_definitions.specs.B2CollideCircle.{farther};
 ghost use Rattle.circles.specs.Meetings.{AtCorner, AtFace, AtOutline, SideOf};
-use clipping::unit;
 use corner_places::places;
 use floats::b2_common::B2_EPSILON;
 use floats::b2_common::B2_MAX_FLOAT;
 use floats::b2_math;
 use floats::b2_math::B2vec2;
+use unit_vectors::unit;
 
 // How a circle meets an outline: not, or with the normal's and a point's coordinates.
 pub enum Meeting {

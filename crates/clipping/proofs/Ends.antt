@@ -11,7 +11,7 @@ use Rattle.contact_definitions.specs.declared.b2_collision.B2clipVertex.{B2clip
 use Rattle.contact_definitions.specs.Clip.{clip-distance, clipped-by, clipped}
 use Rattle.clipping.specs.declared.clip.Clip.{Clip}
 use Rattle.clipping.specs.Places.{left-over}
-use Rattle.clipping.proofs.Two.{Two, two, two-of, two-over}
+use Rattle.algebra.proofs.Two.{Two, two, two-of, two-over}
 
 module _ (vs : List B2clipVertex) (d : B2clipVertex) (vs-two : length vs ≡ 2) (normal : B2vec2) (offset : Float)
     (index : ℕ) (distance0 distance1 : Float) (first-is : distance0 ≡ clip-distance normal offset (getD vs 0 d))

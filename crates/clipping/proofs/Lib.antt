@@ -1,5 +1,2 @@
-pub mod Two
 pub mod Ends
-pub mod Scale
-pub mod Points
 pub mod Sides

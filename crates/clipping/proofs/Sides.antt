@@ -12,7 +12,7 @@ use Rattle.contact_definitions.specs.Clip.{clipped}
 use Rattle.contact_definitions.proofs.Clipping.{never-three}
 use Rattle.clipping.specs.declared.clip.Clip.{Clip}
 use Rattle.clipping.specs.Places.{left-over}
-use Rattle.clipping.proofs.Two.{Two, two, two-of, two-over}
+use Rattle.algebra.proofs.Two.{Two, two, two-of, two-over}
 
 -- ---- two ends over two places are themselves
 pub over-both : {A : Type 0} (left old : List A) → length old ≡ 2 → 2 ≤ length left → length left ≤ 2

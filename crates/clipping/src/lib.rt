@@ -1,5 +1,2 @@
-// What the contact calls of outlines, walls and circles share: unit vectors, manifolds made anew, and a segment clipped
-// to a line.
+// A segment clipped to a line, and to the two sides of a face.
 pub mod clip;
-pub mod manifolds;
-pub mod unit;

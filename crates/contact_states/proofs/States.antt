@@ -16,7 +16,7 @@ use Rattle.contact_definitions.specs.declared.b2_collision.B2pointState.the-var
 use Rattle.contact_definitions.specs.declared.b2_collision.CountedIds.{CountedIds}
 use Rattle.contact_definitions.specs.Manifold.{default-point, manifold-point, counted-points}
 use Rattle.algebra.proofs.Lists.{getD-within}
-use Rattle.clipping.proofs.Two.{both-places}
+use Rattle.algebra.proofs.Two.{both-places}
 use Rattle.contact_definitions.specs.PointStates.{same-id, id-among, counted-ids, ids-of, ids-in, point-state}
 
 -- ---- the ids by their count

@@ -14,7 +14,7 @@ use Rattle.contact_definitions.specs.Manifold.{default-point}
 use Rattle.contact_definitions.specs.ReferenceFace.{only, points-from, with-points, manifold-of-ends}
 use Rattle.clipping.specs.declared.clip.Clip.{Clip}
 use Rattle.clipping.specs.Places.{left-over}
-use Rattle.clipping.proofs.Two.{Two, two, two-of, first-place, second-place, one-over, two-over}
+use Rattle.algebra.proofs.Two.{Two, two, two-of, first-place, second-place, one-over, two-over}
 use Rattle.clipping.proofs.Sides.{over-both}
 use Rattle.kept_points.specs.declared.kept.Kept.{Kept}
 use Rattle.kept_points.specs.Kept.{point-at-end, kept-ends, points-of, points-kept}

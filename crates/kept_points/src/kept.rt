@@ -1,9 +1,9 @@
 // The points of the ends that are near, by cases, with stores at constant places.
 ghost use mathlib.Core.Path.{_≡_};
 ghost use Rattle.kept_points.specs.Kept.{point-at-end, kept-ends, points-kept};
-use clipping::manifolds;
 use contact_definitions::b2_collision::B2clipVertex;
 use contact_definitions::b2_collision::B2manifoldPoint;
+use manifold_changes::manifolds;
 
 // The two places, and how many points were written there.
 pub struct Kept {

@@ -7,11 +7,6 @@ ghost use Rattle.contact_definitions.specs.B2CollidePolygon.{polygons-manifold}
 ghost use Rattle.outline_pairs.specs.OnFace.{placed-end, manifold-on-face};
 use axis_search::b2_collide_polygon::polygons_axis;
 use clipping::clip::clip_to_sides;
-use clipping::manifolds::flipped;
-use clipping::manifolds::kind_of;
-use clipping::manifolds::no_points;
-use clipping::manifolds::only_kind;
-use clipping::unit::unit;
 use contact_definitions::axis::Axis;
 use contact_definitions::b2_collision::B2clipVertex;
 use contact_definitions::b2_collision::B2manifold;
@@ -23,12 +18,17 @@ use floats::b2_math::b2_mul_t_transform_by_vec2;
 use floats::b2_math::b2_scale;
 use floats::b2_math::b2_sub;
 use kept_points::kept::kept_points;
+use manifold_changes::manifolds::flipped;
+use manifold_changes::manifolds::kind_of;
+use manifold_changes::manifolds::no_points;
+use manifold_changes::manifolds::only_kind;
 use outline_faces::faces::Face;
 use outline_faces::faces::face_of;
 use outline_faces::faces::incident_ends;
 use outline_faces::faces::placed_face;
 use outline_faces::faces::within_skins;
 use shape_definitions::b2_polygon_shape::B2polygonShape;
+use unit_vectors::unit::unit;
 
 // An end in the frame of the outline that it is of, its id as A and B have it.
 fn placed_end(flip: bool, xf2: B2Transform, e: B2clipVertex) -> B2clipVertex

@@ -8,7 +8,7 @@ use Rattle.floats.specs.declared.b2_math.B2vec2.{B2vec2}
 use Rattle.floats.specs.Ranges.{contact-point-in-range, contact-number-in-range}
 use Rattle.contact_definitions.specs.declared.b2_collision.B2clipVertex.{B2clipVertex}
 use Rattle.contact_definitions.specs.Clip.{clip-in-range}
-use Rattle.clipping.proofs.Two.{both-places}
+use Rattle.algebra.proofs.Two.{both-places}
 
 pub ends-in-range : (ends : List B2clipVertex) (d : B2clipVertex) (normal : B2vec2) (offset : Float) (s t u v : Bool)
     → length ends ≡ 2 → s ≡ contact-point-in-range (getD ends 0 d .v) → t ≡ contact-point-in-range (getD ends 1 d .v)

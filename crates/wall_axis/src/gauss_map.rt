@@ -5,12 +5,12 @@ ghost use Rattle.contact_definitions.specs.EdgeAxis.{region-by, region-before, 
 ghost use Rattle.contact_definitions.specs.EdgeAxis.{smoothed};
 ghost use Rattle.wall_axis.specs.AxisNormal.{is-apart, axis-normal};
 use crate::axes;
-use clipping::unit;
 use contact_definitions::axis::Axis;
 use contact_definitions::b2_collide_edge::GaussRegion;
 use floats::b2_math;
 use floats::b2_math::B2vec2;
 use shape_definitions::b2_edge_shape::B2edgeShape;
+use unit_vectors::unit;
 
 // A normal beyond the neighbour's by a sine above 0.1 is skipped where the corner is convex.
 fn region_by(convex: bool, sine: f32) -> GaussRegion

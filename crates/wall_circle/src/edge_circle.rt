@@ -8,15 +8,15 @@ ghost use Rattle.floats.specs.B2Math.{b2-neg, b2-dot};
 ghost use Rattle.contact_definitions.specs.B2CollideCircle.{farther};
 ghost use Rattle.contact_definitions.specs.B2CollideEdge.{over-before, over-after, edge-circle-answer};
 ghost use Rattle.wall_circle.specs.EdgeCircle.{end-touch, face-touch, touch-answer};
-use clipping::manifolds;
-use clipping::unit;
 use contact_definitions::b2_collision::B2manifold;
 use contact_definitions::b2_collision::B2manifoldType;
 use contact_definitions::b2_collision::ManifoldAnswer;
 use floats::b2_math;
 use floats::b2_math::B2vec2;
+use manifold_changes::manifolds;
 use shape_definitions::b2_edge_shape::B2edgeShape;
 use shape_definitions::refusal;
+use unit_vectors::unit;
 
 // How a circle meets a wall: not, at the end of an index with its place, along the face with its normal, or over the
 // middle of a wall whose squared length is not above 0 (refusal 8).

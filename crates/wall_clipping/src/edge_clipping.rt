@@ -6,13 +6,13 @@ ghost use Rattle.floats.specs.B2Math.{b2-sub, b2-dot};
 ghost use Rattle.wall_reference.specs.Reference.{reference-manifold};
 ghost use Rattle.wall_clipping.specs.Ends.{placed-end};
 use clipping::clip;
-use clipping::manifolds;
 use contact_definitions::b2_collision::B2clipVertex;
 use contact_definitions::b2_collision::B2manifold;
 use floats::b2_math;
 use floats::b2_math::B2Transform;
 use floats::b2_math::B2vec2;
 use kept_points::kept;
+use manifold_changes::manifolds;
 use wall_reference::edge_reference::Reference;
 
 // Whether v lies within the radius of the face through v1.

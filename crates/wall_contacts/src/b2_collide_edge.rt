@@ -2,7 +2,6 @@
 ghost use mathlib.Core.Path.{_≡_};
 ghost use Rattle.contact_definitions.specs.B2CollideEdge.{b2-collide-edge-and-circle, b2-collide-edge-and-polygon};
 ghost use Rattle.wall_contacts.specs.Parts.{wall-circle};
-use clipping::unit;
 use contact_definitions::b2_collision::B2manifold;
 use contact_definitions::b2_collision::ManifoldAnswer;
 use floats::b2_math;
@@ -14,6 +13,7 @@ use shape_definitions::b2_circle_shape::B2circleShape;
 use shape_definitions::b2_edge_shape::B2edgeShape;
 use shape_definitions::b2_polygon_shape::B2polygonShape;
 use shape_definitions::refusal;
+use unit_vectors::unit;
 use wall_circle::edge_circle;
 use walls::edge_polygon;
 

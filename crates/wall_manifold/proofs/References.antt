@@ -12,7 +12,7 @@ use Rattle.shape_definitions.specs.Outline.{point-at}
 use Rattle.contact_definitions.specs.declared.b2_collision.B2manifold.{B2manifold}
 use Rattle.contact_definitions.specs.Manifold.{with-count}
 use Rattle.contact_definitions.specs.EdgeReference.{outline-edge, wall-edge, wall-manifold, face-manifold}
-use Rattle.wall_separation.proofs.Filled.{at-place}
+use Rattle.wall_rows.proofs.Filled.{at-place}
 use Rattle.wall_reference.specs.Reference.{wall-reference, face-reference, reference-manifold}
 
 module _ (m : B2manifold) (edge : B2edgeShape) (xf : B2Transform) (poly : B2polygonShape) (radius : Float) where

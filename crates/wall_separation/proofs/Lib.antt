@@ -1,4 +1,1 @@
-pub mod Filled
-pub mod Scans
 pub mod EdgeSide
-pub mod FaceScan

@@ -12,7 +12,7 @@ ghost use Rattle.floats.specs.B2Math.{b2-sub, b2-neg, b2-dot};
 ghost use Rattle.contact_definitions.specs.Searches.{least};
 ghost use Rattle.contact_definitions.specs.Axis.{face-a, farthest};
 ghost use Rattle.contact_definitions.specs.EdgeAxis.{placed-corner, b2-compute-edge-separation};
-ghost use Rattle.wall_separation.specs.Rows.{Row, PointRows};
+ghost use Rattle.wall_rows.specs.Rows.{Row, PointRows};
 use contact_definitions::axis::Axis;
 use floats::b2_common::B2_MAX_FLOAT;
 use floats::b2_math;

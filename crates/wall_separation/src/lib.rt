@@ -1,5 +1,2 @@
-// Wall against outline, the separations: the outline in the wall's frame as rows of one coordinate, how far the wall
-// keeps it off, and how far its own faces do.
+// Wall against outline: how far the wall keeps the outline off, on either side.
 pub mod edge_separation;
-pub mod polygon_separation;
-pub mod rows;

@@ -21,7 +21,7 @@ use Rattle.contact_definitions.specs.EdgeAxis.{b2-compute-polygon-separation, p
 use Rattle.contact_definitions.specs.EdgeAxis.{edge-polygon-axis}
 use Rattle.contact_definitions.specs.EdgeReference.{edge-manifold-on}
 use Rattle.contact_definitions.specs.B2CollideEdge.{edge-polygon-manifold}
-use Rattle.wall_separation.specs.Rows.{Row, PointRows, face-distance}
+use Rattle.wall_rows.specs.Rows.{Row, PointRows, face-distance}
 
 -- ---- the rows, by the names of the definitions
 pub corners-placed : (xf : B2Transform) (poly : B2polygonShape) {n : ℕ} {xs ys : List Float}

@@ -11,23 +11,23 @@ ghost use Rattle.contact_definitions.specs.EdgeAxis.{placed-corner, right-of, s
 ghost use Rattle.contact_definitions.specs.EdgeAxis.{b2-compute-edge-separation, edge-polygon-axis};
 ghost use Rattle.contact_definitions.specs.EdgeReference.{edge-manifold-on};
 ghost use Rattle.contact_definitions.specs.B2CollideEdge.{edge-polygon-manifold};
-ghost use Rattle.clipping.specs.Unit.{unit-scale};
-ghost use Rattle.wall_separation.specs.Rows.{PointRows};
-use clipping::manifolds;
+ghost use Rattle.unit_vectors.specs.Unit.{unit-scale};
+ghost use Rattle.wall_rows.specs.Rows.{PointRows};
 use contact_definitions::axis::Axis;
 use contact_definitions::b2_collision::B2manifold;
 use corner_places::places;
+use face_separation::polygon_separation;
 use floats::b2_math;
 use floats::b2_math::B2Transform;
 use floats::b2_math::B2vec2;
+use manifold_changes::manifolds;
 use shape_definitions::b2_edge_shape::B2edgeShape;
 use shape_definitions::b2_polygon_shape::B2polygonShape;
 use wall_axis::axes;
 use wall_axis::gauss_map;
 use wall_manifold::edge_manifold;
+use wall_rows::rows;
 use wall_separation::edge_separation;
-use wall_separation::polygon_separation;
-use wall_separation::rows;
 
 // The Gauss map is asked of one-sided walls only.
 fn smoothed_if(edge: B2edgeShape, edge1: B2vec2, edge_axis: Axis, axis: Axis) -> Axis

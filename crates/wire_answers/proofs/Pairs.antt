@@ -9,7 +9,7 @@ use Rattle.contact_definitions.specs.declared.b2_collision.B2manifoldPoint.{B2m
 use Rattle.contact_definitions.specs.declared.b2_collision.B2manifold.{B2manifold}
 use Rattle.contact_definitions.specs.declared.b2_collision.ManifoldAnswer.{ManifoldAnswer}
 use Rattle.contact_definitions.specs.Manifold.{default-point, kind-number}
-use Rattle.clipping.proofs.Two.{first-place, second-place}
+use Rattle.algebra.proofs.Two.{first-place, second-place}
 use Rattle.wire_records.specs.Records.{bits, low-word}
 use Rattle.wire_answers.specs.ContactAnswers.{id-word, manifold-point-words, manifold-words}
 use Rattle.wire_answers.specs.ContactAnswers.{manifold-answer-words}

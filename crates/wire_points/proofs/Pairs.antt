@@ -11,7 +11,7 @@ use Rattle.shape_definitions.specs.Outline.{origin}
 use Rattle.contact_definitions.specs.declared.b2_collision.B2clipVertex.{B2clipVertex}
 use Rattle.contact_definitions.specs.declared.b2_collision.ClipAnswer.{ClipAnswer}
 use Rattle.contact_definitions.specs.declared.b2_collision.WorldAnswer.{WorldAnswer}
-use Rattle.clipping.proofs.Two.{first-place, second-place}
+use Rattle.algebra.proofs.Two.{first-place, second-place}
 use Rattle.wire_records.specs.Records.{bits, low-word}
 use Rattle.wire_answers.specs.ContactAnswers.{id-word}
 use Rattle.wire_points.specs.PointAnswers.{no-vertex, clip-vertex-words, clip-answer-words}

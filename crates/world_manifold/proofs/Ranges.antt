@@ -12,7 +12,7 @@ use Rattle.contact_definitions.specs.declared.b2_collision.B2manifoldPoint.{B2m
 use Rattle.contact_definitions.specs.declared.b2_collision.B2manifold.{B2manifold}
 use Rattle.contact_definitions.specs.Manifold.{counted-points}
 use Rattle.contact_definitions.specs.WorldManifold.{points-in-range, manifold-in-range}
-use Rattle.clipping.proofs.Two.{Two, two, two-of}
+use Rattle.algebra.proofs.Two.{Two, two, two-of}
 
 -- ---- conjunctions
 one-fails : (normal point first a b rest : Bool) → (normal && point && first && a && b) ≡ false

@@ -13,7 +13,7 @@ use floats::b2_common::B2_MAX_MANIFOLD_POINTS;
 use floats::b2_math::B2Transform;
 use pair_ranges::placement_pair;
 use shape_definitions::refusal;
-use world_points::circle_points;
+use world_circles::circle_points;
 use world_points::face_points;
 
 // By the kind of the manifold.

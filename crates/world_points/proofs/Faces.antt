@@ -20,7 +20,7 @@ use Rattle.contact_definitions.specs.declared.b2_collision.B2manifold.{B2manifo
 use Rattle.contact_definitions.specs.declared.b2_collision.B2worldManifold.{B2worldManifold}
 use Rattle.contact_definitions.specs.Manifold.{default-point, manifold-point, counted-points}
 use Rattle.contact_definitions.specs.WorldManifold.{plane-middle, plane-separation, carried-points, world-of-face}
-use Rattle.clipping.proofs.Two.{Two, two, two-of, second-place}
+use Rattle.algebra.proofs.Two.{Two, two, two-of, second-place}
 use Rattle.world_points.specs.declared.face_points.WorldPoint.{WorldPoint}
 use Rattle.world_points.specs.Points.{at-plane, second-kept, second-of}
 

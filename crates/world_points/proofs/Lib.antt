@@ -1,3 +1,1 @@
 pub mod Faces
-pub mod Circles
-pub mod Distance

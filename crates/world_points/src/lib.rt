@@ -1,3 +1,2 @@
-// The world points of faces and of circles, once the input is tested.
-pub mod circle_points;
+// The world points of a face, once the input is tested.
 pub mod face_points;

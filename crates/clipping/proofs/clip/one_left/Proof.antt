@@ -3,7 +3,7 @@ use mathlib.Core.Path.{ap}
 use mathlib.Core.List.{List}
 use Rattle.contact_definitions.specs.declared.b2_collision.B2clipVertex.{B2clipVertex}
 use Rattle.clipping.specs.declared.clip.Clip.{Clip}
-use Rattle.clipping.proofs.Two.{one-over}
+use Rattle.algebra.proofs.Two.{one-over}
 use borrow.Author.Needs.{needs}
 use Rattle.clipping.proofs.clip.one_left.Statement.{statement}
 use Rattle.clipping.proofs.clip.one_left.Tie as tie

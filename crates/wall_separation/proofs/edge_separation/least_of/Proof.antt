@@ -5,9 +5,9 @@ use lib.Ieee.{Float}
 use lib.ListN.{length}
 use native.Mathlib.Omega.{arith}
 use Rattle.contact_definitions.specs.Searches.{below-value, least}
-use Rattle.wall_separation.specs.Rows.{Row}
+use Rattle.wall_rows.specs.Rows.{Row}
 use Rattle.contact_definitions.proofs.Searches.{scanned-all}
-use Rattle.wall_separation.proofs.Scans.{scanned-from, least-begun, least-next}
+use Rattle.wall_rows.proofs.Scans.{scanned-from, least-begun, least-next}
 use borrow.Author.Needs.{needs}
 use Rattle.wall_separation.proofs.edge_separation.least_of.Statement.{statement}
 use Rattle.wall_separation.proofs.edge_separation.least_of.Tie as tie

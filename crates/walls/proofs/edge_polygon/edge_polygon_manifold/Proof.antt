@@ -3,7 +3,7 @@ use mathlib.Core.Path.{_≡_, refl, sym, _∙_, ap}
 use lib.Ieee.{lt}
 use Rattle.floats.specs.B2Math.{b2-sub, b2-normalize}
 use Rattle.contact_definitions.specs.EdgeAxis.{right-of, b2-compute-edge-separation}
-use Rattle.clipping.specs.Unit.{unit-scale}
+use Rattle.unit_vectors.specs.Unit.{unit-scale}
 use Rattle.walls.proofs.Manifolds.{corners-placed, kept-off, none-behind, in-front}
 use borrow.Author.Needs.{needs}
 use Rattle.walls.proofs.edge_polygon.edge_polygon_manifold.Statement.{statement}

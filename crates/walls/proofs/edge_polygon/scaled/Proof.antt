@@ -2,7 +2,7 @@
 use mathlib.Core.Path.{sym, subst}
 use lib.Dec.{T}
 use lib.Ieee.{binary32, fits}
-use Rattle.clipping.proofs.Scale.{scaled-is}
+use Rattle.unit_vectors.proofs.Scale.{scaled-is}
 use Rattle.walls.proofs.edge_polygon.scaled.Statement.{statement}
 use Rattle.walls.proofs.edge_polygon.scaled.Tie as tie
 

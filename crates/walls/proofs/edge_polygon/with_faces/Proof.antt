@@ -5,7 +5,7 @@ use native.Mathlib.Omega.{arith}
 use Rattle.contact_definitions.specs.Manifold.{with-count}
 use Rattle.contact_definitions.specs.EdgeAxis.{edge-polygon-axis}
 use Rattle.contact_definitions.specs.EdgeReference.{edge-manifold-on}
-use Rattle.wall_separation.proofs.Filled.{row-fewer, points-fewer}
+use Rattle.wall_rows.proofs.Filled.{row-fewer, points-fewer}
 use Rattle.wall_manifold.specs.Places.{place-below}
 use Rattle.walls.proofs.PlacesOf.{axis-place}
 use Rattle.walls.proofs.Manifolds.{normals-placed, faces-placed, axis-found}

@@ -1,0 +1,2 @@
+// Wall against outline: how far the outline's own faces keep the wall off.
+pub mod polygon_separation;

@@ -1,0 +1,2 @@
+// Manifolds made anew from old ones.
+pub mod manifolds;

@@ -1,0 +1,2 @@
+// Vectors made unit by one factor.
+pub mod unit;
