@@ -1,6 +1,6 @@
 -- The words of demand 3 on small whole numbers, worked out by hand: quarter turns; the face from (0, 0) to (4, 3), 5
--- long, and points 3 outside and 4 inside of it; the separations of a square's faces from a triangle; a face's boundary;
--- sums and differences of lengths. Closed cases that pin the definitions. Assumes nothing.
+-- long, and points 3 outside and 4 inside of it; the separations of a square's faces from a triangle; what is near a
+-- face; sums and differences of lengths. Closed cases that pin the definitions. Assumes nothing.
 use mathlib.Core.Path.{_≡_, refl}
 use mathlib.Core.Bool.{true}
 use mathlib.Core.List.{List, [], _∷_}
