@@ -1,6 +1,6 @@
 -- The second sentence on the witnesses, whatever the manifold and the world record held before: its hypotheses are met,
 -- points are reported over a face of A and over a face of B, one and two of them, with the other outline turned by each
--- quarter; and one square keeps another off. Assumes nothing.
+-- quarter; one square keeps another off; and the distance is not from any face. Assumes nothing.
 use mathlib.Core.Path.{_≡_, refl, sym, subst}
 use mathlib.Core.Bool.{Bool, not}
 use mathlib.Core.List.{List}
@@ -10,27 +10,40 @@ use native.Mathlib.Nat.{not-le-of-lt}
 use native.Mathlib.Omega.{arith}
 use lib.Dec.{T, leb, nleb→lt, lit<}
 use lib.ListN.{length}
-use lib.Ieee.{ofBits}
-use Rattle.algebra.specs.Integer.{Z, _⊛_}
+use lib.Ieee.{Float, ofBits}
+use Rattle.algebra.specs.Integer.{Z, opp, _⊛_}
 use Rattle.algebra.specs.Plane.{Point}
-use Rattle.algebra.specs.Squares.{signed-square}
+use Rattle.algebra.specs.Squares.{signed-square, OverRootLe}
 use Rattle.rounding.specs.Value.{metre, val}
+use Rattle.floats.specs.declared.b2_math.B2vec2.{B2vec2}
 use Rattle.floats.specs.declared.b2_math.B2Transform.{B2Transform}
 use Rattle.shape_definitions.specs.declared.b2_polygon_shape.B2polygonShape.{B2polygonShape}
 use Rattle.contact_definitions.specs.declared.b2_collision.B2manifold.{B2manifold}
 use Rattle.contact_definitions.specs.declared.b2_collision.B2worldManifold.{B2worldManifold}
-use Rattle.contact_definitions.specs.WorldManifold.{b2-world-manifold-initialize}
+use Rattle.grid.specs.Grid.{value-point}
 use Rattle.grid.specs.Demand3.{outline-from}
 use Rattle.grid.proofs.Controls.{points, square, grid-list, skinned, computed}
-use Rattle.grid_contacts.specs.Placement.{GridPlacement, placed-corners}
+use Rattle.grid_contacts.specs.Placement.{GridPlacement, carried, placed-corners}
 use Rattle.grid_contacts.specs.Lengths.{exactly, _plus_, choice-tolerance}
 use Rattle.grid_contacts.specs.Faces.{Face, corner-at, face-at, off-line, squared-length, DistanceAbove}
 use Rattle.grid_contacts.specs.Faces.{EveryFace, SeparationAtMost}
 use Rattle.grid_contacts.specs.SecondSentence.{reach, KeepsOff, Reported, by-face-a, by-face-b, SecondSentenceOf}
+use Rattle.grid_contacts.specs.SecondSentence.{distance-least, NearDistance, contact-point, separation-at}
 use Rattle.grid_contacts.proofs.Witnesses.{built, triangle, square-outline, triangle-outline, here, off, answer}
+use Rattle.grid_contacts.proofs.Witnesses.{world-answer, corner, depth}
 use Rattle.grid_contacts.proofs.Witnesses.{touches, here-placed, beside-placed, left-placed, about-placed}
 use Rattle.grid_contacts.proofs.Witnesses.{right-placed, off-placed, grid-placed}
 use Rattle.grid_contacts.proofs.Theorem.{second-sentence}
+
+-- ---- d / √t is above a / b, by a computed test
+abbrev beyond : Z → ℕ → Z → ℕ → Bool
+beyond d t a b =
+    let left = (b * b) ⊛ signed-square d in
+    let right = t ⊛ signed-square a in
+    not (leb (left .0 + right .1) (right .0 + left .1))
+
+beyond-means : (d : Z) (t : ℕ) (a : Z) (b : ℕ) → T (beyond d t a b) → ¬ OverRootLe d t a b
+beyond-means d t a b computed-test h = not-le-of-lt (nleb→lt _ _ computed-test) h
 
 -- ---- a report speaks of every face of both outlines: none is above one level and 1/1024 m
 over-both : {a b : List Point} {ta tb : B2Transform} {placedA : GridPlacement ta} {placedB : GridPlacement tb}
@@ -48,7 +61,7 @@ module _ (old : B2manifold) (old-world : B2worldManifold) where
   ReportedOf A B {xfA} {xfB} placedA placedB =
       let m = answer old A xfA B xfB in
       Reported (placed-corners placedA A) (placed-corners placedB B) placedA placedB m
-      (b2-world-manifold-initialize old-world m xfA (A .«m_radius») xfB (B .«m_radius») .world)
+      (world-answer old-world m A xfA B xfB)
 
   -- two squares, the first at the origin
   squares : {xf : B2Transform} (placed : GridPlacement xf)
@@ -93,6 +106,23 @@ module _ (old : B2manifold) (old-world : B2worldManifold) where
   reported-triangle =
       square-and-triangle .where-reported (subst (λ (n : ℕ). 0 < n) (sym (touches old .one-point)) (lit< tt))
 
+  -- "that same face": the corner (1, 1) is 1 inside of the triangle's first face, x = 2, which its world separation,
+  -- the skins, does not say
+  abbrev first-face : Face
+  first-face = face-at (placed-corners here-placed triangle-outline) 0
+
+  not-of-another-face : let m = answer old square-outline here triangle-outline here in
+      ¬ NearDistance first-face (contact-point here-placed m 0)
+      (val (separation-at (world-answer old-world m square-outline here triangle-outline here) 0))
+  unfolding ofBits metre val here-placed grid-placed
+  not-of-another-face near =
+      let near-depth = subst (λ (w : Float). NearDistance first-face (contact-point here-placed
+      (answer old square-outline here triangle-outline here) 0) (val w)) (touches old .depth-is old-world) near in
+      let near-corner = subst (λ (p : B2vec2). NearDistance first-face (carried here-placed (value-point p)) (val depth))
+      (touches old .corner-is) near-depth in
+      beyond-means (opp (off-line first-face (carried here-placed (value-point corner)))) (squared-length first-face)
+      (opp (distance-least (val depth) .over)) (distance-least (val depth) .under) tt (near-corner .at-least)
+
 -- ---- the face x = 1 of a square keeps a square at x = 2 off
 abbrev right-face : Face
 right-face = face-at (placed-corners here-placed square-outline) 0
@@ -100,15 +130,13 @@ right-face = face-at (placed-corners here-placed square-outline) 0
 abbrev far : ℕ → Point
 far j = corner-at (placed-corners off-placed square-outline) j
 
--- corner j is farther off than 0.02 + 1/4096 m, by a computed test
+-- corner j is farther off than 0.02 + 1/4096 m
 abbrev is-farther : ℕ → Bool
-is-farther j =
-    let distance = (reach .under * reach .under) ⊛ signed-square (off-line right-face (far j)) in
-    let limit = squared-length right-face ⊛ signed-square (reach .over) in
-    not (leb (distance .0 + limit .1) (limit .0 + distance .1))
+is-farther j = beyond (off-line right-face (far j)) (squared-length right-face) (reach .over) (reach .under)
 
 farther : (j : ℕ) → T (is-farther j) → DistanceAbove right-face (far j) reach
-farther j t h = not-le-of-lt (nleb→lt _ _ t) h
+farther j t =
+    beyond-means (off-line right-face (far j)) (squared-length right-face) (reach .over) (reach .under) t
 
 kept-off : KeepsOff (placed-corners here-placed square-outline) (placed-corners off-placed square-outline)
 unfolding ofBits metre val here-placed off-placed grid-placed

@@ -1,14 +1,14 @@
 -- Witnesses for the second sentence, computed by antt from the definitions: a square and a triangle that the builder
 -- makes of grid lists; for every old manifold, two squares that overlap, the second unturned and turned by each quarter
--- (two points, face A), and a square and the triangle (one point, face B); and that the placements of these, and of a
--- square 1 m off, are on the grid, with zeros of both signs. Assumes nothing.
+-- (two points, face A), and a square and the triangle (one point, face B, with its numbers); and that the placements of
+-- these, and of a square 1 m off, are on the grid, with zeros of both signs. Assumes nothing.
 use mathlib.Core.Path.{_≡_, refl}
 use mathlib.Core.List.{List, [], _∷_}
 use mathlib.Core.Bool.{Bool, _&&_}
 use Prim.Native.Nat.{ℕ, _^_}
 use lib.Dec.{T, ltb}
 use lib.ListN.{length, replicate}
-use lib.Ieee.{binary32, ofBits, neg, add, sub, mul, div, le, lt, eq}
+use lib.Ieee.{Float, binary32, ofBits, neg, add, sub, mul, div, le, lt, eq}
 use mir.Facts.{and-yes}
 use Rattle.algebra.specs.Integer.{Z, signed, _⊛_, _≐_, _≐?_}
 use Rattle.algebra.specs.Buffer.{over}
@@ -25,6 +25,7 @@ use Rattle.floats.specs.B2Math.{b2-cross-vec-by-scalar, b2-length, b2-distance-
 use Rattle.floats.specs.B2Math.{b2-mul-rot-by-vec2, b2-mul-t-rot-by-vec2, b2-mul-transform-by-vec2}
 use Rattle.floats.specs.B2Math.{b2-mul-t-transform-by-vec2, b2-mul-t-transform}
 use Rattle.floats.specs.Ranges.{point-in-range, radius-in-range, rotation-in-range, transform-in-range, normal-in-range}
+use Rattle.floats.specs.Ranges.{contact-point-in-range, local-normal-in-range}
 use Rattle.shape_definitions.specs.declared.b2_polygon_shape.B2polygonShape.{B2polygonShape}
 use Rattle.shape_definitions.specs.Outline.{origin, too-near, welded, comes-before, start, closer, next, row, edges}
 use Rattle.shape_definitions.specs.Outline.{long-enough, fan}
@@ -32,19 +33,23 @@ use Rattle.shape_definitions.specs.Polygon.{outline-of-corners, outline-of-weld
 use Rattle.shape_definitions.specs.Validate.{polygon-in-range}
 use Rattle.contact_definitions.specs.declared.b2_collision.B2manifold.{B2manifold}
 use Rattle.contact_definitions.specs.declared.b2_collision.B2manifoldType.the-variants.{EFaceA, EFaceB}
+use Rattle.contact_definitions.specs.declared.b2_collision.B2worldManifold.{B2worldManifold}
 use Rattle.contact_definitions.specs.Searches.{least, first-greatest, first-least}
 use Rattle.contact_definitions.specs.Clip.{clip-distance, crossing, clipped-by, clipped}
-use Rattle.contact_definitions.specs.Manifold.{swapped-id, with-local-point, with-count, with-kind}
+use Rattle.contact_definitions.specs.Manifold.{swapped-id, with-local-point, with-count, with-kind, counted-points}
 use Rattle.contact_definitions.specs.ReferenceFace.{clipped-to-sides, only, points-from, with-points, manifold-of-ends}
 use Rattle.contact_definitions.specs.B2CollidePolygon.{face-separation, b2-find-max-separation, axis-of, polygons-axis}
 use Rattle.contact_definitions.specs.B2CollidePolygon.{incident-place, incident-end, b2-find-incident-edge}
 use Rattle.contact_definitions.specs.B2CollidePolygon.{local-tangent, face-middle, face-along, outline-face}
 use Rattle.contact_definitions.specs.B2CollidePolygon.{within-skins, outline-point, outline-manifold, polygons-manifold}
 use Rattle.contact_definitions.specs.B2CollidePolygon.{b2-collide-polygons}
+use Rattle.contact_definitions.specs.WorldManifold.{on-face, on-other, plane-separation, carried-points, world-of-face}
+use Rattle.contact_definitions.specs.WorldManifold.{points-in-range, manifold-in-range, b2-world-manifold-initialize}
 use Rattle.grid.specs.Demand3.{refusal-of, outline-from}
 use Rattle.grid.proofs.Controls.{at, points, minus-zero, half, one, two, square, on-grid, grid-number, skinned}
 use Rattle.grid_contacts.specs.Placement.{QuarterTurn, unturned, to-left, about, to-right, sine, cosine, Turning}
 use Rattle.grid_contacts.specs.Placement.{GridPlacement}
+use Rattle.grid_contacts.specs.SecondSentence.{local-at, separation-at}
 
 -- ---- placements by the bit patterns of position, sine and cosine; they are on the grid by computed tests
 abbrev pub placed : ℕ → ℕ → ℕ → ℕ → B2Transform
@@ -154,6 +159,19 @@ off = placed two 0 0 one
 abbrev pub answer : B2manifold → B2polygonShape → B2Transform → B2polygonShape → B2Transform → B2manifold
 answer old A xfA B xfB = b2-collide-polygons old A xfA B xfB .manifold
 
+-- the world points of A against B, with their skins
+abbrev pub world-answer : B2worldManifold → B2manifold → B2polygonShape → B2Transform → B2polygonShape → B2Transform
+    → B2worldManifold
+world-answer old-world m A xfA B xfB =
+    b2-world-manifold-initialize old-world m xfA (A .«m_radius») xfB (B .«m_radius») .world
+
+-- the square's corner (1, 1), on the triangle's long face, and its separation there, the skins alone
+abbrev pub corner : B2vec2
+corner = at one one
+
+abbrev pub depth : Float
+depth = ofBits binary32 0xbca3_d6ec
+
 pub record Touches (old : B2manifold) : Type 0 where
   pub two-points : answer old square-outline here square-outline beside .«point_count» ≡ 2
   pub on-face-a : answer old square-outline here square-outline beside .«manifold_type» ≡ EFaceA
@@ -162,6 +180,11 @@ pub record Touches (old : B2manifold) : Type 0 where
   pub two-turned-right : answer old square-outline here square-outline beside-right .«point_count» ≡ 2
   pub one-point : answer old square-outline here triangle-outline here .«point_count» ≡ 1
   pub on-face-b : answer old square-outline here triangle-outline here .«manifold_type» ≡ EFaceB
+  pub corner-is : local-at (answer old square-outline here triangle-outline here) 0 ≡ corner
+  pub depth-is : (old-world : B2worldManifold)
+      → separation-at (world-answer old-world (answer old square-outline here triangle-outline here) square-outline here
+      triangle-outline here) 0
+      ≡ depth
 
 pub touches : (old : B2manifold) → Touches old
 unfolding root-digits whole-root rounded-root sqrt b2-sqrt b2-add b2-sub b2-neg b2-scale b2-dot
@@ -171,8 +194,9 @@ unfolding root-digits whole-root rounded-root sqrt b2-sqrt b2-add b2-sub b2-neg 
     first-least swapped-id with-local-point with-count with-kind clip-distance crossing clipped-by clipped
     clipped-to-sides only points-from with-points manifold-of-ends face-separation b2-find-max-separation axis-of
     polygons-axis incident-place incident-end b2-find-incident-edge local-tangent face-middle face-along outline-face
-    within-skins outline-point outline-manifold polygons-manifold b2-collide-polygons neg add sub mul div le lt eq
-    ofBits
+    within-skins outline-point outline-manifold polygons-manifold b2-collide-polygons contact-point-in-range
+    local-normal-in-range counted-points points-in-range manifold-in-range on-face on-other plane-separation
+    carried-points world-of-face b2-world-manifold-initialize neg add sub mul div le lt eq ofBits
 touches old = record {
   two-points = refl;
   on-face-a = refl;
@@ -181,6 +205,8 @@ touches old = record {
   two-turned-right = refl;
   one-point = refl;
   on-face-b = refl;
+  corner-is = refl;
+  depth-is = λ old-world. refl;
 }
 
 -- ---- the placements are on the grid
