@@ -1,14 +1,15 @@
 -- The second sentence on the witnesses, whatever the manifold and the world record held before: its hypotheses are met,
 -- points are reported over a face of A and over a face of B, one and two of them, with the other outline turned by each
--- quarter; one square keeps another off; and the distance is not from any face. Assumes nothing.
+-- quarter; one square keeps another off. And two sentences near it that are false: the distance from another face than
+-- the one chosen, and the point carried by the reference's placement. Assumes nothing.
 use mathlib.Core.Path.{_≡_, refl, sym, subst}
 use mathlib.Core.Bool.{Bool, not}
 use mathlib.Core.List.{List}
 use mathlib.Core.Logic.{inl}
-use Prim.Native.Nat.{ℕ, zero, suc, _+_, _*_, _<_}
+use Prim.Native.Nat.{ℕ, zero, suc, _+_, _*_, _^_, _<_}
 use native.Mathlib.Nat.{not-le-of-lt}
 use native.Mathlib.Omega.{arith}
-use lib.Dec.{T, leb, nleb→lt, lit<}
+use lib.Dec.{T, leb, nleb→lt, lit≤, lit<}
 use lib.ListN.{length}
 use lib.Ieee.{Float, ofBits}
 use Rattle.algebra.specs.Integer.{Z, opp, _⊛_}
@@ -24,15 +25,16 @@ use Rattle.grid.specs.Grid.{value-point}
 use Rattle.grid.specs.Demand3.{outline-from}
 use Rattle.grid.proofs.Controls.{points, square, grid-list, skinned, computed}
 use Rattle.grid_contacts.specs.Placement.{GridPlacement, carried, placed-corners}
-use Rattle.grid_contacts.specs.Lengths.{exactly, _plus_, choice-tolerance}
+use Rattle.grid_contacts.specs.Lengths.{exactly, _plus_, point-tolerance, choice-tolerance}
 use Rattle.grid_contacts.specs.Faces.{Face, corner-at, face-at, off-line, squared-length, DistanceAbove}
-use Rattle.grid_contacts.specs.Faces.{EveryFace, SeparationAtMost}
+use Rattle.grid_contacts.specs.Faces.{EveryFace, SeparationAtMost, NearFace, NearBoundary}
 use Rattle.grid_contacts.specs.SecondSentence.{reach, KeepsOff, Reported, by-face-a, by-face-b, SecondSentenceOf}
 use Rattle.grid_contacts.specs.SecondSentence.{distance-least, NearDistance, contact-point, separation-at}
 use Rattle.grid_contacts.proofs.Witnesses.{built, triangle, square-outline, triangle-outline, here, off, answer}
-use Rattle.grid_contacts.proofs.Witnesses.{world-answer, corner, depth}
+use Rattle.grid_contacts.proofs.Witnesses.{world-answer, beside, upper, corner, depth}
 use Rattle.grid_contacts.proofs.Witnesses.{touches, here-placed, beside-placed, left-placed, about-placed}
 use Rattle.grid_contacts.proofs.Witnesses.{right-placed, off-placed, grid-placed}
+use Rattle.grid_contacts.proofs.OffBoundary.{far-left}
 use Rattle.grid_contacts.proofs.Theorem.{second-sentence}
 
 -- ---- d / √t is above a / b, by a computed test
@@ -44,6 +46,10 @@ beyond d t a b =
 
 beyond-means : (d : Z) (t : ℕ) (a : Z) (b : ℕ) → T (beyond d t a b) → ¬ OverRootLe d t a b
 beyond-means d t a b computed-test h = not-le-of-lt (nleb→lt _ _ computed-test) h
+
+-- a square has four corners
+no-fifth : (j : ℕ) → suc (suc (suc (suc j))) < 4 → ⊥
+no-fifth j h = omega arith
 
 -- ---- a report speaks of every face of both outlines: none is above one level and 1/1024 m
 over-both : {a b : List Point} {ta tb : B2Transform} {placedA : GridPlacement ta} {placedB : GridPlacement tb}
@@ -111,17 +117,40 @@ module _ (old : B2manifold) (old-world : B2worldManifold) where
   abbrev first-face : Face
   first-face = face-at (placed-corners here-placed triangle-outline) 0
 
-  not-of-another-face : let m = answer old square-outline here triangle-outline here in
+  pub not-of-another-face : let m = answer old square-outline here triangle-outline here in
       ¬ NearDistance first-face (contact-point here-placed m 0)
       (val (separation-at (world-answer old-world m square-outline here triangle-outline here) 0))
   unfolding ofBits metre val here-placed grid-placed
   not-of-another-face near =
       let near-depth = subst (λ (w : Float). NearDistance first-face (contact-point here-placed
       (answer old square-outline here triangle-outline here) 0) (val w)) (touches old .depth-is old-world) near in
-      let near-corner = subst (λ (p : B2vec2). NearDistance first-face (carried here-placed (value-point p)) (val depth))
+      let near-corner = subst (λ (p : B2vec2). NearDistance first-face (carried here-placed (value-point p))
+      (val depth))
       (touches old .corner-is) near-depth in
       beyond-means (opp (off-line first-face (carried here-placed (value-point corner)))) (squared-length first-face)
       (opp (distance-least (val depth) .over)) (distance-least (val depth) .under) tt (near-corner .at-least)
+
+  -- "carried by the placement of the other outline": by that of the reference, the upper point of two squares would lie
+  -- 1/2 m left of the second one
+  abbrev second-square : List Point
+  second-square = placed-corners beside-placed square-outline
+
+  off-second : (i : ℕ) → i < 4
+      → ¬ NearFace point-tolerance (carried here-placed (value-point upper)) (face-at second-square i)
+  unfolding ofBits metre val here-placed beside-placed grid-placed
+  off-second zero h = far-left 4096 metre (2 ^ 148) _ _ (lit≤ tt) (lit≤ tt) (lit< tt)
+  off-second (suc zero) h = far-left 4096 metre (2 ^ 148) _ _ (lit≤ tt) (lit≤ tt) (lit< tt)
+  off-second (suc (suc zero)) h = far-left 4096 metre (2 ^ 148) _ _ (lit≤ tt) (lit≤ tt) (lit< tt)
+  off-second (suc (suc (suc zero))) h = far-left 4096 metre (2 ^ 148) _ _ (lit≤ tt) (lit≤ tt) (lit< tt)
+  off-second (suc (suc (suc (suc j)))) h = absurd (no-fifth j h)
+
+  pub not-carried-by-the-reference : ¬ NearBoundary point-tolerance second-square
+      (contact-point here-placed (answer old square-outline here square-outline beside) 0)
+  not-carried-by-the-reference near =
+      let at-upper = subst (λ (p : B2vec2). NearBoundary point-tolerance second-square (carried here-placed
+      (value-point p)))
+      (touches old .upper-is) near in
+      off-second (at-upper .0) (at-upper .1) (at-upper .2)
 
 -- ---- the face x = 1 of a square keeps a square at x = 2 off
 abbrev right-face : Face
@@ -142,15 +171,12 @@ kept-off : KeepsOff (placed-corners here-placed square-outline) (placed-corners 
 unfolding ofBits metre val here-placed off-placed grid-placed
 kept-off = (0, lit< tt, each)
   where
-    four : (j : ℕ) → suc (suc (suc (suc j))) < 4 → ⊥
-    four j h = omega arith
-
     each : (j : ℕ) → j < length (placed-corners off-placed square-outline) → DistanceAbove right-face (far j) reach
     each zero h = farther 0 tt
     each (suc zero) h = farther 1 tt
     each (suc (suc zero)) h = farther 2 tt
     each (suc (suc (suc zero))) h = farther 3 tt
-    each (suc (suc (suc (suc j)))) h = absurd (four j h)
+    each (suc (suc (suc (suc j)))) h = absurd (no-fifth j h)
 
 no-point-off : (old : B2manifold) (old-world : B2worldManifold)
     → answer old square-outline here square-outline off .«point_count» ≡ 0

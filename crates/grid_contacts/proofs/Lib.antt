@@ -27,5 +27,6 @@ pub mod Ways
 pub mod Sentence
 pub mod Largest
 pub mod Theorem
+pub mod OffBoundary
 pub mod Witnesses
 pub mod Applied

@@ -165,6 +165,10 @@ abbrev pub world-answer : B2worldManifold → B2manifold → B2polygonShape → 
 world-answer old-world m A xfA B xfB =
     b2-world-manifold-initialize old-world m xfA (A .«m_radius») xfB (B .«m_radius») .world
 
+-- the upper end of the second square's left face
+abbrev pub upper : B2vec2
+upper = at 0 one
+
 -- the square's corner (1, 1), on the triangle's long face, and its separation there, the skins alone
 abbrev pub corner : B2vec2
 corner = at one one
@@ -175,6 +179,7 @@ depth = ofBits binary32 0xbca3_d6ec
 pub record Touches (old : B2manifold) : Type 0 where
   pub two-points : answer old square-outline here square-outline beside .«point_count» ≡ 2
   pub on-face-a : answer old square-outline here square-outline beside .«manifold_type» ≡ EFaceA
+  pub upper-is : local-at (answer old square-outline here square-outline beside) 0 ≡ upper
   pub two-turned-left : answer old square-outline here square-outline beside-left .«point_count» ≡ 2
   pub two-turned-about : answer old square-outline here square-outline beside-about .«point_count» ≡ 2
   pub two-turned-right : answer old square-outline here square-outline beside-right .«point_count» ≡ 2
@@ -200,6 +205,7 @@ unfolding root-digits whole-root rounded-root sqrt b2-sqrt b2-add b2-sub b2-neg 
 touches old = record {
   two-points = refl;
   on-face-a = refl;
+  upper-is = refl;
   two-turned-left = refl;
   two-turned-about = refl;
   two-turned-right = refl;
@@ -213,7 +219,7 @@ touches old = record {
 unfoldable pub here-placed : GridPlacement here
 here-placed = grid-placed unturned 0 minus-zero 0 one tt tt tt
 
-pub beside-placed : GridPlacement beside
+unfoldable pub beside-placed : GridPlacement beside
 beside-placed = grid-placed unturned half 0 minus-zero one tt tt tt
 
 pub left-placed : GridPlacement beside-left
