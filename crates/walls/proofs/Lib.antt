@@ -1,2 +1,1 @@
-pub mod PlacesOf
 pub mod Manifolds

@@ -7,7 +7,7 @@ use lib.Ieee.{Float, binary32, neg, add, lt}
 use Rattle.rounding.specs.Literals.{zero32}
 use Rattle.floats.specs.declared.b2_math.B2vec2.{B2vec2}
 use Rattle.floats.specs.declared.b2_math.B2Transform.{B2Transform}
-use Rattle.floats.specs.B2Math.{vec2, b2-sub, b2-dot, b2-normalize, b2-mul-rot-by-vec2, b2-mul-transform-by-vec2}
+use Rattle.floats.specs.B2Math.{vec2, b2-sub, b2-dot, b2-normalize, b2-mul-transform-by-vec2}
 use Rattle.shape_definitions.specs.declared.b2_polygon_shape.B2polygonShape.{B2polygonShape}
 use Rattle.shape_definitions.specs.declared.b2_edge_shape.B2edgeShape.{B2edgeShape}
 use Rattle.shape_definitions.specs.Outline.{point-at}
@@ -16,12 +16,12 @@ use Rattle.contact_definitions.specs.declared.axis.Axis.the-variants.{Apart}
 use Rattle.contact_definitions.specs.declared.b2_collision.B2manifold.{B2manifold}
 use Rattle.contact_definitions.specs.Axis.{separation-of}
 use Rattle.contact_definitions.specs.Manifold.{with-count}
-use Rattle.contact_definitions.specs.EdgeAxis.{placed-corner, placed-normal, right-of, b2-compute-edge-separation}
-use Rattle.contact_definitions.specs.EdgeAxis.{b2-compute-polygon-separation, primary-axis, smoothed, smoothed-if}
+use Rattle.contact_definitions.specs.EdgeAxis.{placed-corner, right-of, b2-compute-edge-separation}
+use Rattle.contact_definitions.specs.EdgeAxis.{primary-axis, smoothed, smoothed-if}
 use Rattle.contact_definitions.specs.EdgeAxis.{edge-polygon-axis}
 use Rattle.contact_definitions.specs.EdgeReference.{edge-manifold-on}
 use Rattle.contact_definitions.specs.B2CollideEdge.{edge-polygon-manifold}
-use Rattle.wall_rows.specs.Rows.{Row, PointRows, face-distance}
+use Rattle.wall_rows.specs.Rows.{PointRows}
 
 -- ---- the rows, by the names of the definitions
 pub corners-placed : (xf : B2Transform) (poly : B2polygonShape) {n : ℕ} {xs ys : List Float}
@@ -30,32 +30,10 @@ pub corners-placed : (xf : B2Transform) (poly : B2polygonShape) {n : ℕ} {xs ys
 unfolding placed-corner
 corners-placed xf poly rows = rows
 
-pub normals-placed : (xf : B2Transform) (poly : B2polygonShape) {n : ℕ} {xs ys : List Float}
-    → PointRows (λ i. b2-mul-rot-by-vec2 (xf .q) (point-at (poly .«m_normals») i)) n xs ys
-    → PointRows (placed-normal xf poly) n xs ys
-unfolding placed-normal
-normals-placed xf poly rows = rows
-
-pub faces-placed : (xf : B2Transform) (poly : B2polygonShape) (v1 v2 : B2vec2) {n : ℕ} {faces : List Float}
-    → Row (λ i. face-distance (b2-mul-rot-by-vec2 (xf .q) (point-at (poly .«m_normals») i))
-    (placed-corner xf poly i) v1 v2) n faces
-    → Row (λ i. face-distance (placed-normal xf poly i) (placed-corner xf poly i) v1 v2) n faces
-unfolding placed-normal
-faces-placed xf poly v1 v2 row = row
-
 -- ---- the search
 module _ (edge : B2edgeShape) (edge1 : B2vec2) (xf : B2Transform) (poly : B2polygonShape) (radius : Float) where
   abbrev wall-axis : Axis
   wall-axis = b2-compute-edge-separation xf poly (edge .«m_vertex1») (right-of edge1)
-
-  pub axis-found : (wall face primary axis : Axis) → wall ≡ wall-axis
-      → face ≡ b2-compute-polygon-separation xf poly (edge .«m_vertex1») (edge .«m_vertex2»)
-      → primary ≡ primary-axis radius wall face
-      → axis ≡ smoothed-if (edge .«m_one_sided») edge edge1 wall primary
-      → axis ≡ edge-polygon-axis radius edge edge1 xf poly
-  unfolding edge-polygon-axis
-  axis-found wall face primary axis wall-is face-is primary-is axis-is =
-      rw (axis-is, primary-is, wall-is, face-is) refl
 
   -- the wall keeps the outline off: whatever its faces say, there is no point
   off-the-wall : (old : B2manifold) (one-sided : Bool) (s : Float)

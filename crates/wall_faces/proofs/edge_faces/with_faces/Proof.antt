@@ -7,11 +7,11 @@ use Rattle.contact_definitions.specs.EdgeAxis.{edge-polygon-axis}
 use Rattle.contact_definitions.specs.EdgeReference.{edge-manifold-on}
 use Rattle.wall_rows.proofs.Filled.{row-fewer, points-fewer}
 use Rattle.wall_manifold.specs.Places.{place-below}
-use Rattle.walls.proofs.PlacesOf.{axis-place}
-use Rattle.walls.proofs.Manifolds.{normals-placed, faces-placed, axis-found}
+use Rattle.wall_faces.proofs.PlacesOf.{axis-place}
+use Rattle.wall_faces.proofs.AxisFound.{normals-placed, faces-placed, axis-found}
 use borrow.Author.Needs.{needs}
-use Rattle.walls.proofs.edge_polygon.with_faces.Statement.{statement}
-use Rattle.walls.proofs.edge_polygon.with_faces.Tie as tie
+use Rattle.wall_faces.proofs.edge_faces.with_faces.Statement.{statement}
+use Rattle.wall_faces.proofs.edge_faces.with_faces.Tie as tie
 
 normal-rows-requires : tie.Need-normal-rows-requires
 normal-rows-requires c κs = search needs

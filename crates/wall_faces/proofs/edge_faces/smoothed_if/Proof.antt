@@ -1,7 +1,7 @@
 -- By whether the wall is one-sided. Assumes nothing.
 use borrow.Author.Needs.{needs}
-use Rattle.walls.proofs.edge_polygon.smoothed_if.Statement.{statement}
-use Rattle.walls.proofs.edge_polygon.smoothed_if.Tie as tie
+use Rattle.wall_faces.proofs.edge_faces.smoothed_if.Statement.{statement}
+use Rattle.wall_faces.proofs.edge_faces.smoothed_if.Tie as tie
 
 smoothed-requires : tie.Need-smoothed-requires
 smoothed-requires c κs = search needs
