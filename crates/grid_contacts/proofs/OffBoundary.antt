@@ -1,12 +1,10 @@
 -- A point that lies left of both ends of a face, by more than a length, is not within that length of it. Assumes
 -- nothing.
-use mathlib.Core.Path.{_≡_}
 use Prim.Native.Nat.{ℕ, _+_, _*_, _<_}
-use native.Mathlib.Nat.{mul-pos}
 use native.Mathlib.Omega.{arith}
 use Rattle.algebra.specs.Integer.{Z, whole, _⊞_, _⊠_, _⊛_, _≼_}
 use Rattle.algebra.specs.Plane.{Point}
-use Rattle.algebra.proofs.Integer.{multiple-mono, multiple-mono-lt, product-of-multiples}
+use Rattle.algebra.proofs.Integer.{multiple-mono, multiple-mono-lt}
 use Rattle.algebra.proofs.Products.{square-not-negative, abs-of-square}
 use Rattle.grid_contacts.specs.Faces.{Face, way-from, NearFace}
 

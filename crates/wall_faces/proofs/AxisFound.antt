@@ -30,7 +30,8 @@ unfolding placed-normal
 faces-placed xf poly v1 v2 row = row
 
 module _ (edge : B2edgeShape) (edge1 : B2vec2) (xf : B2Transform) (poly : B2polygonShape) (radius : Float) where
-  pub axis-found : (wall face primary axis : Axis) → wall ≡ b2-compute-edge-separation xf poly (edge .«m_vertex1») (right-of edge1)
+  pub axis-found : (wall face primary axis : Axis)
+      → wall ≡ b2-compute-edge-separation xf poly (edge .«m_vertex1») (right-of edge1)
       → face ≡ b2-compute-polygon-separation xf poly (edge .«m_vertex1») (edge .«m_vertex2»)
       → primary ≡ primary-axis radius wall face
       → axis ≡ smoothed-if (edge .«m_one_sided») edge edge1 wall primary
