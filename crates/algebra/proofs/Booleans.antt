@@ -1,6 +1,6 @@
 -- Booleans as tests: two tests that hold of the same are one, a disjunction, the two ways of `cond`, and the two
 -- cases of a Boolean; and of two naturals the one is below the other or is not. Assumes nothing.
-use mathlib.Core.Path.{_≡_, refl, sym, ap, _∙_}
+use mathlib.Core.Path.{_≡_, refl, sym, ap, subst, _∙_}
 use mathlib.Core.Bool.{Bool, true, false, cond, _||_}
 use mathlib.Core.Logic.{_⊎_, inl, inr}
 use Prim.Native.Nat.{ℕ, _≤_, _<_}
@@ -22,6 +22,14 @@ or-left false b h = absurd h
 pub or-right : (a b : Bool) → T b → T (a || b)
 or-right true b h = tt
 or-right false b h = h
+
+pub or-fails : (a b : Bool) → (a || b) ≡ false → (a ≡ false) × (b ≡ false)
+or-fails false b h = (refl, h)
+or-fails true b h = absurd (subst T h tt)
+
+pub or-holds : (a b : Bool) → (a || b) ≡ true → (a ≡ true) ⊎ (b ≡ true)
+or-holds true b h = inl refl
+or-holds false b h = inr h
 
 -- ---- choices
 pub by-test : {P : Type 0} (test : Bool) → (test ≡ true → P) → (test ≡ false → P) → P

@@ -69,7 +69,7 @@ fn polygon_circle_manifold(
     b: B2circleShape,
     xfb: B2Transform,
 ) -> B2manifold
-    requires { ⌜ (0 < a .«m_count») × (a .«m_count» ≤ 8) ⌝ }
+    requires { ⌜ (2 < a .«m_count») × (a .«m_count» ≤ 8) ⌝ }
     ensures { λ r. ⌜ r ≡ outline-circle m a xfa b xfb ⌝ }
 {
     let centre = b.m_p;

@@ -23,6 +23,17 @@ use Rattle.circles.specs.Meetings.{out-of-face, FaceAt, SideOf}
 abbrev best-at : ℕ → Float → Best
 best-at index separation = record { place = index; value = separation }
 
+true-is-not-false : true ≡ false → ⊥
+true-is-not-false h = let z : _≡_ {A = ℕ} 0 1 = cc in omega arith
+
+-- s, from what is read at place i
+pub read-at : (vs ns : List B2vec2) (c : B2vec2) (i : ℕ) (v n d e : B2vec2) (s : Float) → length vs ≡ 8 → length ns ≡ 8
+    → i < 8 → v ≡ getD vs i d → n ≡ getD ns i d → e ≡ b2-sub c v → s ≡ b2-dot n e → s ≡ out-of-face vs ns c i
+read-at vs ns c i v n d e s vs-eight ns-eight within v-is n-is e-is s-is =
+    s-is
+    ∙ ap₂ b2-dot (n-is ∙ getD-within ns i d _ (omega arith))
+    (e-is ∙ ap (b2-sub c) (v-is ∙ getD-within vs i d _ (omega arith)))
+
 module _ (vs ns : List B2vec2) (count : ℕ) (c : B2vec2) (radius : Float) where
   -- the best face of the places below i is `index`, and c is out of none of them by more than the radius
   pub record SoFar (index : ℕ) (separation : Float) (i : ℕ) : Type 0 where
@@ -49,74 +60,61 @@ module _ (vs ns : List B2vec2) (count : ℕ) (c : B2vec2) (radius : Float) where
         (sub-zero count);
   }
 
-  -- v and n are read at place i, and s is how far c is out of that face
+  -- c is out of face i by more than the radius
+  pub outside-at : (i : ℕ) (s : Float) (r : Side) → i < count → s ≡ out-of-face vs ns c i → lt radius s ≡ true
+      → r .outside ≡ true → SideOf vs ns count c radius r
+  outside-at i s r within s-here far out = record {
+    outside-is = out
+        ∙ sym (some-here (λ k. lt radius (out-of-face vs ns c k)) i count within (ap (lt radius) (sym s-here) ∙ far));
+    face = λ never. absurd (true-is-not-false (sym out ∙ never));
+  }
+
+  -- s is how far c is out of face i, by no more than the radius
   module _ (index : ℕ) (separation : Float) (i : ℕ) (so-far : SoFar index separation i) (within : i < count)
-      (v n d e : B2vec2) (s : Float) (v-is : v ≡ getD vs i d) (n-is : n ≡ getD ns i d) (e-is : e ≡ b2-sub c v)
-      (s-is : s ≡ b2-dot n e) where
-    v-here : v ≡ point-at vs i
-    v-here = let eight = so-far .vs-eight in let few = so-far .few in v-is ∙ getD-within vs i d _ (omega arith)
+      (s : Float) (s-here : s ≡ out-of-face vs ns c i) (near : lt radius s ≡ false) where
+    none : some-below (λ k. lt radius (out-of-face vs ns c k)) (i + 1) ≡ false
+    none = none-next (λ k. lt radius (out-of-face vs ns c k)) i (so-far .none-out) (ap (lt radius) (sym s-here)
+        ∙ near)
 
-    n-here : n ≡ point-at ns i
-    n-here = let eight = so-far .ns-eight in let few = so-far .few in n-is ∙ getD-within ns i d _ (omega arith)
+    stepped : scan is-greater (cond (lt separation (out-of-face vs ns c i)) (valued (out-of-face vs ns c) i)
+        (best-at index separation))
+        (map (valued (out-of-face vs ns c)) (places (i + 1) (count - (i + 1))))
+        ≡ first-greatest (out-of-face vs ns c) count
+    stepped =
+        scanned is-greater (valued (out-of-face vs ns c)) (best-at index separation)
+        (first-greatest (out-of-face vs ns c) count) i count
+        (so-far .best-is) _ within refl
 
-    s-here : s ≡ out-of-face vs ns c i
-    s-here = s-is ∙ ap₂ b2-dot n-here (e-is ∙ ap (b2-sub c) v-here)
-
-    pub side-outside : lt radius s ≡ true
-        → SideOf vs ns count c radius (record { outside = true; separation = s; v1 = v; v2 = v; normal = n })
-    side-outside far = record {
-      outside-is = sym (some-here (λ k. lt radius (out-of-face vs ns c k)) i count within (ap (lt radius) (sym s-here)
-          ∙ far));
-      face = λ never. absurd (true-is-not-false never);
+    pub side-taken : lt separation s ≡ true → SoFar i s (i + 1)
+    side-taken more = record {
+      vs-eight = so-far .vs-eight;
+      ns-eight = so-far .ns-eight;
+      few = so-far .few;
+      done = omega arith;
+      in-count = within;
+      none-out = none;
+      best-is = ap (λ (x : Float). scan is-greater (best-at i x)
+          (map (valued (out-of-face vs ns c)) (places (i + 1) (count - (i + 1)))))
+          s-here
+          ∙ ap (λ (t : Bool). scan is-greater (cond t (valued (out-of-face vs ns c) i) (best-at index separation))
+          (map (valued (out-of-face vs ns c)) (places (i + 1) (count - (i + 1)))))
+          (sym (ap (lt separation) (sym s-here) ∙ more))
+          ∙ stepped;
     }
-      where
-        true-is-not-false : true ≡ false → ⊥
-        true-is-not-false h = let z : _≡_ {A = ℕ} 0 1 = cc in omega arith
 
-    module _ (near : lt radius s ≡ false) where
-      none : some-below (λ k. lt radius (out-of-face vs ns c k)) (i + 1) ≡ false
-      none = none-next (λ k. lt radius (out-of-face vs ns c k)) i (so-far .none-out) (ap (lt radius) (sym s-here)
-          ∙ near)
-
-      stepped : scan is-greater (cond (lt separation (out-of-face vs ns c i)) (valued (out-of-face vs ns c) i)
-          (best-at index separation))
-          (map (valued (out-of-face vs ns c)) (places (i + 1) (count - (i + 1))))
-          ≡ first-greatest (out-of-face vs ns c) count
-      stepped =
-          scanned is-greater (valued (out-of-face vs ns c)) (best-at index separation)
-          (first-greatest (out-of-face vs ns c) count) i count
-          (so-far .best-is) _ within refl
-
-      pub side-taken : lt separation s ≡ true → SoFar i s (i + 1)
-      side-taken more = record {
-        vs-eight = so-far .vs-eight;
-        ns-eight = so-far .ns-eight;
-        few = so-far .few;
-        done = omega arith;
-        in-count = within;
-        none-out = none;
-        best-is = ap (λ (x : Float). scan is-greater (best-at i x)
-            (map (valued (out-of-face vs ns c)) (places (i + 1) (count - (i + 1)))))
-            s-here
-            ∙ ap (λ (t : Bool). scan is-greater (cond t (valued (out-of-face vs ns c) i) (best-at index separation))
-            (map (valued (out-of-face vs ns c)) (places (i + 1) (count - (i + 1)))))
-            (sym (ap (lt separation) (sym s-here) ∙ more))
-            ∙ stepped;
-      }
-
-      pub side-left : lt separation s ≡ false → SoFar index separation (i + 1)
-      side-left less = record {
-        vs-eight = so-far .vs-eight;
-        ns-eight = so-far .ns-eight;
-        few = so-far .few;
-        done = omega arith;
-        in-count = so-far .in-count;
-        none-out = none;
-        best-is = ap (λ (t : Bool). scan is-greater (cond t (valued (out-of-face vs ns c) i) (best-at index separation))
-            (map (valued (out-of-face vs ns c)) (places (i + 1) (count - (i + 1)))))
-            (sym (ap (lt separation) (sym s-here) ∙ less))
-            ∙ stepped;
-      }
+    pub side-left : lt separation s ≡ false → SoFar index separation (i + 1)
+    side-left less = record {
+      vs-eight = so-far .vs-eight;
+      ns-eight = so-far .ns-eight;
+      few = so-far .few;
+      done = omega arith;
+      in-count = so-far .in-count;
+      none-out = none;
+      best-is = ap (λ (t : Bool). scan is-greater (cond t (valued (out-of-face vs ns c) i) (best-at index separation))
+          (map (valued (out-of-face vs ns c)) (places (i + 1) (count - (i + 1)))))
+          (sym (ap (lt separation) (sym s-here) ∙ less))
+          ∙ stepped;
+    }
 
   -- all places are done: the best face's first corner and normal are read, and the corner after
   pub side-found : (index : ℕ) (separation : Float) (i next : ℕ) (v1 v2 normal d : B2vec2)

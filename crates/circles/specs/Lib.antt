@@ -1,1 +1,2 @@
+pub mod FirstFour
 pub mod Meetings

@@ -1,10 +1,12 @@
 // Circle against circle, and outline against circle (Box2D's b2_collide_circle.cpp). Where a shape meets a circle is
 // found first, and the manifold is made of that at one place.
 ghost use mathlib.Core.Path.{_≡_};
-ghost use mathlib.Core.Bool.{cond};
+ghost use mathlib.Core.Bool.{true, cond};
 ghost use Prim.Native.Nat.{_≤_, _<_};
 ghost use Rattle.contact_definitions.specs.B2CollideCircle.{farther};
-ghost use Rattle.circles.specs.Meetings.{AtCorner, AtFace, AtOutline, SideOf};
+ghost use Rattle.circles.specs.Meetings.{AtCorner, AtFace, AtOutline, SideOf, out-of-face};
+ghost use Rattle.circles.specs.FirstFour.{LastOfFour, some-above, taken, best-of-four};
+use contact_definitions::axis::Best;
 use corner_places::places;
 use floats::b2_common::B2_EPSILON;
 use floats::b2_common::B2_MAX_FLOAT;
@@ -35,33 +37,100 @@ pub fn farther_than(radius: f32, p: B2vec2, q: B2vec2) -> bool
     b2_math::b2_distance_vec2_squared(p, q) > radius * radius
 }
 
-// The scan keeps the place alone, so that it is compiled to conditional moves: which face is the best is not to be
-// foreseen.
+// How far c is out of face i.
+fn out_of_face(vs: [B2vec2; 8], ns: [B2vec2; 8], i: usize, c: B2vec2) -> f32
+    requires { ⌜ i < 8 ⌝ }
+    ensures { λ r. ⌜ r ≡ out-of-face vs ns c i ⌝ }
+{
+    let v = B2vec2 {
+        x: vs[i].x,
+        y: vs[i].y,
+    };
+    let n = B2vec2 {
+        x: ns[i].x,
+        y: ns[i].y,
+    };
+    b2_math::b2_dot(n, b2_math::b2_sub(c, v))
+}
+
+// The last of the first four faces: of three, the third, which is then looked at twice.
+fn last_of_four(count: usize) -> usize
+    requires { ⌜ 2 < count ⌝ }
+    ensures { λ r. ⌜ LastOfFour count r ⌝ }
+{
+    if count > 3 {
+        return 3;
+    }
+    2
+}
+
+fn some_above(radius: f32, s0: f32, s1: f32, s2: f32, s3: f32) -> bool
+    ensures { λ r. ⌜ r ≡ some-above radius s0 s1 s2 s3 ⌝ }
+{
+    let a0 = s0 > radius;
+    let a1 = s1 > radius;
+    let a2 = s2 > radius;
+    let a3 = s3 > radius;
+    a0 | a1 | a2 | a3
+}
+
+fn better(best: Best, place: usize, value: f32) -> Best
+    ensures { λ r. ⌜ r ≡ taken best place value ⌝ }
+{
+    if value > best.value {
+        return Best { place, value };
+    }
+    best
+}
+
+fn best_of_four(s0: f32, s1: f32, s2: f32, s3: f32) -> Best
+    ensures { λ r. ⌜ r ≡ best-of-four s0 s1 s2 s3 ⌝ }
+{
+    let none = Best {
+        place: 0,
+        value: -B2_MAX_FLOAT,
+    };
+    let b0 = better(none, 0, s0);
+    let b1 = better(b0, 1, s1);
+    let b2 = better(b1, 2, s2);
+    better(b2, 3, s3)
+}
+
+// Outside.
+fn beyond(c: B2vec2) -> Side
+    ensures { λ r. ⌜ r .outside ≡ true ⌝ }
+{
+    Side {
+        outside: true,
+        separation: 0.0,
+        v1: c,
+        v2: c,
+        normal: c,
+    }
+}
+
+// The first four faces are worked out side by side, and one test asks all of them. The scan keeps the place alone, so
+// that it is compiled to conditional moves: which face is the best is not to be foreseen.
 fn circle_side(vs: [B2vec2; 8], ns: [B2vec2; 8], count: usize, c: B2vec2, radius: f32) -> Side
-    requires { ⌜ (0 < count) × (count ≤ 8) ⌝ }
+    requires { ⌜ (2 < count) × (count ≤ 8) ⌝ }
     ensures { λ r. ⌜ SideOf vs ns count c radius r ⌝ }
 {
-    let mut separation: f32 = -B2_MAX_FLOAT;
-    let mut index = 0usize;
-    let mut i = 0usize;
+    let last = last_of_four(count);
+    let s0 = out_of_face(vs, ns, 0, c);
+    let s1 = out_of_face(vs, ns, 1, c);
+    let s2 = out_of_face(vs, ns, 2, c);
+    let s3 = out_of_face(vs, ns, last, c);
+    if some_above(radius, s0, s1, s2, s3) {
+        return beyond(c);
+    }
+    let best = best_of_four(s0, s1, s2, s3);
+    let mut separation = best.value;
+    let mut index = best.place;
+    let mut i = last + 1;
     while i < count {
-        let v = B2vec2 {
-            x: vs[i].x,
-            y: vs[i].y,
-        };
-        let n = B2vec2 {
-            x: ns[i].x,
-            y: ns[i].y,
-        };
-        let s = b2_math::b2_dot(n, b2_math::b2_sub(c, v));
+        let s = out_of_face(vs, ns, i, c);
         if s > radius {
-            return Side {
-                outside: true,
-                separation: s,
-                v1: v,
-                v2: v,
-                normal: n,
-            };
+            return beyond(c);
         }
         if s > separation {
             separation = s;
@@ -142,7 +211,7 @@ pub fn polygon_meeting(
     c: B2vec2,
     radius: f32,
 ) -> Meeting
-    requires { ⌜ (0 < count) × (count ≤ 8) ⌝ }
+    requires { ⌜ (2 < count) × (count ≤ 8) ⌝ }
     ensures { λ r. ⌜ AtOutline vs ns count c radius r ⌝ }
 {
     let side = circle_side(vs, ns, count, c, radius);

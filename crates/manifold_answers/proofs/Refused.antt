@@ -55,13 +55,16 @@ module _ (old : B2manifold) (wrong : Bool) (answer r : ManifoldAnswer) where
   pub count-taken : wrong ≡ false → r ≡ answer → r ≡ unless-miscounted wrong old answer
   count-taken h r-is = simp h r-is
 
-pub counted-well : (n : ℕ) → miscounted n ≡ false → (0 < n) × (n ≤ 8)
+pub counted-well : (n : ℕ) → miscounted n ≡ false → (2 < n) × (n ≤ 8)
 counted-well n h = by-few (ltb n 3) refl (ltb 8 n) refl h
   where
-    by-few : (few : Bool) → ltb n 3 ≡ few → (many : Bool) → ltb 8 n ≡ many → (few || many) ≡ false → (0 < n) × (n ≤ 8)
+    by-few : (few : Bool) → ltb n 3 ≡ few → (many : Bool) → ltb 8 n ≡ many → (few || many) ≡ false → (2 < n) × (n ≤ 8)
     by-few true few-is many many-is both = never both
     by-few false few-is true many-is both = never both
     by-few false few-is false many-is both = let three = ltb-false n 3 few-is in (omega arith, ltb-false 8 n many-is)
+
+pub more-than-none : (n : ℕ) → 2 < n → 0 < n
+more-than-none n h = omega arith
 
 pub both-counted-well : (a b : ℕ) → (miscounted a || miscounted b) ≡ false → (0 < a) × (a ≤ 8) × (0 < b) × (b ≤ 8)
 both-counted-well a b h = go (miscounted a) refl h
@@ -70,4 +73,4 @@ both-counted-well a b h = go (miscounted a) refl h
     go true a-is both = never both
     go false a-is both =
         let a-well = counted-well a a-is in let b-well = counted-well b both in
-        (a-well .0, a-well .1, b-well .0, b-well .1)
+        (more-than-none a (a-well .0), a-well .1, more-than-none b (b-well .0), b-well .1)

@@ -1,21 +1,33 @@
 -- The comparisons of finite numbers are those of their values, in both directions: `<`, `<=`, `==`, a `<` that fails;
--- and `<` and `==` as the computed tests of those values. Assumes nothing.
+-- and `<` and `==` as the computed tests of those values; no float is below itself. Assumes nothing.
 use mathlib.Core.Path.{_≡_, refl, sym, ap, _∙_, subst}
 use mathlib.Core.Logic.{inl, inr}
 use Prim.Native.Nat.{ℕ, _+_, _*_, _<_}
 use native.Mathlib.Nat.{le-of-eq, eq-or-lt-of-le, lt-of-le-of-lt, lt-of-lt-of-le, mul-pos, zero-mul}
-use native.Mathlib.Nat.{mul-lt-mul-of-pos-right}
+use native.Mathlib.Nat.{lt-irrefl, mul-lt-mul-of-pos-right}
 use native.Mathlib.Nat.{lt-of-mul-lt-mul-right, eq-of-mul-eq-mul-right}
 use native.Mathlib.Omega.{arith}
 use mathlib.Core.Bool.{Bool, true, false, not, _||_, Bool·beq}
 use lib.Dec.{T, ltb, eqb, ltb→lt, lt→ltb, eqb→eq, not-T, T-not}
-use lib.Ieee.{Float, fin, up, down, below, level, lt, eq, le}
+use lib.Ieee.{Float, nan, inf, fin, up, down, below, level, lt, eq, le}
 use lib.Ieee.Fits.{down-pos, and-i, and-l, and-r, eq→eqb}
 use Rattle.algebra.specs.Integer.{signed, _≐_, _≼_, _≺_, _≐?_, _≺?_}
 use Rattle.algebra.proofs.Integer.{order-cases, same-of-test, test-of-same, lt-of-test, test-of-lt}
 use Rattle.algebra.proofs.Booleans.{bool-iff, or-left, or-right}
 use Rattle.rounding.specs.Value.{metre, F32, sign, mag, val}
 use Rattle.rounding.proofs.Value.{metre-pos, val-signed, AsFin, as-fin, f32-as-fin}
+
+-- ---- no float is below itself
+not-below-itself : (n : ℕ) → ltb n n ≡ false
+not-below-itself n = bool-iff (ltb n n) false (λ t. absurd (lt-irrefl n (ltb→lt n n t))) (λ t. absurd t)
+
+pub lt-irreflexive : (x : Float) → lt x x ≡ false
+unfolding lt
+lt-irreflexive nan = refl
+lt-irreflexive (inf true) = refl
+lt-irreflexive (inf false) = refl
+lt-irreflexive (fin true m e) = not-below-itself (m * up e * down e)
+lt-irreflexive (fin false m e) = not-below-itself (m * up e * down e)
 
 -- ---- a comparison of fractions p / c and q / c is that of the units m and n that they are
 module _ (d c : ℕ) (d-pos : 0 < d) (c-pos : 0 < c) where

@@ -1,63 +1,97 @@
--- The face is found a place at a time (proofs/Sides). Assumes nothing.
-use mathlib.Core.Path.{refl}
+-- The first four faces side by side (proofs/FirstFour), then a face at a time (proofs/Sides). Assumes nothing.
+use mathlib.Core.Path.{refl, sym, subst, _∙_}
 use mathlib.Core.Logic.{⊎-elim}
-use Prim.Native.Nat.{_-_}
+use Prim.Native.Nat.{_+_, _-_}
 use borrow.Author.Needs.{needs}
-use Rattle.circles.proofs.Sides.{SoFar, sides-begin, side-outside, side-taken, side-left, side-found}
+use Rattle.contact_definitions.specs.declared.axis.Best.{Best}
+use Rattle.circles.proofs.Sides.{SoFar, outside-at, side-taken, side-left, side-found}
+use Rattle.circles.proofs.FirstFour.{last-below-eight, one-outside, four-known}
 use Rattle.circles.proofs.b2_collide_circle.circle_side.Statement.{statement}
 use Rattle.circles.proofs.b2_collide_circle.circle_side.Tie as tie
 
 abbrev Inv-loop : tie.InvT-loop
-Inv-loop count c radius vs ns separation₀ index₀ i₀ separation index i =
+Inv-loop count c radius vs ns last s0 s1 s2 s3 separation₀ index₀ i₀ separation index i =
     SoFar vs ns count c radius index separation i
 
 abbrev μ-loop : tie.MeasureT-loop
-μ-loop count c radius vs ns separation₀ index₀ i₀ separation index i = count - i
+μ-loop count c radius vs ns last s0 s1 s2 s3 separation₀ index₀ i₀ separation index i = count - i
 
-loop-holds : tie.Need-loop-holds Inv-loop μ-loop
-loop-holds c =
-    sides-begin _ _ _ _ _ (c .good .0 .1 .0 .1) (c .good .1 .0 .1 .0 .1) (c .pre .0) (c .pre .1)
+last-of-four-requires : tie.Need-last-of-four-requires Inv-loop μ-loop
+last-of-four-requires c κs = search needs
 
-mul-t19 : tie.Need-mul-t19 Inv-loop μ-loop
-mul-t19 c = search needs
+out-of-face-requires : tie.Need-out-of-face-requires Inv-loop μ-loop
+out-of-face-requires c κs = search needs
 
-element-copy-out-t22 : tie.Need-element-copy-out-t22 Inv-loop μ-loop
-element-copy-out-t22 c = search needs
+out-of-face-requires-2 : tie.Need-out-of-face-requires-2 Inv-loop μ-loop
+out-of-face-requires-2 c κs = search needs
 
-mul-t23 : tie.Need-mul-t23 Inv-loop μ-loop
-mul-t23 c = search needs
+out-of-face-requires-3 : tie.Need-out-of-face-requires-3 Inv-loop μ-loop
+out-of-face-requires-3 c κs = search needs
 
-element-copy-out-t26 : tie.Need-element-copy-out-t26 Inv-loop μ-loop
-element-copy-out-t26 c = search needs
+out-of-face-requires-4 : tie.Need-out-of-face-requires-4 Inv-loop μ-loop
+out-of-face-requires-4 c κs =
+    let named = c .before .before .before in
+    last-below-eight _ _ (named .before .pre .1) (named .last-of-four .ensures)
 
-mul-t19-2 : tie.Need-mul-t19-2 Inv-loop μ-loop
-mul-t19-2 c = search needs
+some-above-requires : tie.Need-some-above-requires Inv-loop μ-loop
+some-above-requires c κs = search needs
 
-element-copy-out-t26-2 : tie.Need-element-copy-out-t26-2 Inv-loop μ-loop
-element-copy-out-t26-2 c = search needs
-
-mul-t23-2 : tie.Need-mul-t23-2 Inv-loop μ-loop
-mul-t23-2 c = search needs
-
-element-copy-out-t22-2 : tie.Need-element-copy-out-t22-2 Inv-loop μ-loop
-element-copy-out-t22-2 c = search needs
-
-b2-sub-requires : tie.Need-b2-sub-requires Inv-loop μ-loop
-b2-sub-requires c κs = search needs
-
-b2-dot-requires : tie.Need-b2-dot-requires Inv-loop μ-loop
-b2-dot-requires c κs = search needs
+beyond-requires : tie.Need-beyond-requires Inv-loop μ-loop
+beyond-requires c κs = search needs
 
 returns : tie.Need-returns Inv-loop μ-loop
 returns c =
-    let dot = c .before in
-    let sub = dot .before in
-    let turn = sub .before in
-    side-outside _ _ _ _ _ _ _ _ (turn .before .loop .inv) (turn .loop-test .taken) _ _ _ _ _ refl refl
-    (sub .b2-sub .ensures) (dot .b2-dot .ensures) (c .if1 .taken)
+    let asked = c .before .before in
+    let fourth = asked .before in
+    let third = fourth .before in
+    let second = third .before in
+    let first = second .before in
+    let named = first .before in
+    let start = named .before in
+    one-outside (start .args .t1) (start .args .t2) _ _ _ (start .pre .0) (start .pre .1) _
+    (named .last-of-four .ensures) _ _ _ _ (first .out-of-face .ensures) (second .out-of-face2 .ensures)
+    (third .out-of-face3 .ensures) (fourth .out-of-face4 .ensures) _
+    (sym (asked .some-above .ensures) ∙ c .before .if1 .taken) (c .beyond .ensures)
+
+best-of-four-requires : tie.Need-best-of-four-requires Inv-loop μ-loop
+best-of-four-requires c κs = search needs
 
 add-i : tie.Need-add-i Inv-loop μ-loop
-add-i c = search needs
+add-i c =
+    let named = c .before .before .before .before .before .before .before in
+    let small = last-below-eight _ _ (named .before .pre .1) (named .last-of-four .ensures) in
+    search needs
+
+loop-holds : tie.Need-loop-holds Inv-loop μ-loop
+loop-holds c =
+    let asked = c .before .before in
+    let fourth = asked .before in
+    let third = fourth .before in
+    let second = third .before in
+    let first = second .before in
+    let named = first .before in
+    let start = named .before in
+    subst (λ (b : Best). SoFar (start .args .t1) (start .args .t2) (start .args .count) (start .args .c)
+    (start .args .radius) (b .place) (b .value) (named .last-of-four .result + 1)) (sym (c .best-of-four .ensures))
+    (four-known (start .args .t1) (start .args .t2) _ _ _ (start .pre .0) (start .pre .1) _
+    (named .last-of-four .ensures) _ _ _ _ (first .out-of-face .ensures) (second .out-of-face2 .ensures)
+    (third .out-of-face3 .ensures) (fourth .out-of-face4 .ensures) (start .good .0 .1 .0 .1)
+    (start .good .1 .0 .1 .0 .1) (sym (asked .some-above .ensures) ∙ c .before .if1 .left))
+
+out-of-face-requires-5 : tie.Need-out-of-face-requires-5 Inv-loop μ-loop
+out-of-face-requires-5 c κs = search needs
+
+beyond-requires-2 : tie.Need-beyond-requires-2 Inv-loop μ-loop
+beyond-requires-2 c κs = search needs
+
+returns-2 : tie.Need-returns-2 Inv-loop μ-loop
+returns-2 c =
+    let face = c .before .before in
+    outside-at _ _ _ _ _ _ _ _ (face .before .loop-test .taken) (face .out-of-face5 .ensures) (c .before .if2 .taken)
+    (c .beyond2 .ensures)
+
+add-i-2 : tie.Need-add-i-2 Inv-loop μ-loop
+add-i-2 c = search needs
 
 loop-less : tie.Need-loop-less Inv-loop μ-loop
 loop-less c = search needs
@@ -65,18 +99,23 @@ loop-less c = search needs
 loop-again : tie.Need-loop-again Inv-loop μ-loop
 loop-again c =
     let near = c .before in
-    let dot = near .before in
-    let sub = dot .before in
-    let turn = sub .before in
+    let face = near .before in
+    let turn = face .before in
     ⊎-elim
-    (λ w. rw (w .1, w .2) (side-taken _ _ _ _ _ _ _ _ (turn .before .loop .inv) (turn .loop-test .taken) _ _ _ _ _
-    refl refl (sub .b2-sub .ensures) (dot .b2-dot .ensures) (near .if1 .left) (w .0 .taken)))
-    (λ w. rw (w .1, w .2) (side-left _ _ _ _ _ _ _ _ (turn .before .loop .inv) (turn .loop-test .taken) _ _ _ _ _
-    refl refl (sub .b2-sub .ensures) (dot .b2-dot .ensures) (near .if1 .left) (w .0 .left)))
-    (c .if2 .came)
+    (λ w. rw (w .1, w .2) (side-taken _ _ _ _ _ _ _ _ (turn .before .loop .inv) (turn .loop-test .taken) _
+    (face .out-of-face5 .ensures) (near .if2 .left) (w .0 .taken)))
+    (λ w. rw (w .1, w .2) (side-left _ _ _ _ _ _ _ _ (turn .before .loop .inv) (turn .loop-test .taken) _
+    (face .out-of-face5 .ensures) (near .if2 .left) (w .0 .left)))
+    (c .if3 .came)
 
 after-requires : tie.Need-after-requires Inv-loop μ-loop
 after-requires c κs = search needs
+
+mul-t28 : tie.Need-mul-t28 Inv-loop μ-loop
+mul-t28 c = search needs
+
+element-copy-out-t31 : tie.Need-element-copy-out-t31 Inv-loop μ-loop
+element-copy-out-t31 c = search needs
 
 mul-t32 : tie.Need-mul-t32 Inv-loop μ-loop
 mul-t32 c = search needs
@@ -84,23 +123,23 @@ mul-t32 c = search needs
 element-copy-out-t35 : tie.Need-element-copy-out-t35 Inv-loop μ-loop
 element-copy-out-t35 c = search needs
 
-mul-t36 : tie.Need-mul-t36 Inv-loop μ-loop
-mul-t36 c = search needs
+mul-t28-2 : tie.Need-mul-t28-2 Inv-loop μ-loop
+mul-t28-2 c = search needs
 
-element-copy-out-t39 : tie.Need-element-copy-out-t39 Inv-loop μ-loop
-element-copy-out-t39 c = search needs
+element-copy-out-t35-2 : tie.Need-element-copy-out-t35-2 Inv-loop μ-loop
+element-copy-out-t35-2 c = search needs
 
 mul-t32-2 : tie.Need-mul-t32-2 Inv-loop μ-loop
 mul-t32-2 c = search needs
 
-element-copy-out-t39-2 : tie.Need-element-copy-out-t39-2 Inv-loop μ-loop
-element-copy-out-t39-2 c = search needs
+element-copy-out-t31-2 : tie.Need-element-copy-out-t31-2 Inv-loop μ-loop
+element-copy-out-t31-2 c = search needs
 
-mul-t36-2 : tie.Need-mul-t36-2 Inv-loop μ-loop
-mul-t36-2 c = search needs
+mul-t28-3 : tie.Need-mul-t28-3 Inv-loop μ-loop
+mul-t28-3 c = search needs
 
-element-copy-out-t35-2 : tie.Need-element-copy-out-t35-2 Inv-loop μ-loop
-element-copy-out-t35-2 c = search needs
+element-copy-out-t31-3 : tie.Need-element-copy-out-t31-3 Inv-loop μ-loop
+element-copy-out-t31-3 c = search needs
 
 mul-t32-3 : tie.Need-mul-t32-3 Inv-loop μ-loop
 mul-t32-3 c = search needs
@@ -108,14 +147,8 @@ mul-t32-3 c = search needs
 element-copy-out-t35-3 : tie.Need-element-copy-out-t35-3 Inv-loop μ-loop
 element-copy-out-t35-3 c = search needs
 
-mul-t36-3 : tie.Need-mul-t36-3 Inv-loop μ-loop
-mul-t36-3 c = search needs
-
-element-copy-out-t39-3 : tie.Need-element-copy-out-t39-3 Inv-loop μ-loop
-element-copy-out-t39-3 c = search needs
-
-returns-2 : tie.Need-returns-2 Inv-loop μ-loop
-returns-2 c =
+returns-3 : tie.Need-returns-3 Inv-loop μ-loop
+returns-3 c =
     let loop = c .before in
     side-found _ _ _ _ _ _ _ _ _ _ _ _ _ (loop .before .loop .inv) (loop .loop-test .left) (c .after .ensures .0)
     (c .after .ensures .1) refl refl refl
@@ -126,32 +159,34 @@ circle-side-spec =
     (tie.spec
     Inv-loop
     μ-loop
-    loop-holds
-    mul-t19
-    element-copy-out-t22
-    mul-t23
-    element-copy-out-t26
-    mul-t19-2
-    element-copy-out-t26-2
-    mul-t23-2
-    element-copy-out-t22-2
-    b2-sub-requires
-    b2-dot-requires
+    last-of-four-requires
+    out-of-face-requires
+    out-of-face-requires-2
+    out-of-face-requires-3
+    out-of-face-requires-4
+    some-above-requires
+    beyond-requires
     returns
+    best-of-four-requires
     add-i
+    loop-holds
+    out-of-face-requires-5
+    beyond-requires-2
+    returns-2
+    add-i-2
     loop-less
     loop-again
     after-requires
+    mul-t28
+    element-copy-out-t31
     mul-t32
     element-copy-out-t35
-    mul-t36
-    element-copy-out-t39
-    mul-t32-2
-    element-copy-out-t39-2
-    mul-t36-2
+    mul-t28-2
     element-copy-out-t35-2
+    mul-t32-2
+    element-copy-out-t31-2
+    mul-t28-3
+    element-copy-out-t31-3
     mul-t32-3
     element-copy-out-t35-3
-    mul-t36-3
-    element-copy-out-t39-3
-    returns-2)
+    returns-3)

@@ -5,6 +5,7 @@ use Rattle.unit_vectors.specs.Unit.{unit-scale}
 use Rattle.contact_definitions.specs.Manifold.{with-count, manifold-accepted}
 use Rattle.contact_definitions.specs.B2CollideEdge.{edge-polygon-manifold, b2-collide-edge-and-polygon}
 use Rattle.manifold_answers.proofs.Refused.{all-in-range, not-in-range, count-refused, count-taken, counted-well}
+use Rattle.manifold_answers.proofs.Refused.{more-than-none}
 use borrow.Author.Needs.{needs}
 use Rattle.wall_contacts.proofs.b2_collide_edge.b2_collide_edge_and_polygon.Statement.{
   statement,
@@ -44,7 +45,7 @@ edge-polygon-manifold-requires c κs =
     let count = right .before in
     let root = count .before in
     let well = counted-well _ (sym (count .miscounted .ensures) ∙ right .if1 .left) in
-    (well .0, well .1, root .unit-scale .ensures ∙ ap unit-scale (root .before .b2-sub .ensures))
+    (more-than-none _ (well .0), well .1, root .unit-scale .ensures ∙ ap unit-scale (root .before .b2-sub .ensures))
 
 accepted-requires : tie.Need-accepted-requires
 accepted-requires c κs = search needs
