@@ -6,7 +6,7 @@ cd "$(dirname "${BASH_SOURCE[0]}")/.." || exit 1
 # The crates with C exports and their header: a new name is written here, and in examples/host.c, which includes it.
 calls_crate=test_calls
 roots_crate=bench_calls
-bench_crates="bench_calls bench_contacts bench_world"
+bench_crates="bench_calls"
 record_crate=record
 header=netxurbil_test_calls.h
 

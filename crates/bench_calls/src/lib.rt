@@ -9,8 +9,6 @@ use floats::b2_math::B2vec2;
 use shape_definitions::b2_polygon_shape::B2polygonShape;
 use shapes::b2_polygon_shape;
 
-mod outlines;
-
 #[no_mangle]
 pub extern "C" fn direct_root(x: f32) -> f32
     ensures { λ r. ⌜ r ≡ b2-sqrt x ⌝ }
@@ -87,3 +85,9 @@ pub extern "C" fn direct_validate(shape: &[f32], count: usize) -> u32 {
     }
     if answer.valid { 1 } else { 0 }
 }
+
+pub mod contacts;
+mod manifolds;
+mod outlines;
+pub mod world;
+mod worlds;

@@ -15,9 +15,9 @@ use Rattle.contact_definitions.specs.Manifold.{default-id, with-count, with-one
 use Rattle.contact_definitions.specs.B2CollideCircle.{farther, circles-manifold, circle-separation, circle-at-best}
 use Rattle.contact_definitions.specs.B2CollideCircle.{polygon-circle-manifold}
 use Rattle.contact_definitions.proofs.Counts.{one-point-anew}
-use Rattle.circles.specs.declared.b2_collide_circle.Meeting.{Meeting}
-use Rattle.circles.specs.declared.b2_collide_circle.Meeting.the-variants.{Nothing, Point}
-use Rattle.circles.specs.Meetings.{met, AtOutline}
+use Rattle.circle_contacts.specs.declared.b2_collide_circle.Meeting.{Meeting}
+use Rattle.circle_contacts.specs.declared.b2_collide_circle.Meeting.the-variants.{Nothing, Point}
+use Rattle.circle_contacts.specs.Meetings.{met, AtOutline}
 use Rattle.circle_contacts.specs.Parts.{outline-circle}
 
 -- ---- two circles: far is whether they are farther apart than both radii

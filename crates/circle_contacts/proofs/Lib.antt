@@ -1,1 +1,4 @@
+pub mod Sides
+pub mod Meets
+pub mod FirstFour
 pub mod Circles

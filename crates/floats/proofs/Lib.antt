@@ -8,3 +8,4 @@ pub mod Theorem
 pub mod Controls
 pub mod VectorControls
 pub mod RangeControls
+pub mod Scale

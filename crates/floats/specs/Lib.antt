@@ -2,3 +2,4 @@ pub mod B2Common
 pub mod B2Math
 pub mod Ranges
 pub mod Coordinates
+pub mod Unit

@@ -5,3 +5,6 @@ pub mod b2_math;
 pub mod b2_settings;
 pub mod bits;
 pub mod ranges;
+
+// Vectors made unit by one factor.
+pub mod unit;

@@ -1,2 +1,4 @@
+pub mod Effects
+pub mod Tests
 pub mod Lengths
 pub mod ByKind

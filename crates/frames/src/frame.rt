@@ -2,15 +2,15 @@
 ghost use mathlib.Core.Path.{_≡_};
 ghost use Rattle.record_definitions.specs.Frame as definitions;
 ghost use Rattle.frames.specs.Refused.{frame-refusal};
-use bodies::changes;
+use crate::changes;
+use crate::kinds;
+use crate::test_frame;
 use lines::fields;
 use record_definitions::frame::Change;
 use record_definitions::world::Body;
 use record_definitions::world::LARGEST_ID;
 use record_definitions::world::Pair;
 use shape_definitions::refusal;
-use shape_frames::kinds;
-use test_frames::test_frame;
 
 // By the count, of at most eight points; or 0.
 fn outline_length(count: u8) -> usize

@@ -32,7 +32,7 @@ use Rattle.shape_definitions.specs.Polygon.{
   b2-polygon-shape-set,
   b2-polygon-shape-set-counted,
 }
-use Rattle.outline_builder.specs.Parts.{WalkResult, NormalsResult}
+use Rattle.shapes.specs.Parts.{WalkResult, NormalsResult}
 
 -- ---- 1: the count
 module _ (old : B2polygonShape) (points : List B2vec2) (count : ℕ) where

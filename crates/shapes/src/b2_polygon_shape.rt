@@ -7,6 +7,8 @@ ghost use Rattle.shape_definitions.specs.Polygon.{b2-polygon-shape-set-counted,
 ghost use Rattle.shape_definitions.specs.Boxes.{b2-polygon-shape-set-as-box, b2-polygon-shape-set-as-box-angle};
 ghost use Rattle.shape_definitions.specs.Validate.{b2-polygon-shape-validate};
 use crate::convex;
+use crate::coordinates;
+use crate::outline;
 use floats::b2_common::B2_EPSILON;
 use floats::b2_math;
 use floats::b2_math::B2Rot;
@@ -14,8 +16,6 @@ use floats::b2_math::B2Transform;
 use floats::b2_math::B2vec2;
 use floats::b2_settings::B2_MAX_POLYGON_VERTICES;
 use floats::ranges;
-use outline_builder::coordinates;
-use outline_builder::outline;
 use shape_definitions::b2_polygon_shape::B2polygonShape;
 use shape_definitions::b2_polygon_shape::PolygonAnswer;
 use shape_definitions::b2_polygon_shape::ValidateAnswer;

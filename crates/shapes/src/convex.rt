@@ -10,9 +10,9 @@ ghost use Rattle.rounding.specs.Literals.{zero32};
 ghost use Rattle.floats.specs.B2Math.{vec2, b2-sub, b2-cross};
 ghost use Rattle.shape_definitions.specs.Outline.{point-at};
 ghost use Rattle.shape_definitions.specs.Validate.{corners-not-right, faces-convex};
-use corner_places::places;
 use floats::b2_math;
 use floats::b2_math::B2vec2;
+use shape_ranges::places;
 
 // Whether v lies right of the line from p along e.
 fn right_of(p: B2vec2, e: B2vec2, v: B2vec2) -> bool

@@ -4,10 +4,10 @@ use mathlib.Core.Path.{_≡_, sym, _∙_}
 use mathlib.Core.List.{List, []}
 use borrow.Author.Tests.{ne-eqb, lt-ltb, le-ltb}
 use lib.ListN.{length}
-use Rattle.number_entries.specs.NumberEntries.{root-answer, normalize-answer}
-use Rattle.shape_entries.specs.ShapeEntries.{shape-answer}
-use Rattle.contact_entries.specs.ContactEntries.{contact-answer}
-use Rattle.wire_words.specs.Words.{word-at}
+use Rattle.test_entries.specs.NumberEntries.{root-answer, normalize-answer}
+use Rattle.test_entries.specs.ShapeEntries.{shape-answer}
+use Rattle.test_entries.specs.ContactEntries.{contact-answer}
+use Rattle.wire.specs.Words.{word-at}
 use Rattle.test_calls.specs.Entries.{entry-answer, answer}
 
 pub no-entry : (request : List ℕ) → length request < 4 → answer request ≡ []

@@ -1,7 +1,7 @@
 // The C entry points for tests: every call behind a number, on byte slices.
-ghost use Rattle.wire_words.specs.Words.{Written};
+ghost use Rattle.wire.specs.Words.{Written};
 ghost use Rattle.test_calls.specs.Entries.{answer};
-use wire_words::words;
+use wire::words;
 
 // The number of words written: 0, and the output as it was, for a malformed request or an output too short for the
 // answer.
@@ -14,13 +14,13 @@ pub extern "C" fn calls(input: &[u8], out: &mut [u8]) -> u32
     }
     let entry = words::word(input, 0);
     match entry {
-        15 => number_entries::root(input, out),
-        16 => number_entries::normalize(input, out),
+        15 => test_entries::number_entries::root(input, out),
+        16 => test_entries::number_entries::normalize(input, out),
         _ => {
             if entry < 7 {
-                shape_entries::call(entry, input, out)
+                test_entries::shape_entries::call(entry, input, out)
             } else {
-                contact_entries::call(entry, input, out)
+                test_entries::contact_entries::call(entry, input, out)
             }
         }
     }

@@ -5,10 +5,10 @@ ghost use Prim.Native.Nat.{_≤_, _<_};
 ghost use lib.ListN.{length};
 ghost use Rattle.record_definitions.specs.Answer.{said-line, longest-line};
 ghost use Rattle.record_definitions.specs.Reading.{reading, after, printed};
-use feeding::feed;
 use libc::STDIN_FILENO;
 use libc::STDOUT_FILENO;
 use lines::hex::LINE_FEED;
+use record::feed;
 use record_definitions::reader::Reader;
 
 // The state after a piece of input, and whether to go on.

@@ -2,20 +2,20 @@
 ghost use mathlib.Core.Path.{_≡_};
 ghost use Rattle.contact_definitions.specs.B2CollideEdge.{b2-collide-edge-and-circle, b2-collide-edge-and-polygon};
 ghost use Rattle.wall_contacts.specs.Parts.{wall-circle};
+use crate::edge_circle;
+use crate::edge_polygon;
+use collision::edge_pair;
+use collision::manifold_answer;
+use collision::placement_pair;
 use contact_definitions::b2_collision::B2manifold;
 use contact_definitions::b2_collision::ManifoldAnswer;
 use floats::b2_math;
 use floats::b2_math::B2Transform;
-use manifold_answers::manifold_answer;
-use pair_ranges::edge_pair;
-use pair_ranges::placement_pair;
+use floats::unit;
 use shape_definitions::b2_circle_shape::B2circleShape;
 use shape_definitions::b2_edge_shape::B2edgeShape;
 use shape_definitions::b2_polygon_shape::B2polygonShape;
 use shape_definitions::refusal;
-use unit_vectors::unit;
-use wall_circle::edge_circle;
-use walls::edge_polygon;
 
 // The answer for a wall and a circle in range: the circle's centre is taken to the wall's frame.
 fn wall_circle_answer(

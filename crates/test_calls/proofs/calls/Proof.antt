@@ -1,5 +1,5 @@
 -- `calls` answers what the entry named by the first word answers, and nothing to any other request. Assumes nothing.
-use Rattle.wire_words.proofs.Bytes.{nothing-written, written-as}
+use Rattle.wire.proofs.Bytes.{nothing-written, written-as}
 use Rattle.test_calls.proofs.Answers.{no-entry, root-entry, normalize-entry, shape-entry, contact-entry}
 use borrow.Author.Needs.{needs}
 use Rattle.test_calls.proofs.calls.Statement.{statement}

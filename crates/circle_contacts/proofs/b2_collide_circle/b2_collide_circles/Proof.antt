@@ -2,7 +2,7 @@
 use mathlib.Core.Path.{_∙_, ap}
 use Rattle.contact_definitions.specs.Manifold.{manifold-accepted}
 use Rattle.contact_definitions.specs.B2CollideCircle.{b2-collide-circles}
-use Rattle.manifold_answers.proofs.Refused.{all-in-range, not-in-range}
+use Rattle.collision.proofs.Refused.{all-in-range, not-in-range}
 use borrow.Author.Needs.{needs}
 use Rattle.circle_contacts.proofs.b2_collide_circle.b2_collide_circles.Statement.{statement}
 use Rattle.circle_contacts.proofs.b2_collide_circle.b2_collide_circles.Tie as tie

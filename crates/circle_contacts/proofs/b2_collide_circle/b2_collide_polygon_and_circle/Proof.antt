@@ -2,7 +2,7 @@
 use mathlib.Core.Path.{sym, _∙_, ap}
 use Rattle.contact_definitions.specs.Manifold.{manifold-accepted}
 use Rattle.contact_definitions.specs.B2CollideCircle.{b2-collide-polygon-and-circle}
-use Rattle.manifold_answers.proofs.Refused.{all-in-range, not-in-range, count-refused, count-taken, counted-well}
+use Rattle.collision.proofs.Refused.{all-in-range, not-in-range, count-refused, count-taken, counted-well}
 use borrow.Author.Needs.{needs}
 use Rattle.circle_contacts.proofs.b2_collide_circle.b2_collide_polygon_and_circle.Statement.{
   statement,

@@ -3,7 +3,7 @@ use mathlib.Core.Path.{sym, _∙_, ap, ap₂}
 use mathlib.Core.Bool.{_||_}
 use Rattle.contact_definitions.specs.Manifold.{manifold-accepted}
 use Rattle.contact_definitions.specs.B2CollidePolygon.{b2-collide-polygons}
-use Rattle.manifold_answers.proofs.Refused.{all-in-range, not-in-range, count-refused, count-taken, both-counted-well}
+use Rattle.collision.proofs.Refused.{all-in-range, not-in-range, count-refused, count-taken, both-counted-well}
 use borrow.Author.Needs.{needs}
 use Rattle.outline_contacts.proofs.b2_collide_polygon.b2_collide_polygons.Statement.{statement}
 use Rattle.outline_contacts.proofs.b2_collide_polygon.b2_collide_polygons.Tie as tie

@@ -11,9 +11,9 @@ use Rattle.floats.specs.Ranges.{point-in-range}
 use Rattle.shape_definitions.specs.declared.b2_polygon_shape.B2polygonShape.{B2polygonShape}
 use Rattle.shape_definitions.specs.Outline.{welded, row, edges, long-enough}
 use Rattle.shape_definitions.specs.Polygon.{all-points}
-use Rattle.outline_builder.specs.Coordinates.{points-in}
-use Rattle.outline_builder.specs.Parts.{WalkResult, NormalsResult}
-use Rattle.outline_builder.proofs.Tests.{at-first-place}
+use Rattle.shapes.specs.Coordinates.{points-in}
+use Rattle.shapes.specs.Parts.{WalkResult, NormalsResult}
+use Rattle.shapes.proofs.Tests.{at-first-place}
 use Rattle.shapes.proofs.Built.{too-few-points, too-many-points, out-of-range, too-few-kept, walk-not-back}
 use Rattle.shapes.proofs.Built.{AfterWeld, AfterWalk, after-weld, after-walk, edge-too-short, long-edges}
 use Rattle.shapes.proofs.Built.{area-too-small, outline-built}

@@ -1,7 +1,7 @@
 -- Answered, or by the ranges. Assumes nothing.
 use mathlib.Core.Path.{_∙_}
 use Rattle.contact_definitions.specs.B2CollideEdge.{b2-collide-edge-and-circle}
-use Rattle.manifold_answers.proofs.Refused.{all-in-range, not-in-range}
+use Rattle.collision.proofs.Refused.{all-in-range, not-in-range}
 use borrow.Author.Needs.{needs}
 use Rattle.wall_contacts.proofs.b2_collide_edge.b2_collide_edge_and_circle.Statement.{statement}
 use Rattle.wall_contacts.proofs.b2_collide_edge.b2_collide_edge_and_circle.Tie as tie

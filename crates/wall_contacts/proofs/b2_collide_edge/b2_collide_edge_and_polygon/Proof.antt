@@ -1,11 +1,11 @@
 -- 7, then by the ranges, or accepted. Assumes nothing.
 use mathlib.Core.Path.{sym, _∙_, ap}
 use Rattle.floats.specs.declared.b2_math.B2Transform.{B2Transform}
-use Rattle.unit_vectors.specs.Unit.{unit-scale}
+use Rattle.floats.specs.Unit.{unit-scale}
 use Rattle.contact_definitions.specs.Manifold.{with-count, manifold-accepted}
 use Rattle.contact_definitions.specs.B2CollideEdge.{edge-polygon-manifold, b2-collide-edge-and-polygon}
-use Rattle.manifold_answers.proofs.Refused.{all-in-range, not-in-range, count-refused, count-taken, counted-well}
-use Rattle.manifold_answers.proofs.Refused.{more-than-none}
+use Rattle.collision.proofs.Refused.{all-in-range, not-in-range, count-refused, count-taken, counted-well}
+use Rattle.collision.proofs.Refused.{more-than-none}
 use borrow.Author.Needs.{needs}
 use Rattle.wall_contacts.proofs.b2_collide_edge.b2_collide_edge_and_polygon.Statement.{
   statement,

@@ -1,2 +1,0 @@
-pub mod Separation
-pub mod Chosen

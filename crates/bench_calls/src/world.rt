@@ -1,0 +1,42 @@
+// World points as a program of Rattle asks for them, for benchmarks: manifolds, placements and radii stand in an array,
+// and a pass asks one after another, each on the world manifold of the last. Nothing but safety is promised: the
+// benchmark compares the answers with the references.
+use crate::worlds;
+use crate::worlds::Question;
+use crate::worlds::World;
+use bench_passes::numbers::case;
+use collision::b2_collision;
+use contact_definitions::b2_collision::WorldAnswer;
+
+// One question, on the world manifold of the last.
+fn asked(last: WorldAnswer, q: Question) -> WorldAnswer {
+    let world = last.world;
+    b2_collision::b2_world_manifold_initialize_core(
+        world,
+        q.m,
+        q.xf_a,
+        q.radius_a,
+        q.xf_b,
+        q.radius_b,
+    )
+}
+
+// All cases have manifolds of one kind, with one count.
+#[no_mangle]
+pub extern "C" fn pass_world_points(
+    old: World,
+    x: &[f32],
+    kind: u32,
+    count: usize,
+    order: &[u32],
+) -> World {
+    let all = worlds::all_questions(x, kind, count);
+    let mut answer = worlds::answer_in(old);
+    let mut i = 0usize;
+    while i < order.len() {
+        let k = case(order[i]);
+        answer = asked(answer, all[k]);
+        i += 1;
+    }
+    worlds::answer_out(answer)
+}

@@ -1,3 +1,0 @@
-// What the benchmark's passes over cases share.
-pub mod manifolds;
-pub mod numbers;

@@ -1,2 +1,0 @@
-// Placed shapes in arrays, for the passes of the benchmark.
-pub mod placed;

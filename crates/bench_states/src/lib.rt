@@ -1,3 +1,0 @@
-// Passes over pairs of manifolds, for the benchmark.
-pub mod state_passes;
-pub mod state_records;

@@ -1,2 +1,0 @@
-// Passes over walls, for the benchmark.
-pub mod wall_passes;

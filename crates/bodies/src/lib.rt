@@ -1,3 +1,0 @@
-// Bodies, pairs and the world, made and changed.
-pub mod changes;
-pub mod world;

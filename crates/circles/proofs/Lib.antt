@@ -1,3 +1,0 @@
-pub mod Sides
-pub mod Meets
-pub mod FirstFour

@@ -1,2 +1,0 @@
-pub mod FirstFour
-pub mod Meetings

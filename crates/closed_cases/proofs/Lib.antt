@@ -1,0 +1,5 @@
+pub mod PolygonCases
+pub mod EdgePolygonCases
+pub mod OutlineHeats
+pub mod WallHeats
+pub mod ExportCases

@@ -1,0 +1,16 @@
+pub mod CirclePoint
+pub mod Refused
+pub mod Fours
+pub mod Joined
+pub mod Tested
+pub mod Walls
+pub mod Ends
+pub mod Sides
+pub mod States
+pub mod Circles
+pub mod Distance
+pub mod Faces
+pub mod ClipRanges
+pub mod KeptEnds
+pub mod Ranges
+pub mod CoreCall

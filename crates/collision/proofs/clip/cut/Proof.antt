@@ -1,0 +1,27 @@
+-- The crossing and its features. Assumes nothing.
+use Rattle.contact_definitions.specs.Clip.{crossing}
+use borrow.Author.Needs.{needs}
+use Rattle.collision.proofs.clip.cut.Statement.{statement}
+use Rattle.collision.proofs.clip.cut.Tie as tie
+
+b2-sub-requires : tie.Need-b2-sub-requires
+b2-sub-requires c κs = search needs
+
+b2-scale-requires : tie.Need-b2-scale-requires
+b2-scale-requires c κs = search needs
+
+b2-add-requires : tie.Need-b2-add-requires
+b2-add-requires c κs = search needs
+
+cast-t12 : tie.Need-cast-t12
+cast-t12 c = search needs
+
+returns : tie.Need-returns
+unfolding crossing
+returns c =
+    let b2-scale = c .before .b2-scale in
+    let b2-sub = c .before .before .b2-sub in
+    simp (c .b2-add .ensures, b2-scale .ensures, b2-sub .ensures)
+
+pub cut-spec : {M : Type 1} → statement M
+cut-spec = tie.close (tie.spec b2-sub-requires b2-scale-requires b2-add-requires cast-t12 returns)

@@ -1,2 +1,0 @@
-pub mod PolygonCases
-pub mod EdgePolygonCases

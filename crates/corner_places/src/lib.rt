@@ -1,2 +1,0 @@
-// Places of an outline's corners, as the loops over them take them.
-pub mod places;

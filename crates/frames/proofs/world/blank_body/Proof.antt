@@ -1,0 +1,35 @@
+-- No shape. Assumes nothing.
+use Rattle.record_definitions.specs.World.{blank-body}
+use borrow.Author.Needs.{needs}
+use Rattle.frames.proofs.world.blank_body.Statement.{statement}
+use Rattle.frames.proofs.world.blank_body.Tie as tie
+
+unplaced-requires : tie.Need-unplaced-requires
+unplaced-requires c κs = search needs
+
+blank-circle-requires : tie.Need-blank-circle-requires
+blank-circle-requires c κs = search needs
+
+blank-outline-requires : tie.Need-blank-outline-requires
+blank-outline-requires c κs = search needs
+
+blank-wall-requires : tie.Need-blank-wall-requires
+blank-wall-requires c κs = search needs
+
+returns : tie.Need-returns
+unfolding blank-body
+returns c =
+    let blank-outline = c .before .blank-outline in
+    let blank-circle = c .before .before .blank-circle in
+    let unplaced = c .before .before .before .unplaced in
+    simp (c .blank-wall .ensures, blank-outline .ensures, blank-circle .ensures, unplaced .ensures)
+
+pub blank-body-spec : {M : Type 1} → statement M
+blank-body-spec =
+    tie.close
+    (tie.spec
+    unplaced-requires
+    blank-circle-requires
+    blank-outline-requires
+    blank-wall-requires
+    returns)

@@ -1,0 +1,25 @@
+-- A circle, at the origin. Assumes nothing.
+use Rattle.record_definitions.specs.World.{circle-body}
+use borrow.Author.Needs.{needs}
+use Rattle.frames.proofs.world.circle_body.Statement.{statement}
+use Rattle.frames.proofs.world.circle_body.Tie as tie
+
+unplaced-requires : tie.Need-unplaced-requires
+unplaced-requires c κs = search needs
+
+blank-outline-requires : tie.Need-blank-outline-requires
+blank-outline-requires c κs = search needs
+
+blank-wall-requires : tie.Need-blank-wall-requires
+blank-wall-requires c κs = search needs
+
+returns : tie.Need-returns
+unfolding circle-body
+returns c =
+    let blank-outline = c .before .blank-outline in
+    let unplaced = c .before .before .unplaced in
+    simp (c .blank-wall .ensures, blank-outline .ensures, unplaced .ensures)
+
+pub circle-body-spec : {M : Type 1} → statement M
+circle-body-spec =
+    tie.close (tie.spec unplaced-requires blank-outline-requires blank-wall-requires returns)

@@ -1,0 +1,25 @@
+-- An outline, at the origin. Assumes nothing.
+use Rattle.record_definitions.specs.World.{outline-body}
+use borrow.Author.Needs.{needs}
+use Rattle.frames.proofs.world.outline_body.Statement.{statement}
+use Rattle.frames.proofs.world.outline_body.Tie as tie
+
+unplaced-requires : tie.Need-unplaced-requires
+unplaced-requires c κs = search needs
+
+blank-circle-requires : tie.Need-blank-circle-requires
+blank-circle-requires c κs = search needs
+
+blank-wall-requires : tie.Need-blank-wall-requires
+blank-wall-requires c κs = search needs
+
+returns : tie.Need-returns
+unfolding outline-body
+returns c =
+    let blank-circle = c .before .blank-circle in
+    let unplaced = c .before .before .unplaced in
+    simp (c .blank-wall .ensures, blank-circle .ensures, unplaced .ensures)
+
+pub outline-body-spec : {M : Type 1} → statement M
+outline-body-spec =
+    tie.close (tie.spec unplaced-requires blank-circle-requires blank-wall-requires returns)

@@ -1,0 +1,25 @@
+-- A wall, at the origin. Assumes nothing.
+use Rattle.record_definitions.specs.World.{wall-body}
+use borrow.Author.Needs.{needs}
+use Rattle.frames.proofs.world.wall_body.Statement.{statement}
+use Rattle.frames.proofs.world.wall_body.Tie as tie
+
+unplaced-requires : tie.Need-unplaced-requires
+unplaced-requires c κs = search needs
+
+blank-circle-requires : tie.Need-blank-circle-requires
+blank-circle-requires c κs = search needs
+
+blank-outline-requires : tie.Need-blank-outline-requires
+blank-outline-requires c κs = search needs
+
+returns : tie.Need-returns
+unfolding wall-body
+returns c =
+    let blank-circle = c .before .blank-circle in
+    let unplaced = c .before .before .unplaced in
+    simp (c .blank-outline .ensures, blank-circle .ensures, unplaced .ensures)
+
+pub wall-body-spec : {M : Type 1} → statement M
+wall-body-spec =
+    tie.close (tie.spec unplaced-requires blank-circle-requires blank-outline-requires returns)

@@ -1,2 +1,0 @@
-// Manifolds made anew from old ones.
-pub mod manifolds;

@@ -1,2 +1,0 @@
-// The contact of two bodies, by their kinds.
-pub mod meeting;

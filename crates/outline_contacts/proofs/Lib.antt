@@ -1,0 +1,7 @@
+pub mod Places
+pub mod Lowest
+pub mod Gathered
+pub mod Separation
+pub mod Chosen
+pub mod Written
+pub mod Axes

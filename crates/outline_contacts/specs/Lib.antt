@@ -1,0 +1,4 @@
+pub mod Rows
+pub mod Faces
+pub mod Outlines
+pub mod OnFace

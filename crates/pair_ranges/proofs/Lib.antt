@@ -1,4 +1,0 @@
-pub mod Fours
-pub mod Joined
-pub mod Tested
-pub mod Walls

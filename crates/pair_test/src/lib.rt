@@ -1,2 +1,0 @@
-// A test of two bodies: contact, world points, point states and touches.
-pub mod testing;

@@ -1,0 +1,292 @@
+-- The loop: after i characters, `SoFar`. Assumes nothing.
+use Prim.Native.Nat.{_-_, _≤_}
+use mathlib.Core.Path.{refl, sym, _∙_}
+use native.Mathlib.Omega.{arith}
+use lib.ListN.{length, take, length-map}
+use lib.Seq.{length-take-le}
+use Rattle.record_definitions.specs.Answer.{said-line}
+use Rattle.record_definitions.specs.Reading.{Reading}
+use Rattle.record_definitions.proofs.Feeding.{SoFar, nothing-yet, next-character, fed-at-end, length-lent, put-fits}
+use Rattle.record.proofs.Turns.{row-held, line-forgets, line-keeps}
+use borrow.Author.Needs.{needs}
+use Rattle.record.proofs.feed.feed.Statement.{statement}
+use Rattle.record.proofs.feed.feed.Tie as tie
+
+abbrev Inv-loop : tie.InvT-loop
+Inv-loop chunk out₀ w₀ line₀ len₀ at₀ i₀ out w line len at i =
+    SoFar said-line chunk out₀ (record { world = w₀; line = take len₀ line₀ }) out w line len at i
+
+abbrev μ-loop : tie.MeasureT-loop
+μ-loop chunk out₀ w₀ line₀ len₀ at₀ i₀ out w line len at i = length chunk - i
+
+held-requires : tie.Need-held-requires Inv-loop μ-loop
+held-requires c κs = search needs
+
+loop-holds : tie.Need-loop-holds Inv-loop μ-loop
+loop-holds c =
+    let args′ = c .before .before .before .before .before .args in
+    let good′ = c .before .before .before .before .before .good in
+    let s = args′ .s in
+    let kept = good′ .0 .1 .1 in
+    nothing-yet said-line _ _ (s .world) (s .line) (c .held .result) (omega (arith, c .held .ensures))
+    (sym (length-map (s .line) _) ∙ kept .1 .0 .1 .0 .1)
+    (sym (length-map (s .world .bodies) _) ∙ kept .0 .1 .1 .0 .1 .0 .1)
+    (sym (length-map (s .world .pairs) _) ∙ kept .0 .1 .1 .1 .0 .1 .0 .1)
+
+sub-if1 : tie.Need-sub-if1 Inv-loop μ-loop
+sub-if1 c = search needs
+
+shared-slice-read-x : tie.Need-shared-slice-read-x Inv-loop μ-loop
+shared-slice-read-x c = search needs
+
+add-i : tie.Need-add-i Inv-loop μ-loop
+add-i c = search needs
+
+array-share-prefix-line : tie.Need-array-share-prefix-line Inv-loop μ-loop
+array-share-prefix-line c = search needs
+
+slice-aggregate-decode : tie.Need-slice-aggregate-decode Inv-loop μ-loop
+slice-aggregate-decode c = sym (length-take-le _ _ (omega arith))
+
+slice-aggregate-decode-2 : tie.Need-slice-aggregate-decode-2 Inv-loop μ-loop
+slice-aggregate-decode-2 c = search needs
+
+decode-requires : tie.Need-decode-requires Inv-loop μ-loop
+decode-requires c κs = search needs
+
+mul-k : tie.Need-mul-k Inv-loop μ-loop
+mul-k c = search needs
+
+add-k : tie.Need-add-k Inv-loop μ-loop
+add-k c = search needs
+
+mul-frame : tie.Need-mul-frame Inv-loop μ-loop
+mul-frame c = search needs
+
+element-copy-out-frame : tie.Need-element-copy-out-frame Inv-loop μ-loop
+element-copy-out-frame c = search needs
+
+mul-frame-2 : tie.Need-mul-frame-2 Inv-loop μ-loop
+mul-frame-2 c = search needs
+
+element-copy-out-frame-2 : tie.Need-element-copy-out-frame-2 Inv-loop μ-loop
+element-copy-out-frame-2 c = search needs
+
+mul-frame-3 : tie.Need-mul-frame-3 Inv-loop μ-loop
+mul-frame-3 c = search needs
+
+element-copy-out-frame-3 : tie.Need-element-copy-out-frame-3 Inv-loop μ-loop
+element-copy-out-frame-3 c = search needs
+
+array-share-prefix-bytes : tie.Need-array-share-prefix-bytes Inv-loop μ-loop
+array-share-prefix-bytes c = search needs
+
+slice-aggregate-frame : tie.Need-slice-aggregate-frame Inv-loop μ-loop
+slice-aggregate-frame c = sym (length-take-le _ _ (omega arith))
+
+frame-requires : tie.Need-frame-requires Inv-loop μ-loop
+frame-requires c κs = search needs
+
+sub-put-said-line : tie.Need-sub-put-said-line Inv-loop μ-loop
+sub-put-said-line c =
+    let before-loop = c .before .before .before .before .before .before .before .before .before in
+    let loop′ = before-loop .before .before .before .before .before .loop in
+    omega (arith, loop′ .inv .at-within, loop′ .inv .out-size)
+
+part-put-said-line-start : tie.Need-part-put-said-line-start Inv-loop μ-loop
+part-put-said-line-start c =
+    let before-loop = c .before .before .before .before .before .before .before .before .before in
+    let loop′ = before-loop .before .before .before .before .before .loop in
+    omega (arith, loop′ .inv .at-within, loop′ .inv .out-size)
+
+part-put-said-line-end : tie.Need-part-put-said-line-end Inv-loop μ-loop
+part-put-said-line-end c = search needs
+
+put-said-line-requires : tie.Need-put-said-line-requires Inv-loop μ-loop
+put-said-line-requires c κs =
+    let before-if1 = c .before .before .before .before .before .before .before .before .before in
+    let if1′ = before-if1 .before .before .before .before .if1 in
+    let loop′ = before-if1 .before .before .before .before .before .before .loop in
+    let within : loop′ .at ≤ length (loop′ .out) =
+    omega (arith, loop′ .inv .at-within, loop′ .inv .out-size) in
+    omega (arith, if1′ .left, length-lent (loop′ .at) (loop′ .out) within)
+
+add-at : tie.Need-add-at Inv-loop μ-loop
+add-at c =
+    let put-said-line′ = c .before .before .put-said-line in
+    let before-loop = c .before .before .before .before .before .before .before .before .before in
+    let at-loop = before-loop .before .before .before .before .before .before .before .before .before in
+    let loop′ = at-loop .loop in
+    let good′ = at-loop .before .before .before .before .before .before .good in
+    let within : loop′ .at ≤ length (loop′ .out) =
+    omega (arith, loop′ .inv .at-within, loop′ .inv .out-size) in
+    let fits = put-fits (loop′ .at) (put-said-line′ .result) (loop′ .out) _ _ within (put-said-line′ .kept .0)
+    (put-said-line′ .ensures) in
+    omega (arith, fits, loop′ .inv .out-size, good′ .1 .1 .0 .0)
+
+mul-body : tie.Need-mul-body Inv-loop μ-loop
+mul-body c = search needs
+
+element-set-from-body : tie.Need-element-set-from-body Inv-loop μ-loop
+element-set-from-body c = search needs
+
+forget-requires : tie.Need-forget-requires Inv-loop μ-loop
+forget-requires c κs = search needs
+
+loop-less : tie.Need-loop-less Inv-loop μ-loop
+loop-less c =
+    let before-loop-test = c .before .before .before .before .before .before .before .before .before in
+    let before-loop-test = before-loop-test .before .before .before .before .before .before .before .before .before in
+    let loop-test′ = before-loop-test .before .before .before .loop-test in
+    omega (arith, loop-test′ .taken)
+
+loop-again : tie.Need-loop-again Inv-loop μ-loop
+loop-again c =
+    let if3′ = c .before .before .if3 in
+    let put-said-line′ = c .before .before .before .before .before .before .put-said-line in
+    let at-frame = c .before .before .before .before .before .before .before .before .before in
+    let frame′ = at-frame .frame in
+    let decode′ = at-frame .before .before .before .before .before .before .decode in
+    let at-if2 = at-frame .before .before .before .before .before .before .before .before .before in
+    let if2′ = at-if2 .if2 in
+    let loop-test′ = at-if2 .before .before .before .loop-test in
+    let loop′ = at-if2 .before .before .before .before .loop in
+    let before-args = at-if2 .before .before .before .before .before .before .before .before .before in
+    let args′ = before-args .before .args in
+    line-forgets (args′ .chunk .now) (args′ .out .now) _ (loop′ .out) (loop′ .w) (loop′ .line)
+    (loop′ .len) (loop′ .at) (loop′ .i) _ (loop′ .inv) (loop-test′ .taken) refl (if2′ .taken) _
+    (decode′ .ensures .decoded .bytes) (decode′ .result .first) (decode′ .result .second)
+    (decode′ .ensures .first-is) (decode′ .ensures .second-is) _ _ _ (frame′ .result) (frame′ .ensures) _
+    (put-said-line′ .result) (put-said-line′ .kept .0) (put-said-line′ .ensures) (c .forget .result)
+    (if3′ .taken) (c .forget .ensures)
+
+mul-pair : tie.Need-mul-pair Inv-loop μ-loop
+mul-pair c = search needs
+
+element-set-from-pair : tie.Need-element-set-from-pair Inv-loop μ-loop
+element-set-from-pair c = search needs
+
+loop-less-2 : tie.Need-loop-less-2 Inv-loop μ-loop
+loop-less-2 c =
+    let before-loop-test = c .before .before .before .before .before .before .before .before .before in
+    let before-loop-test = before-loop-test .before .before .before .before .before .before .before .before .before in
+    let loop-test′ = before-loop-test .before .before .loop-test in
+    omega (arith, loop-test′ .taken)
+
+loop-again-2 : tie.Need-loop-again-2 Inv-loop μ-loop
+loop-again-2 c =
+    let if3′ = c .before .if3 in
+    let put-said-line′ = c .before .before .before .before .before .put-said-line in
+    let at-frame = c .before .before .before .before .before .before .before .before in
+    let frame′ = at-frame .frame in
+    let decode′ = at-frame .before .before .before .before .before .before .decode in
+    let at-if2 = at-frame .before .before .before .before .before .before .before .before .before in
+    let if2′ = at-if2 .if2 in
+    let loop-test′ = at-if2 .before .before .before .loop-test in
+    let loop′ = at-if2 .before .before .before .before .loop in
+    let before-args = at-if2 .before .before .before .before .before .before .before .before .before in
+    let args′ = before-args .before .args in
+    line-keeps (args′ .chunk .now) (args′ .out .now) _ (loop′ .out) (loop′ .w) (loop′ .line)
+    (loop′ .len) (loop′ .at) (loop′ .i) _ (loop′ .inv) (loop-test′ .taken) refl (if2′ .taken) _
+    (decode′ .ensures .decoded .bytes) (decode′ .result .first) (decode′ .result .second)
+    (decode′ .ensures .first-is) (decode′ .ensures .second-is) _ _ _ (frame′ .result) (frame′ .ensures) _
+    (put-said-line′ .result) (put-said-line′ .kept .0) (put-said-line′ .ensures) (if3′ .left)
+
+keep-requires : tie.Need-keep-requires Inv-loop μ-loop
+keep-requires c κs = search needs
+
+loop-less-3 : tie.Need-loop-less-3 Inv-loop μ-loop
+loop-less-3 c = search needs
+
+loop-again-3 : tie.Need-loop-again-3 Inv-loop μ-loop
+loop-again-3 c =
+    let if2′ = c .before .before .if2 in
+    let loop-test′ = c .before .before .before .before .before .loop-test in
+    let loop′ = c .before .before .before .before .before .before .loop in
+    let before-args = c .before .before .before .before .before .before .before .before .before in
+    let args′ = before-args .before .before .before .args in
+    next-character said-line (args′ .chunk .now) (args′ .out .now) _ (loop′ .out) (loop′ .w)
+    (loop′ .line) (loop′ .len) (loop′ .at) (loop′ .i) _ (loop′ .inv) (loop-test′ .taken) refl _ (c .keep .result)
+    (if2′ .left) (c .keep .ensures .0) (c .keep .ensures .1) (c .keep .ensures .2)
+
+same-length : tie.Need-same-length Inv-loop μ-loop
+same-length c = search needs
+
+returns : tie.Need-returns Inv-loop μ-loop
+returns c =
+    let loop′ = c .before .loop in
+    let held′ = c .before .before .held in
+    let at-args = c .before .before .before .before .before .before .before in
+    let args′ = at-args .args in
+    let good′ = at-args .good in
+    let s = args′ .s in
+    let size = sym (length-map (s .line) _) ∙ good′ .0 .1 .1 .1 .0 .1 .0 .1 in
+    let row = row-held (s .line) (s .len) (held′ .result) (held′ .ensures) size in
+    let so-far = rw row at (loop′ .inv) in
+    fed-at-end s _ (args′ .out .now) _ _ _ _ _ _ so-far
+    (λ room. omega arith)
+
+same-length-2 : tie.Need-same-length-2 Inv-loop μ-loop
+same-length-2 c = search needs
+
+returns-2 : tie.Need-returns-2 Inv-loop μ-loop
+returns-2 c =
+    let loop′ = c .before .before .loop in
+    let held′ = c .before .before .before .held in
+    let at-args = c .before .before .before .before .before .before .before .before in
+    let args′ = at-args .args in
+    let good′ = at-args .good in
+    let s = args′ .s in
+    let size = sym (length-map (s .line) _) ∙ good′ .0 .1 .1 .1 .0 .1 .0 .1 in
+    let row = row-held (s .line) (s .len) (held′ .result) (held′ .ensures) size in
+    let so-far = rw row at (loop′ .inv) in
+    fed-at-end s _ (args′ .out .now) _ _ _ _ _ _ so-far
+    (λ room. absurd (omega (arith, c .if1 .taken, loop′ .inv .out-size)))
+
+pub feed-spec : {M : Type 1} → statement M
+feed-spec =
+    tie.close
+    (tie.spec
+    Inv-loop
+    μ-loop
+    held-requires
+    loop-holds
+    sub-if1
+    shared-slice-read-x
+    add-i
+    array-share-prefix-line
+    slice-aggregate-decode
+    slice-aggregate-decode-2
+    decode-requires
+    mul-k
+    add-k
+    mul-frame
+    element-copy-out-frame
+    mul-frame-2
+    element-copy-out-frame-2
+    mul-frame-3
+    element-copy-out-frame-3
+    array-share-prefix-bytes
+    slice-aggregate-frame
+    frame-requires
+    sub-put-said-line
+    part-put-said-line-start
+    part-put-said-line-end
+    put-said-line-requires
+    add-at
+    mul-body
+    element-set-from-body
+    forget-requires
+    loop-less
+    loop-again
+    mul-pair
+    element-set-from-pair
+    loop-less-2
+    loop-again-2
+    keep-requires
+    loop-less-3
+    loop-again-3
+    same-length
+    returns
+    same-length-2
+    returns-2)

@@ -1,0 +1,135 @@
+// Input that comes in pieces: the world, and the line so far.
+ghost use mathlib.Core.Path.{_≡_};
+ghost use Prim.Native.Nat.{_≤_, _<_, _%_, min};
+ghost use lib.ListN.{length, take};
+ghost use Rattle.lines.specs.Fields.{byte-at};
+ghost use Rattle.lines.specs.Hex.{largest-frame};
+ghost use Rattle.record.specs.Names.{Named};
+ghost use Rattle.record_definitions.specs.Reading.{kept-length, with-character, begin, reading, FedAs};
+use crate::said;
+use crate::said::LONGEST_LINE;
+use frames::frame;
+use frames::world;
+use lines::fields;
+use lines::hex;
+use lines::hex::LARGEST_FRAME;
+use lines::hex::LINE_FEED;
+use lines::hex::LINE_LIMIT;
+use record_definitions::reader::Fed;
+use record_definitions::reader::Reader;
+
+// The characters of a line that are kept: one more than the longest line has.
+const KEPT_LENGTH: usize = LINE_LIMIT + 1;
+
+// The state before any input.
+pub fn start() -> Reader
+    ensures { λ r. ⌜ reading r ≡ begin ⌝ }
+{
+    let world = world::fresh_world();
+    let line = [0u8; KEPT_LENGTH];
+    Reader {
+        world,
+        line,
+        len: 0,
+    }
+}
+
+// The place of a body that a frame names: below 8, whatever the byte.
+fn place(bytes: &[u8], at: usize) -> usize
+    ensures { λ r. ⌜ (r ≡ byte-at (now (bytes .entry)) at % 8) × (r < 8) ⌝ }
+{
+    (fields::byte(bytes, at) % 8) as usize
+}
+
+// A line that was read: the bytes that it says, and the places of the two bodies that they name.
+pub struct Names {
+    pub count: usize,
+    pub first: usize,
+    pub second: usize,
+}
+
+fn decode(line: &[u8], bytes: &mut [u8]) -> Names
+    requires { ⌜ largest-frame ≤ length (now bytes) ⌝ }
+    ensures { λ r. ⌜ Named (now (line .entry)) r (now (bytes .exit)) ⌝ }
+{
+    let count = hex::unhex(line, bytes);
+    let first = place(&bytes[..count], 1);
+    let second = place(&bytes[..count], 2);
+    Names {
+        count,
+        first,
+        second,
+    }
+}
+
+// A count of the characters kept; one past the row says the whole row.
+fn held(len: usize) -> usize
+    ensures { λ r. ⌜ r ≡ min len kept-length ⌝ }
+{
+    if len > KEPT_LENGTH { KEPT_LENGTH } else { len }
+}
+
+// One more character of a line, of which the first are kept; how many are.
+fn keep(line: &mut [u8; KEPT_LENGTH], len: usize, x: u8) -> usize
+    requires { ⌜ (len ≤ kept-length) × (length (now line) ≡ kept-length) ⌝ }
+    ensures { λ r. ⌜ (take r (now (line .exit)) ≡ with-character (take len (now (line .entry))) x)
+        × (r ≤ kept-length) × (length (now (line .exit)) ≡ kept-length) ⌝ }
+{
+    if len < KEPT_LENGTH {
+        line[len] = x;
+        return len + 1;
+    }
+    len
+}
+
+// The input in a piece, up to where the output has no room for another line.
+pub fn feed(s: Reader, chunk: &[u8], out: &mut [u8]) -> Fed
+    ensures { λ r. ⌜ FedAs s (now (chunk .entry)) (now (out .entry)) r (now (out .exit)) ⌝ }
+{
+    let mut w = s.world;
+    let mut line = s.line;
+    let mut len = held(s.len);
+    let mut at = 0usize;
+    let mut i = 0usize;
+    while i < chunk.len() {
+        if out.len() - at < LONGEST_LINE {
+            break;
+        }
+        let x = chunk[i];
+        i += 1;
+        if x == LINE_FEED {
+            let mut bytes = [0u8; LARGEST_FRAME];
+            let d = decode(&line[..len], &mut bytes);
+            len = 0;
+            let n = d.count;
+            let a = d.first;
+            let b = d.second;
+            let k = 8 * a + b;
+            let c = frame::frame(w.bodies[a], w.bodies[b], w.pairs[k], &bytes[..n]);
+            let said = c.said;
+            at += said::put_said_line(&mut out[at..], said);
+            let body = c.body;
+            w.bodies[a] = body;
+            if c.forget {
+                let pairs = w.pairs;
+                let fresh = world::forget(pairs, a);
+                w.pairs = fresh;
+            } else {
+                let pair = c.pair;
+                w.pairs[k] = pair;
+            }
+        } else {
+            len = keep(&mut line, len, x);
+        }
+    }
+    let reader = Reader {
+        world: w,
+        line,
+        len,
+    };
+    Fed {
+        reader,
+        taken: i,
+        written: at,
+    }
+}

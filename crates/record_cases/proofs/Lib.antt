@@ -1,3 +1,0 @@
-pub mod OutlineHeats
-pub mod WallHeats
-pub mod ExportCases

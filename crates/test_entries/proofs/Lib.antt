@@ -1,0 +1,5 @@
+pub mod Numbers
+pub mod Walls
+pub mod Outlines
+pub mod ShapeDispatch
+pub mod ContactDispatch

@@ -1,0 +1,95 @@
+// The entries that make and test shapes: the number of words written, 0 for a malformed request or an output too short.
+ghost use mathlib.Core.Path.{_≡_};
+ghost use Prim.Native.Nat.{_≤_};
+ghost use Rattle.wire.specs.Words.{Written};
+ghost use Rattle.test_entries.specs.ShapeEntries.{set-answer, box-answer, box-angle-answer, validate-answer};
+ghost use Rattle.test_entries.specs.ShapeEntries.{shape-answer};
+use crate::wall_entries;
+use lines::fields;
+use shapes::b2_polygon_shape;
+use wire::records;
+use wire::words;
+
+fn at_most_eight(n: usize) -> usize
+    ensures { λ r. ⌜ (r ≤ n) × (r ≤ 8) × (n ≤ 8 → r ≡ n) ⌝ }
+{
+    if n < 8 { n } else { 8 }
+}
+
+// 1, an outline, n, n points: the outline of the points.
+pub fn set(input: &[u8], out: &mut [u8]) -> u32
+    ensures { λ r. ⌜ Written (set-answer (now (input .entry))) (now (out .entry)) r (now (out .exit)) ⌝ }
+{
+    if input.len() < 152 {
+        return 0;
+    }
+    let n = words::word(input, 37) as usize;
+    if input.len() != 4 * (38 + 2 * n) {
+        return 0;
+    }
+    let old = records::polygon(input, 1);
+    let points = records::points(input, 38, at_most_eight(n));
+    let answer = b2_polygon_shape::b2_polygon_shape_set_core(old, points, n);
+    records::put_polygon(out, answer)
+}
+
+// 2, an outline, hx, hy: a box.
+pub fn set_as_box(input: &[u8], out: &mut [u8]) -> u32
+    ensures { λ r. ⌜ Written (box-answer (now (input .entry))) (now (out .entry)) r (now (out .exit)) ⌝ }
+{
+    if input.len() != 156 {
+        return 0;
+    }
+    let old = records::polygon(input, 1);
+    let hx = records::float(input, 37);
+    let hy = records::float(input, 38);
+    let answer = b2_polygon_shape::b2_polygon_shape_set_as_box(old, hx, hy);
+    records::put_polygon(out, answer)
+}
+
+// 3, an outline, hx, hy, the centre, sine, cosine: a box that is turned and moved.
+pub fn set_as_box_angle(input: &[u8], out: &mut [u8]) -> u32
+    ensures { λ r. ⌜ Written (box-angle-answer (now (input .entry))) (now (out .entry)) r (now (out .exit)) ⌝ }
+{
+    if input.len() != 172 {
+        return 0;
+    }
+    let old = records::polygon(input, 1);
+    let hx = records::float(input, 37);
+    let hy = records::float(input, 38);
+    let center = records::vector(input, 39);
+    let q = records::rotation(input, 41);
+    let answer = b2_polygon_shape::b2_polygon_shape_set_as_box_angle(old, hx, hy, center, q);
+    records::put_polygon(out, answer)
+}
+
+// 4, an outline: whether it is convex.
+pub fn validate(input: &[u8], out: &mut [u8]) -> u32
+    ensures { λ r. ⌜ Written (validate-answer (now (input .entry))) (now (out .entry)) r (now (out .exit)) ⌝ }
+{
+    if input.len() != 148 {
+        return 0;
+    }
+    let shape = records::polygon(input, 1);
+    let validity = b2_polygon_shape::b2_polygon_shape_validate(shape);
+    let answer = [
+        fields::wide(validity.refusal),
+        records::flag(validity.valid),
+    ];
+    words::put_words(out, &answer)
+}
+
+// The entry of this number, or 0 where no entry here has it.
+pub fn call(entry: u32, input: &[u8], out: &mut [u8]) -> u32
+    ensures { λ r. ⌜ Written (shape-answer entry (now (input .entry))) (now (out .entry)) r (now (out .exit)) ⌝ }
+{
+    match entry {
+        1 => set(input, out),
+        2 => set_as_box(input, out),
+        3 => set_as_box_angle(input, out),
+        4 => validate(input, out),
+        5 => wall_entries::set_one_sided(input, out),
+        6 => wall_entries::set_two_sided(input, out),
+        _ => 0,
+    }
+}

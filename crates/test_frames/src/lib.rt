@@ -1,2 +1,0 @@
-// Frame 05: a test of two bodies.
-pub mod test_frame;

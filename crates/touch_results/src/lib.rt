@@ -1,2 +1,0 @@
-// The parts of a test's result.
-pub mod touch;

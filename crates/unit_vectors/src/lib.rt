@@ -1,2 +1,0 @@
-// Vectors made unit by one factor.
-pub mod unit;

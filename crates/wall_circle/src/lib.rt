@@ -1,2 +1,0 @@
-// Wall against circle, without the range tests of its public call.
-pub mod edge_circle;

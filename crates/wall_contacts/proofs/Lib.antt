@@ -1,0 +1,13 @@
+pub mod Filled
+pub mod Scans
+pub mod Smoothing
+pub mod Regions
+pub mod EdgeSide
+pub mod FaceScan
+pub mod Against
+pub mod References
+pub mod Clipped
+pub mod PlacedReferences
+pub mod PlacesOf
+pub mod AxisFound
+pub mod Manifolds

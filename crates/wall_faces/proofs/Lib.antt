@@ -1,2 +1,0 @@
-pub mod PlacesOf
-pub mod AxisFound

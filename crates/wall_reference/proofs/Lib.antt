@@ -1,2 +1,0 @@
-pub mod Against
-pub mod References

@@ -1,2 +1,0 @@
-// Wall against outline: the outline in the wall's frame, as rows of one coordinate.
-pub mod rows;

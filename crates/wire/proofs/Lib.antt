@@ -1,0 +1,5 @@
+pub mod Bytes
+pub mod Requests
+pub mod Rows
+pub mod Pairs
+pub mod PointPairs

@@ -1,2 +1,0 @@
-// Answers of the calls of two shapes, to words.
-pub mod contact_answers;

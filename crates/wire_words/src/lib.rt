@@ -1,2 +1,0 @@
-// Requests and answers as words of four bytes.
-pub mod words;

@@ -1,2 +1,0 @@
-pub mod Circles
-pub mod Distance

@@ -1,2 +1,0 @@
-// The world points of circles, once the input is tested.
-pub mod circle_points;
