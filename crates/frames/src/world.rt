@@ -21,8 +21,8 @@ use shape_definitions::b2_edge_shape::B2edgeShape;
 use shape_definitions::b2_polygon_shape::B2polygonShape;
 
 // At the origin, unturned.
-pub fn unplaced() -> B2Transform
-    ensures { λ r. ⌜ r ≡ worlds.unplaced ⌝ }
+pub fn at_origin() -> B2Transform
+    ensures { λ r. ⌜ r ≡ worlds.at-origin ⌝ }
 {
     B2Transform {
         p: B2vec2 { x: 0.0, y: 0.0 },
@@ -73,7 +73,7 @@ pub fn blank_body() -> Body
 {
     Body {
         kind: NO_BODY,
-        xf: unplaced(),
+        xf: at_origin(),
         circle: blank_circle(),
         outline: blank_outline(),
         wall: blank_wall(),
@@ -85,7 +85,7 @@ pub fn circle_body(circle: B2circleShape) -> Body
 {
     Body {
         kind: CIRCLE,
-        xf: unplaced(),
+        xf: at_origin(),
         circle,
         outline: blank_outline(),
         wall: blank_wall(),
@@ -97,7 +97,7 @@ pub fn outline_body(outline: B2polygonShape) -> Body
 {
     Body {
         kind: OUTLINE,
-        xf: unplaced(),
+        xf: at_origin(),
         circle: blank_circle(),
         outline,
         wall: blank_wall(),
@@ -109,7 +109,7 @@ pub fn wall_body(wall: B2edgeShape) -> Body
 {
     Body {
         kind: WALL,
-        xf: unplaced(),
+        xf: at_origin(),
         circle: blank_circle(),
         outline: blank_outline(),
         wall,

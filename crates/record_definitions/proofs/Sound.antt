@@ -24,7 +24,7 @@ use Rattle.record_definitions.specs.declared.world.Body.{Body}
 use Rattle.record_definitions.specs.declared.world.Pair.{Pair}
 use Rattle.record_definitions.specs.declared.world.World.{World}
 use Rattle.record_definitions.specs.World.{fresh-pair}
-use Rattle.record_definitions.specs.World.{circle-kind, outline-kind, wall-kind, unplaced, blank-outline}
+use Rattle.record_definitions.specs.World.{circle-kind, outline-kind, wall-kind, at-origin, blank-outline}
 use Rattle.record_definitions.specs.World.{blank-wall, blank-body, circle-body, outline-body, wall-body, placed}
 use Rattle.record_definitions.specs.World.{body-at}
 use Rattle.record_definitions.specs.Frame.{circle-at}
@@ -67,9 +67,9 @@ fresh-pair-sound =
     record { last = default-manifold; two-places = refl; few = omega arith; ids-are = refl; held = omega arith }
 
 -- ---- bodies that frames make
-unplaced-in-range : transform-in-range unplaced ≡ true
+at-origin-in-range : transform-in-range at-origin ≡ true
 unfolding transform-in-range point-in-range rotation-in-range ofBits neg le
-unplaced-in-range = refl
+at-origin-in-range = refl
 
 skin-in-range : radius-in-range (blank-wall .«m_radius») ≡ true
 unfolding radius-in-range ofBits le
@@ -78,7 +78,7 @@ skin-in-range = refl
 pub blank-sound : SoundBody blank-body
 unfolding blank-body
 blank-sound = record {
-  placement = unplaced-in-range;
+  placement = at-origin-in-range;
   circle = λ never. absurd (omega arith);
   outline = λ never. absurd (omega arith);
   wall = λ never. absurd (omega arith);
@@ -88,7 +88,7 @@ pub circle-sound : (bytes : List ℕ) → circle-in-range (circle-at bytes) ≡ 
     → SoundBody (circle-body (circle-at bytes))
 unfolding circle-body
 circle-sound bytes taken = record {
-  placement = unplaced-in-range;
+  placement = at-origin-in-range;
   circle = λ is. taken;
   outline = λ never. absurd (omega arith);
   wall = λ never. absurd (omega arith);
@@ -97,7 +97,7 @@ circle-sound bytes taken = record {
 pub outline-sound : (outline : B2polygonShape) → Built outline → SoundBody (outline-body outline)
 unfolding outline-body
 outline-sound outline built = record {
-  placement = unplaced-in-range;
+  placement = at-origin-in-range;
   circle = λ never. absurd (omega arith);
   outline = λ is. built;
   wall = λ never. absurd (omega arith);
@@ -106,7 +106,7 @@ outline-sound outline built = record {
 pub wall-sound : (wall : B2edgeShape) → edge-in-range wall ≡ true → SoundBody (wall-body wall)
 unfolding wall-body
 wall-sound wall taken = record {
-  placement = unplaced-in-range;
+  placement = at-origin-in-range;
   circle = λ never. absurd (omega arith);
   outline = λ never. absurd (omega arith);
   wall = λ is. taken;

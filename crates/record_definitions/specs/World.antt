@@ -31,8 +31,8 @@ abbrev pub wall-kind : ℕ
 wall-kind = 3
 
 -- a new shape is placed at the origin, unturned
-abbrev pub unplaced : B2Transform
-unplaced = record { p = origin; q = rot zero32 one32 }
+abbrev pub at-origin : B2Transform
+at-origin = record { p = origin; q = rot zero32 one32 }
 
 abbrev pub blank-circle : B2circleShape
 blank-circle = record { «m_radius» = zero32; «m_p» = origin }
@@ -60,7 +60,7 @@ blank-wall = record {
 abbrev pub new-body : ℕ → B2circleShape → B2polygonShape → B2edgeShape → Body
 new-body kind circle outline wall = record {
   kind = kind;
-  xf = unplaced;
+  xf = at-origin;
   circle = circle;
   outline = outline;
   wall = wall;

@@ -21,7 +21,7 @@ use Rattle.shape_definitions.specs.Polygon.{all-points, b2-polygon-shape-set}
 use Rattle.shape_definitions.specs.Refusal.{accepted}
 use Rattle.contact_definitions.proofs.Counts.{either}
 use Rattle.record_definitions.specs.declared.world.Body.{Body}
-use Rattle.record_definitions.specs.World.{unplaced, blank-outline, blank-wall, blank-body, circle-body}
+use Rattle.record_definitions.specs.World.{at-origin, blank-outline, blank-wall, blank-body, circle-body}
 use Rattle.record_definitions.specs.World.{outline-body, wall-body, placed}
 use Rattle.record_definitions.specs.Touch.{skin}
 use Rattle.record_definitions.specs.Frame.{circle-at, wall-at}
@@ -89,8 +89,8 @@ placement-caps bytes taken =
     record { turn = turn-caps bytes 10 (each .1); position = point-caps bytes 2 (each .0) }
 
 -- ---- bodies that frames make
-unplaced-caps : AtPlace unplaced
-unplaced-caps =
+at-origin-caps : AtPlace at-origin
+at-origin-caps =
     record { turn = record { sine = zero-cap 0; cosine = one-cap }; position = origin-caps 20 }
 
 blank-wall-caps : WallCaps blank-wall
@@ -106,7 +106,7 @@ skin-is-taken = holds (radius-in-range b2-polygon-radius) skin-taken
 pub blank-capped : CappedBody blank-body
 unfolding blank-body skin
 blank-capped = record {
-  place = unplaced-caps;
+  place = at-origin-caps;
   circle = record { centre = origin-caps 20 };
   outline = blank-outline-caps;
   wall = blank-wall-caps;
@@ -119,7 +119,7 @@ unfolding circle-body circle-in-range skin
 circle-capped bytes taken =
     let each = both (radius-in-range (float-at bytes 10)) (point-in-range (vector-at bytes 2)) taken in
     record {
-      place = unplaced-caps;
+      place = at-origin-caps;
       circle = record { centre = point-caps bytes 2 (each .1) };
       outline = blank-outline-caps;
       wall = blank-wall-caps;
@@ -132,7 +132,7 @@ pub outline-capped : (bytes : List ℕ) (n : ℕ)
     → CappedBody (outline-body (b2-polygon-shape-set blank-outline (points-at bytes 3 n) .shape))
 unfolding outline-body skin
 outline-capped bytes n taken radius-is = record {
-  place = unplaced-caps;
+  place = at-origin-caps;
   circle = record { centre = origin-caps 20 };
   outline = built-caps (points-at bytes 3 n) (points-caps bytes 3 n) taken;
   wall = blank-wall-caps;
@@ -178,7 +178,7 @@ unfolding wall-body skin WallIf
 wall-capped bytes taken =
     let caps = wall-at-caps bytes taken in
     record {
-      place = unplaced-caps;
+      place = at-origin-caps;
       circle = record { centre = origin-caps 20 };
       outline = blank-outline-caps;
       wall = caps .0;

@@ -4,8 +4,8 @@ use borrow.Author.Needs.{needs}
 use Rattle.frames.proofs.world.blank_body.Statement.{statement}
 use Rattle.frames.proofs.world.blank_body.Tie as tie
 
-unplaced-requires : tie.Need-unplaced-requires
-unplaced-requires c κs = search needs
+at-origin-requires : tie.Need-at-origin-requires
+at-origin-requires c κs = search needs
 
 blank-circle-requires : tie.Need-blank-circle-requires
 blank-circle-requires c κs = search needs
@@ -21,14 +21,14 @@ unfolding blank-body
 returns c =
     let blank-outline = c .before .blank-outline in
     let blank-circle = c .before .before .blank-circle in
-    let unplaced = c .before .before .before .unplaced in
-    simp (c .blank-wall .ensures, blank-outline .ensures, blank-circle .ensures, unplaced .ensures)
+    let at-origin = c .before .before .before .at-origin in
+    simp (c .blank-wall .ensures, blank-outline .ensures, blank-circle .ensures, at-origin .ensures)
 
 pub blank-body-spec : {M : Type 1} → statement M
 blank-body-spec =
     tie.close
     (tie.spec
-    unplaced-requires
+    at-origin-requires
     blank-circle-requires
     blank-outline-requires
     blank-wall-requires

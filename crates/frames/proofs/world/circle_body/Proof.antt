@@ -4,8 +4,8 @@ use borrow.Author.Needs.{needs}
 use Rattle.frames.proofs.world.circle_body.Statement.{statement}
 use Rattle.frames.proofs.world.circle_body.Tie as tie
 
-unplaced-requires : tie.Need-unplaced-requires
-unplaced-requires c κs = search needs
+at-origin-requires : tie.Need-at-origin-requires
+at-origin-requires c κs = search needs
 
 blank-outline-requires : tie.Need-blank-outline-requires
 blank-outline-requires c κs = search needs
@@ -17,9 +17,9 @@ returns : tie.Need-returns
 unfolding circle-body
 returns c =
     let blank-outline = c .before .blank-outline in
-    let unplaced = c .before .before .unplaced in
-    simp (c .blank-wall .ensures, blank-outline .ensures, unplaced .ensures)
+    let at-origin = c .before .before .at-origin in
+    simp (c .blank-wall .ensures, blank-outline .ensures, at-origin .ensures)
 
 pub circle-body-spec : {M : Type 1} → statement M
 circle-body-spec =
-    tie.close (tie.spec unplaced-requires blank-outline-requires blank-wall-requires returns)
+    tie.close (tie.spec at-origin-requires blank-outline-requires blank-wall-requires returns)

@@ -4,8 +4,8 @@ use borrow.Author.Needs.{needs}
 use Rattle.frames.proofs.world.wall_body.Statement.{statement}
 use Rattle.frames.proofs.world.wall_body.Tie as tie
 
-unplaced-requires : tie.Need-unplaced-requires
-unplaced-requires c κs = search needs
+at-origin-requires : tie.Need-at-origin-requires
+at-origin-requires c κs = search needs
 
 blank-circle-requires : tie.Need-blank-circle-requires
 blank-circle-requires c κs = search needs
@@ -17,9 +17,9 @@ returns : tie.Need-returns
 unfolding wall-body
 returns c =
     let blank-circle = c .before .blank-circle in
-    let unplaced = c .before .before .unplaced in
-    simp (c .blank-outline .ensures, blank-circle .ensures, unplaced .ensures)
+    let at-origin = c .before .before .at-origin in
+    simp (c .blank-outline .ensures, blank-circle .ensures, at-origin .ensures)
 
 pub wall-body-spec : {M : Type 1} → statement M
 wall-body-spec =
-    tie.close (tie.spec unplaced-requires blank-circle-requires blank-outline-requires returns)
+    tie.close (tie.spec at-origin-requires blank-circle-requires blank-outline-requires returns)
