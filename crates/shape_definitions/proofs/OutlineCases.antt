@@ -1,6 +1,6 @@
 -- The marked cases of document 01 about outlines and validate, each with its whole answer, computed by antt from the
--- definitions; the given shape is any. Accepted ones are what Box2D 2.4.1 and the Rust agree on, as bit patterns.
--- Assumes nothing.
+-- definitions, whatever shape the call was given; validate's is any of no corners with its radius and centroid in range.
+-- Accepted ones are what Box2D 2.4.1 and the Rust agree on, as bit patterns. Assumes nothing.
 use mathlib.Core.Path.{_≡_, refl}
 use mathlib.Core.Bool.{true}
 use mathlib.Core.List.{List, [], _∷_}
@@ -32,16 +32,6 @@ square-and-fifth =
     vector 0 0 ∷ vector 0x3f80_0000 0 ∷ vector 0x3f80_0000 0x3f80_0000 ∷ vector 0 0x3f80_0000
     ∷ vector 0x3f00_0000 0 ∷ []
 
--- an outline of no corners, whatever stands in its places
-abbrev without-corners : List B2vec2 → List B2vec2 → B2polygonShape
-without-corners vertices normals = record {
-  «m_radius» = float 0x3c23_d70a;
-  «m_centroid» = vector 0 0;
-  «m_vertices» = vertices;
-  «m_normals» = normals;
-  «m_count» = 0;
-}
-
 pub record OutlineCases (old : B2polygonShape) : Type 0 where
   pub two-points : b2-polygon-shape-set old (vector 0 0 ∷ vector 0x3f80_0000 0 ∷ []) ≡ turned-down 1 old
   pub nine-points : (a b c d e f g h i : B2vec2)
@@ -62,8 +52,9 @@ pub record OutlineCases (old : B2polygonShape) : Type 0 where
       (vector 0x3f80_0000 0 ∷ vector 0x3f80_0000 0x3f80_0000 ∷ vector 0 0x3f80_0000 ∷ vector 0 0 ∷ [])
       (vector 0x3f80_0000 0x8000_0000 ∷ vector 0 0x3f80_0000 ∷ vector 0xbf80_0000 0x8000_0000
       ∷ vector 0 0xbf80_0000 ∷ [])
-  pub no-corners-are-convex : (vertices normals : List B2vec2)
-      → b2-polygon-shape-validate (without-corners vertices normals) ≡ tested 0 true
+  -- whatever stands in the places for corners and normals
+  pub no-corners-are-convex : old .«m_count» ≡ 0 → radius-in-range (old .«m_radius») ≡ true
+      → point-in-range (old .«m_centroid») ≡ true → b2-polygon-shape-validate old ≡ tested 0 true
 
 pub outline-cases : (old : B2polygonShape) → OutlineCases old
 unfolding b2-polygon-shape-set outline-of-welded outline-of-corners welded too-near comes-before start closer next row
@@ -79,5 +70,5 @@ outline-cases old = record {
   line-does-not-close = refl;
   area-is-too-small = refl;
   fifth-is-no-corner = refl;
-  no-corners-are-convex = λ vertices normals. refl;
+  no-corners-are-convex = λ none radius centroid. rw (none, radius, centroid) refl;
 }
