@@ -101,10 +101,20 @@ add_up() {
     fi
 }
 
-# summary: the last line of a suite, and its status
+# summary: the last two lines of a suite, its seconds and its count, and its status
 summary() {
+    echo "seconds: $SECONDS"
     echo "suite: $passed passed, $failed failed"
     [ $failed -eq 0 ]
+}
+
+# kit: the identity of the toolchain, and where docs/CLAIMS.md names another; no failure, since every kit decides alike
+kit() {
+    local here named
+    here=$(rt version)
+    named=$(grep -no 'rattle-kit-[^ ]* logic [0-9a-f]*' docs/CLAIMS.md | grep -vF ":$here")
+    echo "kit: $here"
+    [ -z "$named" ] || echo "$named" | sed 's|^\([0-9]*\):\(.*\)|note: docs/CLAIMS.md:\1 names another kit, \2|'
 }
 
 # install PACKAGE: from Debian. Status 3 where the registry cannot be reached, 1 where the package cannot be had
