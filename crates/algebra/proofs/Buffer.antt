@@ -12,7 +12,7 @@ use Rattle.algebra.specs.Buffer.{over}
 
 module _ {A : Type 0} where
   -- `&mut buffer[at..]` lends what stands from at on
-  pub tail-lent : (at : ℕ) (buffer : List A) → midOf at (length buffer - at) buffer ≡ drop at buffer
+  tail-lent : (at : ℕ) (buffer : List A) → midOf at (length buffer - at) buffer ≡ drop at buffer
   tail-lent at buffer = take-all (length buffer - at) (drop at buffer) (omega (arith, length-drop at buffer))
 
   -- and comes back behind the first at elements

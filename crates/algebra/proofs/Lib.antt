@@ -1,3 +1,4 @@
+pub mod Booleans
 pub mod Integer
 pub mod Signs
 pub mod Magnitude
@@ -5,7 +6,6 @@ pub mod Products
 pub mod Squares
 pub mod Ring
 pub mod Plane
-pub mod Booleans
 pub mod Compared
 pub mod Lists
 pub mod All

@@ -11,7 +11,7 @@ use lib.ListN.{length, getD}
 use Rattle.algebra.specs.Loops.{places, scan}
 use Rattle.algebra.proofs.Scan.{scan-mem}
 
-pub places-bound : (i n j : ℕ) → List·Memᴰ j (places i n) → j < i + n
+places-bound : (i n j : ℕ) → List·Memᴰ j (places i n) → j < i + n
 places-bound i zero j m = absurd (List·Memᴰ·not-nil m)
 places-bound i (suc n) j m = go (places-bound (suc i) n j) (List·Memᴰ·cases-cons m)
   where

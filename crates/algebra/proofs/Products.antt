@@ -46,7 +46,7 @@ factor-positive a b ha h =
       | no below ↦ omega (arith, product-not-negative a (opp b) ha (omega arith))
     ]
 
-pub factor-not-negative : (a b : Z) → whole 0 ≺ a → whole 0 ≼ a ⊠ b → whole 0 ≼ b
+factor-not-negative : (a b : Z) → whole 0 ≺ a → whole 0 ≼ a ⊠ b → whole 0 ≼ b
 factor-not-negative a b ha h =
     elim (decLe (b .1) (b .0)) [
       | yes above ↦ omega arith

@@ -12,13 +12,13 @@ use Rattle.algebra.proofs.Booleans.{less-or-not}
 use Rattle.algebra.proofs.Integer.{le-antisym, order-cases, multiple-mono, multiple-cancel, multiple-same}
 use Rattle.algebra.proofs.Integer.{le-resp}
 
-pub signed-square-mono : (a b : Z) → a ≼ b → signed-square a ≼ signed-square b
+signed-square-mono : (a b : Z) → a ≼ b → signed-square a ≼ signed-square b
 signed-square-mono a b h =
     let up : above a ≤ above b = omega arith in
     let down : below b ≤ below a = omega arith in
     add-le-add (mul-le-mul up up) (mul-le-mul down down)
 
-pub signed-square-rises : (a b : Z) → a ≺ b → signed-square a ≺ signed-square b
+signed-square-rises : (a b : Z) → a ≺ b → signed-square a ≺ signed-square b
 signed-square-rises a b h = by-part (less-or-not (above a) (above b))
   where
     larger : (m n : ℕ) → m < n → m * m < n * n
@@ -37,7 +37,7 @@ signed-square-rises a b h = by-part (less-or-not (above a) (above b))
         let strict = larger (below b) (below a) down in
         omega arith
 
-pub signed-square-reflects : (a b : Z) → signed-square a ≼ signed-square b → a ≼ b
+signed-square-reflects : (a b : Z) → signed-square a ≼ signed-square b → a ≼ b
 signed-square-reflects a b h = by-order (order-cases a b)
   where
     not-both : (x y : Z) → x ≼ y → y ≺ x → ⊥
@@ -47,12 +47,12 @@ signed-square-reflects a b h = by-order (order-cases a b)
     by-order (inl k) = k
     by-order (inr k) = absurd (not-both (signed-square a) (signed-square b) h (signed-square-rises b a k))
 
-pub signed-square-same : (a b : Z) → a ≐ b → signed-square a ≐ signed-square b
+signed-square-same : (a b : Z) → a ≐ b → signed-square a ≐ signed-square b
 signed-square-same a b h =
     le-antisym (signed-square a) (signed-square b) (signed-square-mono a b (omega arith))
     (signed-square-mono b a (omega arith))
 
-pub signed-square-scale : (k : ℕ) (a : Z) → signed-square (k ⊛ a) ≡ (k * k) ⊛ signed-square a
+signed-square-scale : (k : ℕ) (a : Z) → signed-square (k ⊛ a) ≡ (k * k) ⊛ signed-square a
 signed-square-scale k a = λ i. (part (a .0) (a .1) i, part (a .1) (a .0) i)
   where
     part : (x y : ℕ) → (k * x - k * y) * (k * x - k * y) ≡ k * k * ((x - y) * (x - y))

@@ -35,7 +35,8 @@ use Rattle.contact_definitions.specs.ReferenceFace.{manifold-of-ends}
 use Rattle.contact_definitions.specs.Searches.{least}
 use Rattle.contact_definitions.proofs.Numbers.{+1, +2, +3, -1, -1¼, -1½, -1¾, -2, -2½, -2¾, -3, -¼, -½, -¾, 1¼}
 use Rattle.contact_definitions.proofs.Numbers.{1½, ¼, ½, ¾}
-use Rattle.contact_definitions.proofs.Given.{after, box, counting-box, eight-tenths, first, float, given}
+use Rattle.floats.proofs.BitPatterns.{float}
+use Rattle.contact_definitions.proofs.Given.{after, box, counting-box, eight-tenths, first, given}
 use Rattle.contact_definitions.proofs.Given.{kept-second, moved, no-point, one-sided, placed, second}
 use Rattle.contact_definitions.proofs.Given.{six-tenths, two-sided, unmoved}
 

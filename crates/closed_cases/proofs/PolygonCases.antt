@@ -30,7 +30,8 @@ use Rattle.contact_definitions.specs.ReferenceFace.{clipped-to-sides, only, poi
 use Rattle.contact_definitions.specs.ReferenceFace.{manifold-of-ends}
 use Rattle.contact_definitions.specs.Searches.{least, first-greatest, first-least}
 use Rattle.contact_definitions.proofs.Numbers.{+1, +2, -1, -1½, -1¾, -2½, -¼, -½, -¾, 1¼, 1½, ¼, ½, ¾}
-use Rattle.contact_definitions.proofs.Given.{after, box, counting-box, eight-tenths, first, float, given}
+use Rattle.floats.proofs.BitPatterns.{float}
+use Rattle.contact_definitions.proofs.Given.{after, box, counting-box, eight-tenths, first, given}
 use Rattle.contact_definitions.proofs.Given.{kept-first, kept-second, moved, no-point, placed, second}
 use Rattle.contact_definitions.proofs.Given.{six-tenths, thick-box, triangle, unmoved}
 

@@ -26,7 +26,8 @@ use Rattle.contact_definitions.specs.Manifold.{manifold-accepted, manifo
 use Rattle.contact_definitions.specs.Searches.{some-below, first-greatest}
 use Rattle.contact_definitions.proofs.Numbers.{+1, +2, +4, +9, -1, -15, -2, -20, -3½, -4, -53, -62, -¼, -½, -¾}
 use Rattle.contact_definitions.proofs.Numbers.{1½, 1¾, 5½, ¼, ½, ¾}
-use Rattle.contact_definitions.proofs.Given.{after, box, circle, counting-box, eight-tenths, first, float}
+use Rattle.floats.proofs.BitPatterns.{float}
+use Rattle.contact_definitions.proofs.Given.{after, box, circle, counting-box, eight-tenths, first}
 use Rattle.contact_definitions.proofs.Given.{given, kept-second, moved, no-point, placed, six-tenths, triangle}
 use Rattle.contact_definitions.proofs.Given.{unmoved}
 

@@ -45,7 +45,8 @@ use Rattle.contact_definitions.specs.ReferenceFace.{clipped-to-sides, on
 use Rattle.contact_definitions.specs.ReferenceFace.{manifold-of-ends}
 use Rattle.contact_definitions.specs.Searches.{least, first-greatest, first-least}
 use Rattle.contact_definitions.proofs.Numbers.{+1, +2, +3, -1, 1½, 2½}
-use Rattle.contact_definitions.proofs.Given.{circle, float, moved, unmoved}
+use Rattle.floats.proofs.BitPatterns.{float}
+use Rattle.contact_definitions.proofs.Given.{circle, moved, unmoved}
 use Rattle.contact_definitions.proofs.ClipCases.{end-at}
 
 -- a point with a new local point and id; the impulses are those of the old manifold's point at its place

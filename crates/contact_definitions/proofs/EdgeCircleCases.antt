@@ -21,7 +21,8 @@ use Rattle.contact_definitions.specs.EdgeAxis.{right-of}
 use Rattle.contact_definitions.specs.Manifold.{with-local-point, with-count, with-one-point, contact-id}
 use Rattle.contact_definitions.specs.Manifold.{manifold-accepted, manifold-refused}
 use Rattle.contact_definitions.proofs.Numbers.{+1, +2, -1, -1¼, -1½, -¼, -½, -¾, 1¼, 1½, 2¾, ¼, ½, ¾}
-use Rattle.contact_definitions.proofs.Given.{after, circle, eight-tenths, first, float, given, kept-second}
+use Rattle.floats.proofs.BitPatterns.{float}
+use Rattle.contact_definitions.proofs.Given.{after, circle, eight-tenths, first, given, kept-second}
 use Rattle.contact_definitions.proofs.Given.{moved, no-point, one-sided, placed, six-tenths, two-sided}
 use Rattle.contact_definitions.proofs.Given.{unmoved}
 

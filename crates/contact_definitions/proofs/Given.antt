@@ -3,12 +3,13 @@
 use mathlib.Core.Bool.{true, false}
 use mathlib.Core.List.{List, [], _∷_}
 use Prim.Native.Nat.{ℕ}
-use lib.Ieee.{Float, nan, binary32, ofBits}
+use lib.Ieee.{Float, nan}
 use Rattle.rounding.specs.Literals.{zero32, one32}
 use Rattle.floats.specs.declared.b2_math.B2vec2.{B2vec2}
 use Rattle.floats.specs.declared.b2_math.B2Transform.{B2Transform}
 use Rattle.floats.specs.B2Common.{b2-polygon-radius}
 use Rattle.floats.specs.B2Math.{vec2, rot}
+use Rattle.floats.proofs.BitPatterns.{float}
 use Rattle.shape_definitions.specs.declared.b2_circle_shape.B2circleShape.{B2circleShape}
 use Rattle.shape_definitions.specs.declared.b2_polygon_shape.B2polygonShape.{B2polygonShape}
 use Rattle.shape_definitions.specs.declared.b2_edge_shape.B2edgeShape.{B2edgeShape}
@@ -23,10 +24,7 @@ use Rattle.contact_definitions.specs.Manifold.{contact-id}
 use Rattle.contact_definitions.proofs.Numbers.{+1, +2, +3, +4, +5, +6, +7, +8, +9, +10, +11, +12}
 use Rattle.contact_definitions.proofs.Numbers.{+17, +18, +19, +20}
 
--- ---- numbers: by their bits; 0.6 and 0.8, rounded
-abbrev pub float : ℕ → Float
-float b = ofBits binary32 b
-
+-- ---- 0.6 and 0.8, rounded
 abbrev pub six-tenths : Float
 six-tenths = float 0x3f19_999a
 

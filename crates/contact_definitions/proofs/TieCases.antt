@@ -46,7 +46,8 @@ use Rattle.contact_definitions.specs.ReferenceFace.{manifold-of-ends}
 use Rattle.contact_definitions.specs.Searches.{some-below, first-greatest, least, first-least}
 use Rattle.contact_definitions.proofs.Numbers.{+1, +2, -1, -1¼, -1¾, -2, -2½, -2¾, -¼, -½, -¾, 1¼, 1½, 1¾, ¼}
 use Rattle.contact_definitions.proofs.Numbers.{½, ¾}
-use Rattle.contact_definitions.proofs.Given.{after, box, circle, eight-tenths, first, float, given}
+use Rattle.floats.proofs.BitPatterns.{float}
+use Rattle.contact_definitions.proofs.Given.{after, box, circle, eight-tenths, first, given}
 use Rattle.contact_definitions.proofs.Given.{kept-second, moved, one-sided, placed, second, six-tenths}
 use Rattle.contact_definitions.proofs.Given.{thick-box, triangle, two-sided, unmoved}
 

@@ -20,7 +20,8 @@ use Rattle.contact_definitions.specs.WorldManifold.{world-of-circles, po
 use Rattle.contact_definitions.specs.WorldManifold.{b2-world-manifold-initialize, world-accepted, world-refused}
 use Rattle.contact_definitions.proofs.Numbers.{+1, +2, +5, +6, +8, -1, -1¼, -1½, -2, -8, -¼, -½, -¾, 1¼, 1½, ¼}
 use Rattle.contact_definitions.proofs.Numbers.{½, ¾}
-use Rattle.contact_definitions.proofs.Given.{after, eight-tenths, first, float, given-world, kept-first}
+use Rattle.floats.proofs.BitPatterns.{float}
+use Rattle.contact_definitions.proofs.Given.{after, eight-tenths, first, given-world, kept-first}
 use Rattle.contact_definitions.proofs.Given.{kept-second, placed, second, six-tenths, unmoved, world-after}
 
 pub record WorldCases : Type 0 where

@@ -1,18 +1,14 @@
--- Points as coordinates: a point read from a row of coordinates and one stored there; points read one after the other
--- from numbered coordinates; and one more point at the end of a row. Assumes nothing.
+-- Points as coordinates: a point read from a row of coordinates, and one stored there. Assumes nothing.
 use mathlib.Core.Path.{_≡_, refl, sym, _∙_, ap, ap₂}
-use mathlib.Core.List.{List, [], _∷_, _++_}
+use mathlib.Core.List.{List, [], _∷_}
 use Prim.Native.Nat.{ℕ, zero, suc, _+_, _*_, _≤_, _<_}
-use native.Mathlib.Numerals.{add-one}
 use native.Mathlib.Omega.{arith}
-use lib.ListN.{length, getD, take, set}
-use lib.Seq.{take-suc-set}
+use lib.ListN.{length, getD, set}
 use lib.Ieee.{Float}
 use Rattle.floats.specs.declared.b2_math.B2vec2.{B2vec2}
 use Rattle.floats.specs.B2Math.{vec2}
-use Rattle.floats.specs.Coordinates.{points-in, points-from, coordinates-of}
+use Rattle.floats.specs.Coordinates.{points-in}
 
--- ---- in a row of coordinates
 -- where the coordinates of place i begin
 abbrev first : ℕ → ℕ
 first zero = zero
@@ -60,40 +56,3 @@ module _ (xs : List Float) (i : ℕ) (within : i < length (points-in xs)) where
   point-stored x y =
       ap₂ (λ (k l : ℕ). points-in (set (set xs k x) l y)) (sym (first-is i)) (sym second-is)
       ∙ stored-at xs i x y second-within
-
--- ---- from numbered coordinates
-module _ (coordinate : ℕ → Float) where
-  pub length-points-from : (i n : ℕ) → length (points-from coordinate i n) ≡ n
-  length-points-from i zero = refl
-  length-points-from i (suc n) = ap suc (length-points-from (i + 2) n)
-
-  -- the point after k
-  abbrev pub point-from : ℕ → ℕ → B2vec2
-  point-from i k = vec2 (coordinate (i + 2 * k)) (coordinate (i + 2 * k + 1))
-
-  points-from-next : (i k : ℕ) → points-from coordinate i (suc k) ≡ points-from coordinate i k ++ (point-from i k ∷ [])
-  points-from-next i zero =
-      let same : i ≡ i + 2 * 0 = omega arith in
-      ap (λ (n : ℕ). vec2 (coordinate n) (coordinate (n + 1)) ∷ []) same
-  points-from-next i (suc k) =
-      let same : i + 2 + 2 * k ≡ i + 2 * suc k = omega arith in
-      ap (_∷_ (vec2 (coordinate i) (coordinate (i + 1))))
-      (points-from-next (i + 2) k
-      ∙ ap (λ (n : ℕ). points-from coordinate (i + 2) k ++ (vec2 (coordinate n) (coordinate (n + 1)) ∷ [])) same)
-
-  -- one more is read into an array whose first k points were
-  pub read-next : (i k : ℕ) (ps : List B2vec2) (v : B2vec2) → k < length ps → v ≡ point-from i k
-      → take k ps ≡ points-from coordinate i k → take (k + 1) (set ps k v) ≡ points-from coordinate i (k + 1)
-  read-next i k ps v within v-is so-far =
-      rw add-one (take-suc-set ps k v within ∙ ap (λ (l : List B2vec2). l ++ (v ∷ [])) so-far
-      ∙ ap (λ (p : B2vec2). points-from coordinate i k ++ (p ∷ [])) v-is ∙ sym (points-from-next i k))
-
--- ---- to coordinates
-pub coordinates-append : (ps : List B2vec2) (p : B2vec2)
-    → coordinates-of (ps ++ (p ∷ [])) ≡ coordinates-of ps ++ (p .x ∷ p .y ∷ [])
-coordinates-append [] p = refl
-coordinates-append (q ∷ ps) p = ap (λ (xs : List Float). q .x ∷ q .y ∷ xs) (coordinates-append ps p)
-
-pub length-coordinates : (ps : List B2vec2) → length (coordinates-of ps) ≡ 2 * length ps
-length-coordinates [] = refl
-length-coordinates (p ∷ ps) = omega (arith, length-coordinates ps)

@@ -1,11 +1,11 @@
 pub mod RangeValue
 pub mod Constants
 pub mod Vectors
+pub mod Scale
 pub mod Coordinates
 pub mod Ends
 pub mod Turned
-pub mod Theorem
+pub mod BitPatterns
 pub mod Controls
 pub mod VectorControls
 pub mod RangeControls
-pub mod Scale

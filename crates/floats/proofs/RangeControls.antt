@@ -3,18 +3,12 @@
 use mathlib.Core.Path.{_≡_, refl}
 use mathlib.Core.Bool.{true, false}
 use Prim.Native.Nat.{ℕ}
-use lib.Ieee.{Float, binary32, neg, le, ofBits}
-use Rattle.floats.specs.declared.b2_math.B2vec2.{B2vec2}
+use lib.Ieee.{neg, le, ofBits}
 use Rattle.floats.specs.declared.b2_math.B2Transform.{B2Transform}
-use Rattle.floats.specs.B2Math.{vec2, rot}
+use Rattle.floats.specs.B2Math.{rot}
 use Rattle.floats.specs.Ranges.{point-in-range, rotation-in-range, transform-in-range, normal-in-range}
 use Rattle.floats.specs.Ranges.{local-normal-in-range, contact-number-in-range, contact-point-in-range}
-
-abbrev float : ℕ → Float
-float n = ofBits binary32 n
-
-abbrev vector : ℕ → ℕ → B2vec2
-vector a b = vec2 (float a) (float b)
+use Rattle.floats.proofs.BitPatterns.{float, vector}
 
 -- a placement at (x, 0), of sine s and cosine 0
 abbrev placed : ℕ → ℕ → B2Transform

@@ -32,12 +32,6 @@ within-finite (inf true) (as-fin s m e is) h = h
 within-finite (inf false) (as-fin s m e is) h = h
 within-finite (fin s m e) limit-is h = tt
 
-pub within-nan : {limit : Float} → F32 limit → T (within limit nan) → ⊥
-within-nan limit-f32 h = within-finite nan (f32-as-fin limit-f32) h
-
-pub within-infinity : {limit : Float} (s : Bool) → F32 limit → T (within limit (inf s)) → ⊥
-within-infinity s limit-f32 h = within-finite (inf s) (f32-as-fin limit-f32) h
-
 -- ---- the value
 -- x is of the format and at most n units in size
 pub record Bounded (x : Float) (n : ℕ) : Type 0 where
@@ -56,7 +50,7 @@ within-value {limit} {x} limit-f32 x-fits h =
     between v l n low high size = omega arith
 
 -- for a limit that is not negative
-pub value-within : {limit x : Float} → F32 limit → val limit ≡ whole (mag limit) → F32 x → Abs (val x) (mag limit)
+value-within : {limit x : Float} → F32 limit → val limit ≡ whole (mag limit) → F32 x → Abs (val x) (mag limit)
     → T (within limit x)
 value-within {limit} {x} limit-f32 limit-is x-f32 x-abs =
     and-i (le (neg limit) x) (le x limit)
@@ -160,10 +154,3 @@ radius-value {r} r-fits h =
       high = rw (l .is ∙ ap whole (l .size)) at
           (le-val own (l .own) at-most);
     }
-
-pub value-radius : {r : Float} → Radius r → T (radius-in-range r)
-unfolding radius-in-range
-value-radius {r} h =
-    let l = shape-limit-is in
-    and-i (le zero32 r) (le r shape-limit) (val-le zero-f32 (h .own) (rw zero-val (h .low)))
-    (val-le (h .own) (l .own) (rw (l .is ∙ ap whole (l .size)) (h .high)))

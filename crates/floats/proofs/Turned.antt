@@ -26,7 +26,7 @@ use Rattle.sqrt.proofs.SqrtLaw.{sqrt-law}
 use Rattle.sqrt.proofs.SqrtOrder.{sqrt-low}
 
 -- ---- turning keeps the squared length
-pub turned-squared : (e : B2vec2) → T (fits binary32 (e .x)) → T (fits binary32 (e .y))
+turned-squared : (e : B2vec2) → T (fits binary32 (e .x)) → T (fits binary32 (e .y))
     → b2-length-squared (b2-cross-vec-by-scalar e one32) ≡ b2-length-squared e
 unfolding b2-length-squared b2-cross-vec-by-scalar
 turned-squared e x-fits y-fits =

@@ -2,10 +2,9 @@
 -- what rustc's code for x86-64 answers, and for every definition of B2Math an answer that Box2D 2.4.1 and the Rust
 -- agree on. Assumes nothing.
 use mathlib.Core.Path.{_≡_, refl}
-use Prim.Native.Nat.{ℕ}
 use lib.Dec.{T}
 use native.Mathlib.Omega.{arith}
-use lib.Ieee.{Float, binary32, size, units, neg, add, sub, mul, div, lt, ofBits, toBits}
+use lib.Ieee.{binary32, size, units, neg, add, sub, mul, div, lt, ofBits, toBits}
 use Rattle.algebra.specs.Integer.{whole}
 use Rattle.floats.specs.declared.b2_math.B2vec2.{B2vec2}
 use Rattle.floats.specs.declared.b2_math.B2Rot.{B2Rot}
@@ -13,7 +12,7 @@ use Rattle.floats.specs.declared.b2_math.B2Transform.{B2Transform}
 use Rattle.rounding.specs.Literals.{one32}
 use Rattle.sqrt.specs.Sqrt.{root-digits, whole-root, rounded-root, sqrt}
 use Rattle.floats.specs.B2Common.{b2-linear-slop}
-use Rattle.floats.specs.B2Math.{b2-sqrt, b2-min, vec2, b2-add, b2-sub, b2-neg, b2-scale, b2-dot, b2-cross}
+use Rattle.floats.specs.B2Math.{b2-sqrt, b2-min, b2-add, b2-sub, b2-neg, b2-scale, b2-dot, b2-cross}
 use Rattle.floats.specs.B2Math.{b2-cross-vec-by-scalar, b2-cross-scalar-by-vec}
 use Rattle.floats.specs.B2Math.{b2-length-squared, b2-length, b2-distance-vec2-squared, b2-normalize}
 use Rattle.floats.specs.B2Math.{rot, b2-mul-rot, b2-mul-t-rot, b2-mul-rot-by-vec2, b2-mul-t-rot-by-vec2}
@@ -22,15 +21,10 @@ use Rattle.floats.specs.B2Math.{b2-mul-transform, b2-mul-t-transform}
 use Rattle.floats.specs.Ranges.{within, normal-limit}
 use Rattle.rounding.proofs.Dyadic.{Dyadic}
 use Rattle.rounding.proofs.Literals.{bits-dyadic, one-f32, one-val}
+use Rattle.floats.proofs.BitPatterns.{float, vector}
 use Rattle.floats.proofs.RangeValue.{normal-limit-is, value-limit}
 
 -- ---- vectors
-abbrev float : ℕ → Float
-float n = ofBits binary32 n
-
-abbrev vector : ℕ → ℕ → B2vec2
-vector a b = vec2 (float a) (float b)
-
 -- (1 + 2^-12)² - (1 + 2^-11): 2^-24 if fused
 dot-is-not-fused : toBits binary32 (b2-dot (vector 0x3f80_0800 0x3f80_1000) (vector 0x3f80_0800 0xbf80_0000)) ≡ 0
 unfolding b2-dot add mul ofBits toBits
@@ -49,7 +43,7 @@ normalized-by-the-reciprocal = refl
 
 -- a length of 2^-24
 short-is-not-normalized : b2-normalize (vector 0x3380_0000 0)
-    ≡ record { length = ofBits binary32 0; v = vector 0x3380_0000 0 }
+    ≡ record { length = float 0; v = vector 0x3380_0000 0 }
 unfolding b2-normalize b2-length b2-length-squared b2-sqrt sqrt rounded-root whole-root root-digits size units
     add mul div lt ofBits toBits
 short-is-not-normalized = refl

@@ -11,13 +11,14 @@ use native.Mathlib.Omega.{arith}
 use lib.Dec.{T, ltb, leb, eqb, leb→le}
 use mir.Facts.{and-yes}
 use lib.ListN.{take, replicate}
-use lib.Ieee.{binary32, ofBits, neg, add, sub, mul, le}
+use lib.Ieee.{ofBits, neg, add, sub, mul, le}
 use Rattle.algebra.specs.Integer.{signed}
 use Rattle.algebra.proofs.Magnitude.{abs-signed}
 use Rattle.floats.specs.declared.b2_math.B2vec2.{B2vec2}
 use Rattle.floats.specs.B2Common.{b2-polygon-radius}
-use Rattle.floats.specs.B2Math.{vec2, b2-sub, b2-dot, b2-cross, b2-length-squared, b2-distance-vec2-squared}
+use Rattle.floats.specs.B2Math.{b2-sub, b2-dot, b2-cross, b2-length-squared, b2-distance-vec2-squared}
 use Rattle.floats.specs.Ranges.{point-in-range}
+use Rattle.floats.proofs.BitPatterns.{float, vector}
 use Rattle.floats.proofs.Constants.{skin-in-range}
 use Rattle.rounding.proofs.Literals.{bits-sign, bits-field, bits-units, bits-dyadic}
 use Rattle.hull.specs.Hull.{OnLine, ThreeDifferent}
@@ -34,11 +35,8 @@ use Rattle.grid.specs.GridOutline.{normal-bound, direction-error, length
 use Rattle.grid.proofs.Theorem.{first-sentence, built-outline, built-in-range}
 
 -- ---- lists by the bit patterns of their coordinates: 0, -0, 1/256, 1/2, 1, 2, 4 and -4
-abbrev pub at : ℕ → ℕ → B2vec2
-at x y = vec2 (ofBits binary32 x) (ofBits binary32 y)
-
 abbrev pub points : List (ℕ × ℕ) → List B2vec2
-points l = map (λ b. at (b .0) (b .1)) l
+points l = map (λ b. vector (b .0) (b .1)) l
 
 abbrev pub minus-zero : ℕ
 minus-zero = 0x8000_0000
@@ -110,13 +108,13 @@ computed old = record {
 }
 
 -- ---- they are on the grid, by a computed test
-abbrev pub steps-of : ℕ → ℕ
+abbrev steps-of : ℕ → ℕ
 steps-of b = 2 ^ 8 * bits-units b / 2 ^ 149
 
 abbrev pub on-grid : ℕ → Bool
 on-grid b = ltb (bits-field b) 255 && (eqb (2 ^ 8 * bits-units b) (2 ^ 149 * steps-of b) && leb (steps-of b) grid-limit)
 
-pub grid-number : (b : ℕ) → T (on-grid b) → GridNumber (ofBits binary32 b)
+pub grid-number : (b : ℕ) → T (on-grid b) → GridNumber (float b)
 grid-number b t =
     let finite = and-yes (ltb (bits-field b) 255)
     (eqb (2 ^ 8 * bits-units b) (2 ^ 149 * steps-of b) && leb (steps-of b) grid-limit) t in
@@ -141,8 +139,8 @@ grid-list (b ∷ l) t v m =
     let here = and-yes (on-grid (b .0)) (on-grid (b .1)) (both .0) in
     go (grid-number (b .0) (here .0), grid-number (b .1) (here .1)) (grid-list l (both .1) v) (List·Memᴰ·cases-cons m)
   where
-    go : GridPoint (at (b .0) (b .1)) → (List·Memᴰ v (points l) → GridPoint v)
-        → (v ≡ at (b .0) (b .1)) ⊎ List·Memᴰ v (points l)
+    go : GridPoint (vector (b .0) (b .1)) → (List·Memᴰ v (points l) → GridPoint v)
+        → (v ≡ vector (b .0) (b .1)) ⊎ List·Memᴰ v (points l)
         → GridPoint v
     go first later (inl e) = subst GridPoint (sym e) first
     go first later (inr k) = later k

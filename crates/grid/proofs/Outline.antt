@@ -44,7 +44,7 @@ module _ (cs : List B2vec2) (grid : GridList cs) (once : Once (values cs)) (two 
       (rw (length-map cs value-point) i-in) (values-at cs (place-after (length cs) i) ∙ e ∙ sym (values-at cs i)))
 
   -- the normal at a place
-  pub normal-at : EdgeNormal (point-at cs i) (point-at cs (place-after (length cs) i))
+  normal-at : EdgeNormal (point-at cs i) (point-at cs (place-after (length cs) i))
       (point-at (map normal-of-edge (edges cs)) i)
   normal-at =
       subst (EdgeNormal (point-at cs i) (point-at cs (place-after (length cs) i)))
@@ -103,7 +103,7 @@ module _ (old : B2polygonShape) (s : List Point) (cs : List B2vec2) (c : Corners
   first-grid : GridPoint (point-at cs 0)
   first-grid = grid-at cs (c .grid) 0 (let h = row-three in omega arith)
 
-  pub finished-grid : GridOutline (finished old cs (fan cs) .shape)
+  finished-grid : GridOutline (finished old cs (fan cs) .shape)
   unfolding polygon-in-range
   finished-grid = record {
     three = row-three;

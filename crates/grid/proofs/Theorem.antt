@@ -1,11 +1,9 @@
 -- Demand 3, first sentence, of the outline builder's definition, and what the second sentence needs of a built
--- outline and of sums of grid numbers. Bodies only cite. Assumes nothing.
+-- outline. Bodies only cite. Assumes nothing.
 use mathlib.Core.Path.{_≡_, sym, _∙_, ap, subst}
 use mathlib.Core.List.{List}
-use Prim.Native.Nat.{ℕ, _+_, _^_}
-use lib.Dec.{T, leb}
-use lib.Ieee.{Float, binary32, add}
-use Rattle.algebra.specs.Integer.{_⊞_, _≐_}
+use lib.Dec.{T}
+use lib.Ieee.{Float}
 use Rattle.algebra.specs.Plane.{Point}
 use Rattle.floats.specs.declared.b2_math.B2vec2.{B2vec2}
 use Rattle.floats.specs.Ranges.{radius-in-range, transform-in-range}
@@ -13,10 +11,8 @@ use Rattle.hull.proofs.Theorem.{one-hull}
 use Rattle.shape_definitions.specs.declared.b2_polygon_shape.B2polygonShape.{B2polygonShape}
 use Rattle.shape_definitions.specs.Refusal.{accepted}
 use Rattle.shape_definitions.specs.Validate.{polygon-in-range}
-use Rattle.rounding.specs.Value.{val}
-use Rattle.grid.specs.Grid.{Steps, GridList}
+use Rattle.grid.specs.Grid.{GridList}
 use Rattle.grid.specs.Demand3.{FirstSentence, HullRow, refusal-of, outline-from}
-use Rattle.grid.proofs.Exact.{steps-add, add-is}
 use Rattle.grid.proofs.FirstSentence.{grid-list-verdict}
 use Rattle.grid.proofs.Outline.{accepted-outline}
 use Rattle.grid.proofs.ContactRanges.{Taken, grid-taken, polygons-accepted}
@@ -57,11 +53,3 @@ pair-never-refused m a b xfA xfB a-placed b-placed a-taken b-taken =
 pub one-row : (s row row' : List Point) → HullRow s row → HullRow s row' → row ≡ row'
 one-row s row row' h h' =
     h .is ∙ one-hull s (h .first) (h' .first) (h .rest) (h' .rest) (h .hull) (h' .hull) ∙ sym (h' .is)
-
--- sums of grid numbers are exact, as long as they are at most 2^24 steps
-module _ {m n : ℕ} {x y : Float} (few : T (leb (m + n) (2 ^ 24))) (x-steps : Steps m x) (y-steps : Steps n y) where
-  pub sum-on-grid : Steps (m + n) (add binary32 x y)
-  sum-on-grid = steps-add few x-steps y-steps
-
-  pub sum-exact : val (add binary32 x y) ≐ val x ⊞ val y
-  sum-exact = add-is few x-steps y-steps

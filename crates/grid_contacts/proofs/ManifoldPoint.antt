@@ -81,7 +81,7 @@ near-face {k} {f} {c} h = record {
         (fits n (k * metre) (room k))
 
 -- ---- the local point of a clipped end v near an edge e, in the frame of a placement
-abbrev pub position-metres : ℕ
+abbrev position-metres : ℕ
 position-metres = 4
 
 abbrev pub local-metres : ℕ

@@ -30,7 +30,7 @@ module _ {t : B2Transform} (g : GridPlacement t) (shape : B2polygonShape) (outli
   abbrev corners : List Point
   corners = placed-corners g shape
 
-  pub placed-length : length corners ≡ n
+  placed-length : length corners ≡ n
   placed-length =
       length-map (values (take n vs)) (carried g) ∙ length-map (take n vs) value-point
       ∙ length-take-le n vs (outline .full)

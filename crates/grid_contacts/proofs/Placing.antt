@@ -30,7 +30,7 @@ pub record GridVec (n : ℕ) (v : B2vec2) (p : Point) : Type 0 where
   pub steps : StepsPoint n v
   pub is : SameVector (value-point v) p
 
-pub grid-vec : {n : ℕ} {v : B2vec2} → StepsPoint n v → GridVec n v (value-point v)
+grid-vec : {n : ℕ} {v : B2vec2} → StepsPoint n v → GridVec n v (value-point v)
 grid-vec {v = v} steps = record { steps = steps; is = vector-refl (value-point v) }
 
 -- sizes in metres
@@ -44,7 +44,7 @@ point-capped h low steps = (
 -- ---- sums and differences
 module _ {m n : ℕ} {v w : B2vec2} {p q : Point} (few : T (leb (m + n) (2 ^ 24))) (v-grid : GridVec m v p)
     (w-grid : GridVec n w q) where
-  pub grid-vec-add : GridVec (m + n) (b2-add v w) (sum-of p q)
+  grid-vec-add : GridVec (m + n) (b2-add v w) (sum-of p q)
   unfolding b2-add
   grid-vec-add = record {
     steps = (
@@ -61,7 +61,7 @@ module _ {m n : ℕ} {v w : B2vec2} {p q : Point} (few : T (leb (m + n) (2 ^ 24)
     );
   }
 
-  pub grid-vec-sub : GridVec (m + n) (b2-sub v w) (from-to q p)
+  grid-vec-sub : GridVec (m + n) (b2-sub v w) (from-to q p)
   unfolding b2-sub
   grid-vec-sub = record {
     steps = steps-vec-sub few (v-grid .steps) (w-grid .steps);
@@ -108,10 +108,10 @@ turned-grid {n} {v} {w} turn p v-grid w-exact =
 
 module _ {q : B2Rot} {turn : QuarterTurn} (t : Turning q turn) {n : ℕ} {v : B2vec2} {p : Point}
     (v-grid : GridVec n v p) where
-  pub grid-vec-turned : GridVec n (b2-mul-rot-by-vec2 q v) (turned turn p)
+  grid-vec-turned : GridVec n (b2-mul-rot-by-vec2 q v) (turned turn p)
   grid-vec-turned = turned-grid turn p v-grid (turn-exact t (v-grid .steps .0 .own) (v-grid .steps .1 .own))
 
-  pub grid-vec-turned-back : GridVec n (b2-mul-t-rot-by-vec2 q v) (turned (reversed turn) p)
+  grid-vec-turned-back : GridVec n (b2-mul-t-rot-by-vec2 q v) (turned (reversed turn) p)
   grid-vec-turned-back =
       turned-grid (reversed turn) p v-grid (turn-back-exact t (v-grid .steps .0 .own) (v-grid .steps .1 .own))
 

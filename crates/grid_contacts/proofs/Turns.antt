@@ -59,7 +59,7 @@ turn-undone about p = (omega arith, omega arith)
 turn-undone to-right p = (omega arith, omega arith)
 
 -- ---- a turn and one more to the left; a turn after another
-abbrev pub left-of : QuarterTurn → QuarterTurn
+abbrev left-of : QuarterTurn → QuarterTurn
 left-of unturned = to-left
 left-of to-left = about
 left-of about = to-right

@@ -8,7 +8,7 @@ use mathlib.Core.Bool.{Bool, _&&_}
 use Prim.Native.Nat.{ℕ, _^_}
 use lib.Dec.{T, ltb}
 use lib.ListN.{length, replicate}
-use lib.Ieee.{Float, binary32, ofBits, neg, add, sub, mul, div, le, lt, eq}
+use lib.Ieee.{Float, ofBits, neg, add, sub, mul, div, le, lt, eq}
 use mir.Facts.{and-yes}
 use Rattle.algebra.specs.Integer.{Z, signed, _⊛_, _≐_, _≐?_}
 use Rattle.algebra.specs.Buffer.{over}
@@ -26,6 +26,7 @@ use Rattle.floats.specs.B2Math.{b2-mul-rot-by-vec2, b2-mul-t-rot-by-vec2, b2-mu
 use Rattle.floats.specs.B2Math.{b2-mul-t-transform-by-vec2, b2-mul-t-transform}
 use Rattle.floats.specs.Ranges.{point-in-range, radius-in-range, rotation-in-range, transform-in-range, normal-in-range}
 use Rattle.floats.specs.Ranges.{contact-point-in-range, local-normal-in-range}
+use Rattle.floats.proofs.BitPatterns.{float, vector}
 use Rattle.shape_definitions.specs.declared.b2_polygon_shape.B2polygonShape.{B2polygonShape}
 use Rattle.shape_definitions.specs.Outline.{origin, too-near, welded, comes-before, start, closer, next, row, edges}
 use Rattle.shape_definitions.specs.Outline.{long-enough, fan}
@@ -46,22 +47,22 @@ use Rattle.contact_definitions.specs.B2CollidePolygon.{b2-collide-polygons}
 use Rattle.contact_definitions.specs.WorldManifold.{on-face, on-other, plane-separation, carried-points, world-of-face}
 use Rattle.contact_definitions.specs.WorldManifold.{points-in-range, manifold-in-range, b2-world-manifold-initialize}
 use Rattle.grid.specs.Demand3.{refusal-of, outline-from}
-use Rattle.grid.proofs.Controls.{at, points, minus-zero, half, one, two, square, on-grid, grid-number, skinned}
+use Rattle.grid.proofs.Controls.{points, minus-zero, half, one, two, square, on-grid, grid-number, skinned}
 use Rattle.grid_contacts.specs.Placement.{QuarterTurn, unturned, to-left, about, to-right, sine, cosine, Turning}
 use Rattle.grid_contacts.specs.Placement.{GridPlacement}
 use Rattle.grid_contacts.specs.SecondSentence.{local-at, separation-at}
 
 -- ---- placements by the bit patterns of position, sine and cosine; they are on the grid by computed tests
 abbrev pub placed : ℕ → ℕ → ℕ → ℕ → B2Transform
-placed x y s c = record { p = at x y; q = rot (ofBits binary32 s) (ofBits binary32 c) }
+placed x y s c = record { p = vector x y; q = rot (float s) (float c) }
 
 -- the pattern b is the number k
 abbrev is-number : ℕ → Z → Bool
 is-number b k = ltb (bits-field b) 255 && (signed (bits-sign b) (bits-units b) ≐? 2 ^ 149 ⊛ k)
 
 record Number (b : ℕ) (k : Z) : Type 0 where
-  own : F32 (ofBits binary32 b)
-  is : val (ofBits binary32 b) ≐ metre ⊛ k
+  own : F32 (float b)
+  is : val (float b) ≐ metre ⊛ k
 
 number : (b : ℕ) (k : Z) → T (is-number b k) → Number b k
 number b k t =
@@ -76,7 +77,7 @@ abbrev is-turn : QuarterTurn → ℕ → ℕ → Bool
 is-turn turn s c = is-number s (sine turn) && is-number c (cosine turn)
 
 pub turning-of-bits : (turn : QuarterTurn) (s c : ℕ) → T (is-turn turn s c)
-    → Turning (rot (ofBits binary32 s) (ofBits binary32 c)) turn
+    → Turning (rot (float s) (float c)) turn
 turning-of-bits turn s c t =
     let both = and-yes (is-number s (sine turn)) (is-number c (cosine turn)) t in
     let s-is = number s (sine turn) (both .0) in
@@ -111,14 +112,14 @@ minus-one = 0xbf80_0000
 abbrev pub square-outline : B2polygonShape
 square-outline =
     outline-by ((one, 0) ∷ (one, one) ∷ (minus-zero, one) ∷ (0, 0) ∷ [])
-    ((one, minus-zero) ∷ (0, one) ∷ (minus-one, minus-zero) ∷ (0, minus-one) ∷ []) (at half half)
+    ((one, minus-zero) ∷ (0, one) ∷ (minus-one, minus-zero) ∷ (0, minus-one) ∷ []) (vector half half)
 
 abbrev pub triangle : List (ℕ × ℕ)
 triangle = (two, 0) ∷ (two, two) ∷ (0, two) ∷ []
 
 abbrev pub triangle-outline : B2polygonShape
 triangle-outline =
-    outline-by triangle ((one, minus-zero) ∷ (0, one) ∷ (0xbf35_04f3, 0xbf35_04f3) ∷ []) (at 0x3faa_aaaa 0x3faa_aaab)
+    outline-by triangle ((one, minus-zero) ∷ (0, one) ∷ (0xbf35_04f3, 0xbf35_04f3) ∷ []) (vector 0x3faa_aaaa 0x3faa_aaab)
 
 pub record Built : Type 0 where
   pub triangle-accepted : refusal-of skinned (points triangle) ≡ 0
@@ -167,14 +168,14 @@ world-answer old-world m A xfA B xfB =
 
 -- the upper end of the second square's left face
 abbrev pub upper : B2vec2
-upper = at 0 one
+upper = vector 0 one
 
 -- the square's corner (1, 1), on the triangle's long face, and its separation there, the skins alone
 abbrev pub corner : B2vec2
-corner = at one one
+corner = vector one one
 
 abbrev pub depth : Float
-depth = ofBits binary32 0xbca3_d6ec
+depth = float 0xbca3_d6ec
 
 pub record Touches (old : B2manifold) : Type 0 where
   pub two-points : answer old square-outline here square-outline beside .«point_count» ≡ 2

@@ -51,7 +51,7 @@ at-most-sum f (a ∷ s) p m = go (at-most-sum f s p) (List·Memᴰ·cases-cons m
     go ih (inr k) = omega (arith, ih k)
 
 -- ---- all others ahead of the normal m, or against u on its line: a corner
-pub corner-of-ahead : (s : List Point) (p m u : Point) → List·Memᴰ p s
+corner-of-ahead : (s : List Point) (p m u : Point) → List·Memᴰ p s
     → ((r : Point) → List·Memᴰ r s → (r ≡ p) ⊎ Ahead m u (from-to p r)) → Corner s p
 corner-of-ahead s p m u p-in all = record {
   mem = p-in;

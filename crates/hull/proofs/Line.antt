@@ -31,7 +31,7 @@ use Rattle.hull.proofs.Sides.{beside-of-words}
 use Rattle.hull.proofs.Corners.{Corner, Side, side-long}
 
 -- ---- no point lies right of a side
-pub not-right : (s : List Point) (p q r : Point) → Side s p q → List·Memᴰ r s → whole 0 ≼ orient p q r
+not-right : (s : List Point) (p q r : Point) → Side s p q → List·Memᴰ r s → whole 0 ≼ orient p q r
 not-right s p q r side r-in = go (side .edge r r-in)
   where
     go : (r ≡ p) ⊎ ((r ≡ q) ⊎ (Left p q r ⊎ Between p q r)) → whole 0 ≼ orient p q r

@@ -14,7 +14,7 @@ use Rattle.algebra.proofs.Integer.{reduced-eq, same-of-test, test-of-same}
 use Rattle.hull.specs.Hull.{ReducedPoint, AllReduced}
 use Rattle.hull.specs.Outline.{same-point}
 
-pub point-eq : {p q : Point} → p .x ≡ q .x → p .y ≡ q .y → p ≡ q
+point-eq : {p q : Point} → p .x ≡ q .x → p .y ≡ q .y → p ≡ q
 point-eq ex ey = λ i. record { x = ex i; y = ey i }
 
 -- ---- by value

@@ -17,7 +17,7 @@ unfolding hex
 length-hex [] = refl
 length-hex (b ∷ bytes) = omega (arith, length-hex bytes)
 
-pub hex-append : (first next : List ℕ) → hex (first ++ next) ≡ hex first ++ hex next
+hex-append : (first next : List ℕ) → hex (first ++ next) ≡ hex first ++ hex next
 unfolding hex
 hex-append [] next = refl
 hex-append (b ∷ first) next = rw (hex-append first next)

@@ -18,7 +18,7 @@ use Rattle.rounding.proofs.Rounds.{rounds-f32, rounds-val}
 use Rattle.rounding.proofs.Order.{rounded-mono, rounds-mono}
 
 -- ---- a number of the format rounds to itself
-pub rounded-itself : {r : Float} → F32 r → rounded (mag r) metre ≡ mag r
+rounded-itself : {r : Float} → F32 r → rounded (mag r) metre ≡ mag r
 rounded-itself {r} r-f32 =
     let d = digits r-f32 in
     rounded-exact (mag r) metre (d .q) (d .j) metre-pos (d .small)

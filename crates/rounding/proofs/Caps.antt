@@ -22,7 +22,7 @@ pub record Capped (z : Float) (h : ℕ) : Type 0 where
   pub own : F32 z
   pub cap : Abs (val z) (h * metre)
 
-pub rounds-cap : (h n : ℕ) {z : Float} {num : Z} {den : ℕ} → T (leb h (2 ^ 24)) → Rounds z num den → Abs num n
+rounds-cap : (h n : ℕ) {z : Float} {num : Z} {den : ℕ} → T (leb h (2 ^ 24)) → Rounds z num den → Abs num n
     → n ≤ h * den → Capped z h
 rounds-cap h n {z} {num} {den} h-low r num-abs n-low =
     let h-le = leb→le h (2 ^ 24) h-low in

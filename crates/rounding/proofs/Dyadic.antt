@@ -56,7 +56,7 @@ pub record DyadicFloat (c : Z) (t : ℕ) : Type 0 where
   pub number : Float
   pub dyadic : Dyadic number c t
 
-pub dyadic-float : (c : Z) (t : ℕ) → T (leb t 149) → Abs c (2 ^ 24) → DyadicFloat c t
+dyadic-float : (c : Z) (t : ℕ) → T (leb t 149) → Abs c (2 ^ 24) → DyadicFloat c t
 dyadic-float c t t-low c-abs =
     let size : Sized c = sized c in
     let s = size .negative in

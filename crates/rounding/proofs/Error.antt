@@ -40,7 +40,7 @@ below-power num den k h =
     sum : (k : ℕ) → k + 149 ≡ 24 + (125 + k)
     sum k = omega arith
 
-pub rounded-at-power : (num den k : ℕ) → 0 < den → num ≡ 2 ^ k * den → rounded num den ≡ 2 ^ k * metre
+rounded-at-power : (num den k : ℕ) → 0 < den → num ≡ 2 ^ k * den → rounded num den ≡ 2 ^ k * metre
 rounded-at-power num den k den-pos e =
     rounded-exact num den 1 (k + 149) den-pos (lit< tt)
     (ap (λ (x : ℕ). x * 2 ^ 149) e ∙ move (2 ^ k) (2 ^ 149) (2 ^ (k + 149)) (pow-add 2 k 149))

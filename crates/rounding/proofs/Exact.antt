@@ -18,7 +18,7 @@ pub record Is (z : Float) (v : Z) : Type 0 where
   pub is : val z ≐ v
 
 -- ---- one rounding: it lies between r and r
-pub rounds-exact : {z r : Float} {num : Z} {den : ℕ} → Rounds z num den → F32 r → metre ⊛ num ≐ den ⊛ val r
+rounds-exact : {z r : Float} {num : Z} {den : ℕ} → Rounds z num den → F32 r → metre ⊛ num ≐ den ⊛ val r
     → Is z (val r)
 rounds-exact {z} {r} {num} {den} rounds r-f32 e =
     let below = le-of-same (metre ⊛ num) (den ⊛ val r) e in

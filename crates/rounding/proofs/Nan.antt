@@ -8,7 +8,7 @@ use lib.Ieee.{Float, nan, inf, fin, binary32, isNan, nanBits, ofBits, ne, div}
 use lib.Ieee.Bits.{nanBits-is, nanBits-above}
 use lib.Ieee.Compare.{differs-from-itself, nan-differs}
 
-pub nan-of-is-nan : (x : Float) → isNan x ≡ true → x ≡ nan
+nan-of-is-nan : (x : Float) → isNan x ≡ true → x ≡ nan
 unfolding isNan
 nan-of-is-nan nan e = refl
 nan-of-is-nan (inf s) e = absurd (subst T (sym e) tt)

@@ -30,12 +30,12 @@ pub record NearQuotient (z x y : Float) (e : ℕ) : Type 0 where
   pub err : Abs (val z ⊠ val y ⊟ metre ⊛ val x) (e * mag y)
 
 -- ---- one rounding
-pub rounds-near-f32 : (k n : ℕ) {z : Float} {num : Z} {den : ℕ} → T (leb k 127) → Rounds z num den → Abs num n
+rounds-near-f32 : (k n : ℕ) {z : Float} {num : Z} {den : ℕ} → T (leb k 127) → Rounds z num den → Abs num n
     → n ≤ 2 ^ k * den → F32 z
 rounds-near-f32 k n {den = den} k-low r num-abs n-low =
     rounds-f32 r (rounded-low (r .size) den k (r .den-pos) (leb→le k 127 k-low) (le-trans (size-le r n num-abs) n-low))
 
-pub rounds-near : (k n : ℕ) {z : Float} {num : Z} {den : ℕ} → T (leb k 127) → Rounds z num den → Abs num n
+rounds-near : (k n : ℕ) {z : Float} {num : Z} {den : ℕ} → T (leb k 127) → Rounds z num den → Abs num n
     → n ≤ 2 ^ k * den
     → Abs (1 ⊛ (den ⊛ val z ⊟ metre ⊛ num)) (2 ^ k * tick * den)
 rounds-near k n {den = den} k-low r num-abs n-low =

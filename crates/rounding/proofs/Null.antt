@@ -23,7 +23,7 @@ null-not-below null-nan = refl
 null-not-below (null-zero true e) = simp zero-mul
 null-not-below (null-zero false e) = simp zero-mul
 
-pub round-null : (s : Bool) (w c : ℕ) → w ≡ 0 → 0 < c → Null (round binary32 s w c)
+round-null : (s : Bool) (w c : ℕ) → w ≡ 0 → 0 < c → Null (round binary32 s w c)
 unfolding round
 round-null s w c w-zero c-pos =
     let one : round binary32 s 0 c ≡ fin s zero (pos zero) = round-same binary32 s 0 c 0 1 c-pos (omega arith)

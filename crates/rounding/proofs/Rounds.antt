@@ -52,7 +52,7 @@ signed-size false false m n e = omega arith
 signed-size true false m n e = omega arith
 signed-size false true m n e = omega arith
 
-pub rounds-size : {z : Float} {num : Z} {den : ℕ} (r : Rounds z num den) (s : Bool) (n : ℕ) → signed s n ≐ num
+rounds-size : {z : Float} {num : Z} {den : ℕ} (r : Rounds z num den) (s : Bool) (n : ℕ) → signed s n ≐ num
     → r .size ≡ n
 rounds-size {num = num} r s n e =
     signed-size (r .negative) s (r .size) n

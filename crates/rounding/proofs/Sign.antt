@@ -62,7 +62,7 @@ module _ {z : Float} {num : Z} {den : ℕ} (r : Rounds z num den) where
       from (suc w) h l = omega arith
 
 module _ {z : Float} {num : Z} {den : ℕ} (r : Rounds z num den) where
-  pub rounds-negative : val z ≺ whole 0 → num ≺ whole 0
+  rounds-negative : val z ≺ whole 0 → num ≺ whole 0
   rounds-negative h = by-sign (r .negative) (r .size) (mag z) (r .exact) (size-pos r) (rw (rounds-sign r) at h)
     where
       by-sign : (s : Bool) (w g : ℕ) → signed s w ≐ num → (0 < g → 0 < w) → signed s g ≺ whole 0 → num ≺ whole 0
@@ -70,7 +70,7 @@ module _ {z : Float} {num : Z} {den : ℕ} (r : Rounds z num den) where
       by-sign false w g e p h = absurd (omega arith)
 
 module _ {z : Float} {num : Z} {den : ℕ} (r : Rounds z num den) where
-  pub rounds-not-negative : whole 0 ≼ num → whole 0 ≼ val z
+  rounds-not-negative : whole 0 ≼ num → whole 0 ≼ val z
   rounds-not-negative h = elim (order-cases (whole 0) (val z)) [
     | inl l ↦ l
     | inr g ↦ absurd (let n = rounds-negative r g in omega arith)

@@ -41,7 +41,7 @@ module _ (k h : ℕ) {x y : Float} (k-low : T (leb k 24)) (h-low : T (leb h (2 ^
     err = add-near k (h * metre) k-fits x-f32 y-f32 size (mul-le-mul-right metre h-le) .err;
   }
 
-  pub sub-sized : Abs (val x ⊟ val y) (h * metre) → Sized (sub binary32 x y) (val x ⊟ val y) k h
+  sub-sized : Abs (val x ⊟ val y) (h * metre) → Sized (sub binary32 x y) (val x ⊟ val y) k h
   sub-sized size = record {
     capped = sub-cap h h-fits x-f32 y-f32 (h * metre) size (le-refl (h * metre));
     err = sub-near k (h * metre) k-fits x-f32 y-f32 size (mul-le-mul-right metre h-le) .err;

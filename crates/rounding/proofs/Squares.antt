@@ -30,7 +30,7 @@ same-fraction a E b D g m m-pos a-is b-is =
 same-square : (a E b D : ℕ) → a * D ≡ b * E → a * a * (D * D) ≡ b * b * (E * E)
 same-square a E b D h = mul-mul-mul-comm a a D D ∙ ap₂ (λ (m n : ℕ). m * n) h h ∙ sym (mul-mul-mul-comm b b E E)
 
-pub square-same : {x y : Float} → F32 x → F32 y → mag x ≡ mag y → mul binary32 x x ≡ mul binary32 y y
+square-same : {x y : Float} → F32 x → F32 y → mag x ≡ mag y → mul binary32 x x ≡ mul binary32 y y
 unfolding mul
 square-same {x = nan} x-f32 y-f32 same = absurd (x-f32 .is-finite)
 square-same {x = inf s} x-f32 y-f32 same = absurd (x-f32 .is-finite)

@@ -26,7 +26,7 @@ same-pattern {x = fin s m e} {y = inf t} x-f32 y-f32 one-sign one-size = absurd 
 same-pattern {x = fin s m e} {y = fin t n d} x-f32 y-f32 one-sign one-size =
     ap₂ (λ (u : Bool) (g : ℕ). cond u (2 ^ 31) 0 + (size g - 24) * 2 ^ 23 + g / 2 ^ (size g - 24)) one-sign one-size
 
-pub one-of-size : {x y : Float} → F32 x → F32 y → sign x ≡ sign y → mag x ≡ mag y → x ≡ y
+one-of-size : {x y : Float} → F32 x → F32 y → sign x ≡ sign y → mag x ≡ mag y → x ≡ y
 one-of-size {x} {y} x-f32 y-f32 one-sign one-size =
     sym (ofBits-toBits binary32 x (x-f32 .in-format))
     ∙ ap (ofBits binary32) (same-pattern x-f32 y-f32 one-sign one-size)

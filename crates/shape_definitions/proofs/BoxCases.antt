@@ -10,7 +10,8 @@ use Rattle.floats.specs.Ranges.{coordinate-in-range, point-in-range, rotation-i
 use Rattle.shape_definitions.specs.declared.b2_polygon_shape.B2polygonShape.{B2polygonShape}
 use Rattle.shape_definitions.specs.declared.b2_polygon_shape.PolygonAnswer.{PolygonAnswer}
 use Rattle.shape_definitions.specs.Boxes.{b2-polygon-shape-set-as-box, b2-polygon-shape-set-as-box-angle}
-use Rattle.shape_definitions.proofs.CaseRecords.{float, vector, turned-down, made}
+use Rattle.floats.proofs.BitPatterns.{float, vector}
+use Rattle.shape_definitions.proofs.CaseRecords.{turned-down, made}
 
 -- both calls, on half-widths, sine and cosine by their bit patterns
 abbrev box : B2polygonShape → ℕ → ℕ → PolygonAnswer

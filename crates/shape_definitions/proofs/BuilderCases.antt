@@ -18,7 +18,8 @@ use Rattle.shape_definitions.specs.Outline.{weld-limit, too-near, welded
 use Rattle.shape_definitions.specs.Outline.{edges, long-enough, fan}
 use Rattle.shape_definitions.specs.Polygon.{outline-of-corners, outline-of-welded}
 use Rattle.shape_definitions.specs.Polygon.{b2-polygon-shape-set, b2-polygon-shape-set-counted}
-use Rattle.shape_definitions.proofs.CaseRecords.{vector, turned-down, made}
+use Rattle.floats.proofs.BitPatterns.{vector}
+use Rattle.shape_definitions.proofs.CaseRecords.{turned-down, made}
 
 -- (1.9, 3.88), (1.9, -3.11), (-1.21, 0.78), (-3.1, 2.75), (-3.95, -1.17), (-1.209, 0.78): two have the largest x, the
 -- third lies inside, and the sixth is welded to it. The answer has other bits where a product is fused, where the

@@ -1,23 +1,15 @@
--- Floats, points and answers by their bit patterns: the vocabulary of the closed cases. An answer is written out whole:
--- what the call sets by its bits, and what it keeps as the given shape's own. Assumes nothing.
+-- Whole answers, the vocabulary of the closed cases: what the call sets by its bits, and what it keeps as the given
+-- shape's own. Definitions only.
 use mathlib.Core.Bool.{Bool}
 use mathlib.Core.List.{List, _++_}
 use Prim.Native.Nat.{ℕ}
 use lib.ListN.{length, drop}
-use lib.Ieee.{Float, binary32, ofBits}
 use Rattle.floats.specs.declared.b2_math.B2vec2.{B2vec2}
-use Rattle.floats.specs.B2Math.{vec2}
 use Rattle.shape_definitions.specs.declared.b2_polygon_shape.B2polygonShape.{B2polygonShape}
 use Rattle.shape_definitions.specs.declared.b2_polygon_shape.PolygonAnswer.{PolygonAnswer}
 use Rattle.shape_definitions.specs.declared.b2_polygon_shape.ValidateAnswer.{ValidateAnswer}
 use Rattle.shape_definitions.specs.declared.b2_edge_shape.B2edgeShape.{B2edgeShape}
 use Rattle.shape_definitions.specs.declared.b2_edge_shape.EdgeAnswer.{EdgeAnswer}
-
-abbrev pub float : ℕ → Float
-float n = ofBits binary32 n
-
-abbrev pub vector : ℕ → ℕ → B2vec2
-vector x y = vec2 (float x) (float y)
 
 -- ---- outlines: turned down with a number, or accepted with a centroid, corners and their normals
 abbrev pub turned-down : ℕ → B2polygonShape → PolygonAnswer

@@ -16,7 +16,8 @@ use Rattle.shape_definitions.specs.Outline.{too-near, welded, comes-befo
 use Rattle.shape_definitions.specs.Outline.{long-enough, fan}
 use Rattle.shape_definitions.specs.Polygon.{outline-of-corners, outline-of-welded, b2-polygon-shape-set}
 use Rattle.shape_definitions.specs.Validate.{faces-convex, polygon-in-range, b2-polygon-shape-validate}
-use Rattle.shape_definitions.proofs.CaseRecords.{float, vector, turned-down, made, tested}
+use Rattle.floats.proofs.BitPatterns.{float, vector}
+use Rattle.shape_definitions.proofs.CaseRecords.{turned-down, made, tested}
 
 -- (0, 0), (1, 0) and a third
 abbrev with-third : ℕ → ℕ → List B2vec2

@@ -2,11 +2,12 @@
 -- Assumes nothing.
 use mathlib.Core.Path.{_≡_, refl}
 use mathlib.Core.Bool.{Bool, true, false}
-use lib.Ieee.{Float, binary32, neg, le, ofBits}
+use lib.Ieee.{Float, neg, le, ofBits}
 use Rattle.floats.specs.declared.b2_math.B2vec2.{B2vec2}
 use Rattle.rounding.specs.Literals.{zero32}
 use Rattle.floats.specs.B2Math.{vec2}
 use Rattle.floats.specs.Ranges.{shape-limit, point-in-range, radius-in-range}
+use Rattle.floats.proofs.BitPatterns.{float}
 use Rattle.shape_definitions.specs.declared.b2_circle_shape.B2circleShape.{B2circleShape}
 use Rattle.shape_definitions.specs.declared.b2_edge_shape.B2edgeShape.{B2edgeShape}
 use Rattle.shape_definitions.specs.Circle.{circle-in-range}
@@ -14,7 +15,7 @@ use Rattle.shape_definitions.specs.Edge.{edge-in-range}
 
 -- the first f32 past 2^20
 abbrev pub past-the-limit : Float
-past-the-limit = ofBits binary32 0x4980_0001
+past-the-limit = float 0x4980_0001
 
 abbrev pub farthest : B2vec2
 farthest = vec2 (neg shape-limit) shape-limit

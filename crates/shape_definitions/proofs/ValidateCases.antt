@@ -11,7 +11,8 @@ use Rattle.floats.specs.Ranges.{point-in-range, radius-in-range, normal-in-rang
 use Rattle.shape_definitions.specs.declared.b2_polygon_shape.B2polygonShape.{B2polygonShape}
 use Rattle.shape_definitions.specs.Validate.{corners-not-right, faces-convex, polygon-in-range}
 use Rattle.shape_definitions.specs.Validate.{b2-polygon-shape-validate}
-use Rattle.shape_definitions.proofs.CaseRecords.{float, vector, tested}
+use Rattle.floats.proofs.BitPatterns.{float, vector}
+use Rattle.shape_definitions.proofs.CaseRecords.{tested}
 
 abbrev shape : Float → B2vec2 → ℕ → List B2vec2 → List B2vec2 → B2polygonShape
 shape radius centroid count vertices normals =

@@ -7,7 +7,8 @@ use Rattle.floats.specs.declared.b2_math.B2vec2.{B2vec2}
 use Rattle.floats.specs.Ranges.{point-in-range}
 use Rattle.shape_definitions.specs.declared.b2_edge_shape.B2edgeShape.{B2edgeShape}
 use Rattle.shape_definitions.specs.Edge.{b2-set-one-sided, b2-set-two-sided}
-use Rattle.shape_definitions.proofs.CaseRecords.{vector, wall-turned-down, wall-made}
+use Rattle.floats.proofs.BitPatterns.{vector}
+use Rattle.shape_definitions.proofs.CaseRecords.{wall-turned-down, wall-made}
 
 -- (1, 2), (3, 4), (5, 6), (7, 8), and a point out of range
 abbrev v0 : B2vec2

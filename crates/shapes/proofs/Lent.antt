@@ -13,7 +13,7 @@ use Rattle.shape_definitions.specs.Polygon.{b2-polygon-shape-set, b2-polygon-sh
 use Rattle.shape_definitions.proofs.Counted.{counted-whole}
 
 -- the points at the first eight places, the origin past the end
-abbrev pub first-eight : List B2vec2 → List B2vec2
+abbrev first-eight : List B2vec2 → List B2vec2
 first-eight l =
     point-at l 0 ∷ point-at l 1 ∷ point-at l 2 ∷ point-at l 3 ∷ point-at l 4 ∷ point-at l 5 ∷ point-at l 6 ∷ point-at
     l 7 ∷ []

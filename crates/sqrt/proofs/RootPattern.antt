@@ -33,7 +33,7 @@ nearest-root-le n r s of-r of-s = by-test (leb r s) (leb→le r s) (nleb→lt r 
     by-test true le gt = le tt
     by-test false le gt = absurd (nearest-root-only n r s (of-r .not-over) (of-s .not-under) (gt tt))
 
-pub nearest-root-unique : (n r s : ℕ) → NearestRoot n r → NearestRoot n s → r ≡ s
+nearest-root-unique : (n r s : ℕ) → NearestRoot n r → NearestRoot n s → r ≡ s
 nearest-root-unique n r s of-r of-s = le-antisymm (nearest-root-le n r s of-r of-s) (nearest-root-le n s r of-s of-r)
 
 pub nearest-root-le-2^24 : (n r : ℕ) → n < 2 ^ 48 → NearestRoot n r → r ≤ 2 ^ 24
@@ -69,7 +69,7 @@ module _ (n k : ℕ) (n-low : 2 ^ 46 ≤ n) (n-high : n < 2 ^ 48) where
       halved : (z : ℕ) → z ≤ 48 + (k + k) → 46 + (k + k) < z → (z + 1) / 2 - 24 ≡ k
       halved z a b = omega arith
 
-  pub rounded-root-pattern : (r : ℕ) → 1 ≤ k → k < 190 → NearestRoot n r
+  rounded-root-pattern : (r : ℕ) → 1 ≤ k → k < 190 → NearestRoot n r
       → ofBits binary32 (k * 2 ^ 23 + r) ≡ rounded-root binary32 (n * 4 ^ k)
   rounded-root-pattern r k-low k-high r-nearest =
       let y = n * 4 ^ k in
@@ -114,7 +114,7 @@ widened-bounds f g f-low f-high = by-parity (g % 2) (omega arith)
 exponent-halved : (g : ℕ) → 2 ≤ g → g + 21 ≡ 23 + g % 2 + (g / 2 - 1 + (g / 2 - 1))
 exponent-halved g h = omega arith
 
-pub widened-scaled : (f g : ℕ) → 2 ≤ g → f * 2 ^ (g + 21) ≡ widened f g * 4 ^ (g / 2 - 1)
+widened-scaled : (f g : ℕ) → 2 ≤ g → f * 2 ^ (g + 21) ≡ widened f g * 4 ^ (g / 2 - 1)
 widened-scaled f g h =
     let k = g / 2 - 1 in
     let p = g % 2 in

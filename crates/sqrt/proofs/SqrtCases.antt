@@ -100,11 +100,11 @@ pub zero-own-root : ofBits binary32 0 ≡ sqrt binary32 (ofBits binary32 0)
 unfolding ofBits sqrt
 zero-own-root = refl
 
-pub minus-zero-own-root : ofBits binary32 (2 ^ 31) ≡ sqrt binary32 (ofBits binary32 (2 ^ 31))
+minus-zero-own-root : ofBits binary32 (2 ^ 31) ≡ sqrt binary32 (ofBits binary32 (2 ^ 31))
 unfolding ofBits sqrt
 minus-zero-own-root = refl
 
-pub infinity-own-root : ofBits binary32 (255 * 2 ^ 23) ≡ sqrt binary32 (ofBits binary32 (255 * 2 ^ 23))
+infinity-own-root : ofBits binary32 (255 * 2 ^ 23) ≡ sqrt binary32 (ofBits binary32 (255 * 2 ^ 23))
 unfolding ofBits sqrt
 infinity-own-root = refl
 

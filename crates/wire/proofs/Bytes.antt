@@ -4,7 +4,7 @@ use mathlib.Core.Path.{_≡_, refl, sym, _∙_, ap, subst}
 use mathlib.Core.List.{List, [], _∷_, _++_}
 use native.Mathlib.Omega.{arith}
 use native.Mathlib.Numerals.{add-one}
-use lib.ListN.{length, take, drop, set, getD}
+use lib.ListN.{length, take, getD}
 use lib.Seq.{take-suc, take-length, length-take-le}
 use borrow.Author.Tests.{le-leb, lt-leb}
 use borrow.Rule.Slice.PartMut.{putMid, midOf}
@@ -13,7 +13,7 @@ use Rattle.algebra.proofs.Buffer.{over-next}
 use Rattle.lines.specs.Fields.{number-bytes}
 use Rattle.wire.specs.Words.{bytes-of, written, written-count, Written}
 
-pub bytes-append : (ws : List ℕ) (w : ℕ) → bytes-of (ws ++ (w ∷ [])) ≡ bytes-of ws ++ number-bytes w
+bytes-append : (ws : List ℕ) (w : ℕ) → bytes-of (ws ++ (w ∷ [])) ≡ bytes-of ws ++ number-bytes w
 unfolding bytes-of
 bytes-append [] w = refl
 bytes-append (x ∷ ws) w = rw (bytes-append ws w)
@@ -24,7 +24,7 @@ length-bytes [] = refl
 length-bytes (w ∷ ws) = omega (arith, length-bytes ws)
 
 -- the bytes of the first i words, and of one more
-pub bytes-next : (ws : List ℕ) (i : ℕ) → i < length ws → bytes-of (take (i + 1) ws)
+bytes-next : (ws : List ℕ) (i : ℕ) → i < length ws → bytes-of (take (i + 1) ws)
     ≡ bytes-of (take i ws) ++ number-bytes (getD ws i 0)
 bytes-next ws i h =
     ap (λ (n : ℕ). bytes-of (take n ws)) (add-one i)

@@ -11,7 +11,7 @@ use Rattle.shape_definitions.specs.declared.b2_polygon_shape.B2polygonShape.{B2
 use Rattle.wire.specs.Records.{bits, low-word, points-words, polygon-words}
 
 -- all of an array, by its first places
-pub whole-row : {A : Type 0} (n : ℕ) (l m : List A) → take n l ≡ m → length l ≡ n → l ≡ m
+whole-row : {A : Type 0} (n : ℕ) (l m : List A) → take n l ≡ m → length l ≡ n → l ≡ m
 whole-row n l m first size = sym (take-all n l (omega arith)) ∙ first
 
 -- ---- writing

@@ -1,5 +1,5 @@
 -- By the word. Assumes nothing.
-use borrow.Author.Tests.{eq-eqb, ne-eqb}
+use borrow.Author.Tests.{ne-eqb}
 use Rattle.wire.specs.ContactRecords.{state-of}
 use Rattle.wire.proofs.contact_records.state.Statement.{statement}
 use Rattle.wire.proofs.contact_records.state.Tie as tie
