@@ -5,9 +5,9 @@
 //! program over the Rust.
 #![allow(unknown_lints, unexpected_cfgs)]
 #[allow(dead_code)]
-#[path = "../tests/rust/ranges.rs"]
+#[path = "../tests/shared/ranges.rs"]
 mod ranges;
-#[path = "../tests/rust/touches.rs"]
+#[path = "../tests/record/rust_touches.rs"]
 mod touches;
 use std::fs::File;
 use std::hint::black_box;

@@ -1,6 +1,10 @@
-# What the suites share, and the commands beside them. Sourced; the working folder becomes the repository's root. A
-# check prints `ok: NAME` or `FAILED: NAME: why`. Status 3 of a command is "not at hand", used only where the papers'
-# folder is absent or the package registry cannot be reached; every other status but 0 is a failure.
+# What the suites share, and the commands beside them. suites/ has the four suites that the test command runs; checks/
+# is what the first of them asks of the pages and the crates, programs/ the second's programs, differential/ the third's
+# entries and comparison, record/ the fourth's heats and second programs, shared/ what both of these use. oracle/ builds
+# the two references; stored/ has answers on which they agree.
+# Sourced; the working folder becomes the repository's root. A check prints `ok: NAME` or `FAILED: NAME: why`. Status 3
+# of a command is "not at hand", used only where the papers' folder is absent or the package registry cannot be reached;
+# every other status but 0 is a failure.
 cd "$(dirname "${BASH_SOURCE[0]}")/.." || exit 1
 
 # The crates with C exports and their header: a new name is written here, and in examples/host.c, which includes it.
@@ -108,7 +112,7 @@ summary() {
     [ $failed -eq 0 ]
 }
 
-# kit: the identity of the toolchain, and where docs/CLAIMS.md names another; no failure, since every kit decides alike
+# kit: the identity of the toolchain that ran, and where docs/CLAIMS.md names another, which is no failure
 kit() {
     local here named
     here=$(rt version)

@@ -1,5 +1,5 @@
 // For the benchmark: objects of Box2D in memory of their own, and the addresses of its contact calls. Numbers are in
-// the order of crate bench_contacts.
+// the order of crate bench_calls.
 #include <box2d/box2d.h>
 #include <cstdint>
 #include <cstring>

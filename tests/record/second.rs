@@ -1,10 +1,10 @@
 //! What the second programs at hand say, and whether they agree.
 #[cfg(papers)]
-use crate::touches;
+use crate::rust_touches;
 
 #[cfg(box2d)]
 extern "C" {
-    // tests/oracle/box2d_touches.cpp; the output has room for 91 characters a line
+    // tests/record/box2d_touches.cpp; the output has room for 91 characters a line
     fn box2d_touches(input: *const u8, length: usize, out: *mut u8) -> usize;
     fn box2d_export(frames: *const u8, length: usize, out: *mut u8, out_length: usize) -> u32;
 }
@@ -15,7 +15,7 @@ const LONGEST_ANSWER: usize = 91;
 pub fn touches(input: &[u8]) -> (Vec<u8>, bool) {
     let mut answers: Vec<Vec<u8>> = Vec::new();
     #[cfg(papers)]
-    answers.push(touches::touches(input));
+    answers.push(rust_touches::touches(input));
     #[cfg(box2d)]
     {
         let lines = 1 + input.iter().filter(|c| **c == b'\n').count();
@@ -36,7 +36,7 @@ pub fn export(frames: &[u8], old: &[u8]) -> (u32, Vec<u8>, bool) {
     #[cfg(papers)]
     {
         let mut out = old.to_vec();
-        let number = touches::export(frames, &mut out);
+        let number = rust_touches::export(frames, &mut out);
         answers.push((number, out));
     }
     #[cfg(box2d)]

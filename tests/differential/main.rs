@@ -10,10 +10,12 @@ mod box2d_oracle;
 mod compare;
 mod contacts;
 mod floats;
+#[path = "../shared/generators.rs"]
 mod generators;
 mod lent_slice;
 mod malformed;
 mod manifolds;
+#[path = "../shared/ranges.rs"]
 mod ranges;
 mod row;
 #[cfg(papers)]
@@ -21,6 +23,7 @@ mod rust_contacts;
 #[cfg(papers)]
 mod rust_oracle;
 mod shapes;
+#[path = "../shared/support.rs"]
 mod support;
 mod table;
 use row::Row;
@@ -50,7 +53,7 @@ fn store(file: &str, cases: u64, seed: u64) {
 fn main() {
     std::panic::set_hook(Box::new(|panic| {
         // the Rust's asserts are answers; what goes wrong in the harness is shown
-        if panic.location().map_or(true, |place| place.file().contains("tests/rust")) {
+        if panic.location().map_or(true, |place| place.file().starts_with("tests/")) {
             eprintln!("{panic}");
         }
     }));

@@ -57,7 +57,7 @@ fn references(row: &Row, request: &[u32]) -> Vec<Answer> {
 }
 
 extern "C" {
-    // What sine and cosine give from now on, in this process: the Rust's and Box2D's (tests/oracle/turn.c).
+    // What sine and cosine give from now on, in this process: the Rust's and Box2D's (tests/differential/turn.c).
     fn set_turn(sine: f32, cosine: f32);
 }
 

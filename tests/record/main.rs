@@ -11,18 +11,21 @@ mod census;
 mod damage;
 mod export;
 #[allow(dead_code)]
+#[path = "../shared/generators.rs"]
 mod generators;
 mod heats;
 mod limits;
 mod pieces;
 #[allow(dead_code)]
+#[path = "../shared/ranges.rs"]
 mod ranges;
 mod robots;
+#[cfg(papers)]
+mod rust_touches;
 mod second;
 #[allow(dead_code)]
+#[path = "../shared/support.rs"]
 mod support;
-#[cfg(papers)]
-mod touches;
 use heats::{heat, FIXED};
 use std::io::{Read, Write};
 use support::{Random, Tally};
@@ -79,7 +82,7 @@ fn short_heat(random: &mut Random, length: usize) -> Vec<u8> {
 fn main() {
     std::panic::set_hook(Box::new(|panic| {
         // the Rust's asserts are answers; what goes wrong in the harness is shown
-        if panic.location().map_or(true, |place| place.file().contains("tests/rust")) {
+        if panic.location().map_or(true, |place| place.file().starts_with("tests/")) {
             eprintln!("{panic}");
         }
     }));
