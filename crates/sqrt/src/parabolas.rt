@@ -1,5 +1,5 @@
-// The parabolas of which the root makes its candidates, one for each of 128 segments. `tests/parabolas` prints the
-// table. Nothing is proved of its numbers.
+// The parabolas of which the root makes its candidates, one for each of 128 segments. `tests/checks/parabolas` prints
+// the table. Nothing is proved of its numbers.
 
 // The height, which has the bend in its last 16 binary digits, and the slope.
 pub struct Parabola(pub u64, pub u32);
