@@ -22,7 +22,7 @@ use Rattle.record_definitions.proofs.Alone.{change-alone}
 
 -- ---- fresh pairs stay fresh
 module _ {A : Type 0} (x : A) where
-  get-same : (n i : ℕ) → getD (replicate n x) i x ≡ x
+  pub get-same : (n i : ℕ) → getD (replicate n x) i x ≡ x
   get-same zero i = refl
   get-same (suc n) zero = refl
   get-same (suc n) (suc i) = get-same n i

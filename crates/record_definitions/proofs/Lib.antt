@@ -18,6 +18,10 @@ pub mod SoundTests
 pub mod SoundFrames
 pub mod Again
 pub mod Theorem
+pub mod HeatTests
+pub mod HeatSteps
+pub mod HeatLaw
+pub mod HeatCases
 pub mod Heats
 pub mod TableCases
 pub mod Controls

@@ -123,7 +123,7 @@ placed-sound body bytes sound taken = record {
 }
 
 -- ---- walls that are accepted are in range
-both : (s t : Bool) → s && t ≡ true → (s ≡ true) × (t ≡ true)
+pub both : (s t : Bool) → s && t ≡ true → (s ≡ true) × (t ≡ true)
 both true true e = (refl, refl)
 both true false e = absurd (false≢true e)
 both false t e = absurd (false≢true e)

@@ -31,7 +31,7 @@ ids-by-count (suc zero) p q few = refl
 ids-by-count (suc (suc zero)) p q few = refl
 ids-by-count (suc (suc (suc n))) p q few = absurd (omega arith)
 
-ids-of-points : (m : B2manifold) (points : List B2manifoldPoint) → m .points ≡ points → length points ≡ 2
+pub ids-of-points : (m : B2manifold) (points : List B2manifoldPoint) → m .points ≡ points → length points ≡ 2
     → m .«point_count» ≤ 2 → ids-in (ids-of m) ≡ counted-ids m
 unfolding ids-in ids-of counted-ids counted-points
 ids-of-points m [] is size few = absurd (omega arith)

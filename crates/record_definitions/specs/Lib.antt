@@ -6,3 +6,4 @@ pub mod Step
 pub mod Touches
 pub mod Reading
 pub mod Export
+pub mod Heat

@@ -1,5 +1,5 @@
 -- The marked cases of document 01 about outlines and validate, each with its whole answer, computed by antt from the
--- definitions, whatever shape the call was given; validate's is any of no corners with its radius and centroid in range.
+-- definitions, whatever shape the call was given; validate's is any of no corners, its radius and centroid in range.
 -- Accepted ones are what Box2D 2.4.1 and the Rust agree on, as bit patterns. Assumes nothing.
 use mathlib.Core.Path.{_≡_, refl}
 use mathlib.Core.Bool.{true}
@@ -16,7 +16,7 @@ use Rattle.shape_definitions.specs.Outline.{too-near, welded, comes-befo
 use Rattle.shape_definitions.specs.Outline.{long-enough, fan}
 use Rattle.shape_definitions.specs.Polygon.{outline-of-corners, outline-of-welded, b2-polygon-shape-set}
 use Rattle.shape_definitions.specs.Validate.{faces-convex, polygon-in-range, b2-polygon-shape-validate}
-use Rattle.floats.proofs.BitPatterns.{float, vector}
+use Rattle.floats.proofs.BitPatterns.{vector}
 use Rattle.shape_definitions.proofs.CaseRecords.{turned-down, made, tested}
 
 -- (0, 0), (1, 0) and a third

@@ -1,0 +1,104 @@
+-- The law of a heat on a closed heat of two circles: a push, a rest, the other order, a removal, a second push, a shape
+-- that is refused, and a new shape, after which all begins anew. So no hypothesis of the law is empty.
+-- Assumes nothing.
+use Prim.Native.Nat.{ℕ}
+use mathlib.Core.Path.{_≡_, refl}
+use mathlib.Core.List.{List, [], _∷_, map}
+use native.Mathlib.Omega.{arith}
+use lib.ListN.{length, take}
+use lib.Ieee.{neg, add, sub, mul, div, le, lt, eq, ofBits, toBits}
+use Rattle.sqrt.specs.Sqrt.{root-digits, whole-root, rounded-root, sqrt}
+use Rattle.floats.specs.B2Math.{b2-sqrt, b2-add, b2-sub, b2-neg, b2-scale, b2-dot, b2-length-squared, b2-length}
+use Rattle.floats.specs.B2Math.{b2-distance-vec2-squared, b2-normalize, b2-mul-rot-by-vec2, b2-mul-transform-by-vec2}
+use Rattle.floats.specs.Ranges.{point-in-range, radius-in-range, rotation-in-range, transform-in-range}
+use Rattle.floats.specs.Ranges.{local-normal-in-range, contact-point-in-range}
+use Rattle.lines.specs.Fields.{vector-at, rotation-at, placement-at}
+use Rattle.lines.specs.Hex.{unhex, frame-of}
+use Rattle.lines.proofs.Text.{text}
+use Rattle.shape_definitions.specs.Circle.{circle-in-range}
+use Rattle.contact_definitions.specs.declared.b2_collision.B2pointState.the-variants.{B2PersistState}
+use Rattle.contact_definitions.specs.B2CollideCircle.{farther, circles-manifold, b2-collide-circles}
+use Rattle.contact_definitions.specs.Manifold.{counted-points, with-local-point, with-count, with-one-point}
+use Rattle.contact_definitions.specs.PointStates.{same-id, id-among, counted-ids, ids-of, ids-in, point-state}
+use Rattle.contact_definitions.specs.PointStates.{states-of-ids}
+use Rattle.contact_definitions.specs.WorldManifold.{circles-normal, world-of-circles, points-in-range}
+use Rattle.contact_definitions.specs.WorldManifold.{manifold-in-range, b2-world-manifold-initialize}
+use Rattle.record_definitions.specs.declared.world.World.{World}
+use Rattle.record_definitions.specs.declared.touch.Touch.{Touch}
+use Rattle.record_definitions.specs.World.{blank-body, circle-body, placed, fresh-pair, fresh-world, body-at}
+use Rattle.record_definitions.specs.World.{pair-at, forget-below}
+use Rattle.record_definitions.specs.Touch.{meet-circle, meet, skin, world-points, touches-after, states-of}
+use Rattle.record_definitions.specs.Touch.{touch-of, tested-as, tested}
+use Rattle.record_definitions.specs.Frame.{frame-length, well-formed, circle-change, place-change}
+use Rattle.record_definitions.specs.Frame.{listed, test-refusal, test-change, change-of-kind, change}
+use Rattle.record_definitions.specs.Step.{change-in, changed, after-frame, said-of-frame}
+use Rattle.record_definitions.specs.Heat.{world-after, contact-in, contacts-after, contacts-of, touches-of}
+use Rattle.record_definitions.specs.Heat.{new-ids, NextTest}
+use Rattle.record_definitions.proofs.HeatLaw.{heat-law}
+
+abbrev heat : List (List ℕ)
+heat = map text (
+    "010000000000000000003f800000" ∷
+    "04000000000000000000000000003f800000" ∷
+    "010100000000000000003f800000" ∷
+    "04013fc000000000000000000000" ∷
+    "04013fc0000000000000000000003f800000" ∷
+    "050001" ∷
+    "050001" ∷
+    "050100" ∷
+    "04014110000000000000000000003f800000" ∷
+    "050001" ∷
+    "04013fc0000000000000000000003f800000" ∷
+    "050001" ∷
+    "01010000000000000000bf800000" ∷
+    "010100000000000000003f800000" ∷
+    "04013fc0000000000000000000003f800000" ∷
+    "050001" ∷
+    [])
+
+-- its first lines, and the world after them
+abbrev lines : ℕ → List (List ℕ)
+lines n = take n heat
+
+abbrev world : ℕ → World
+world n = world-after fresh-world (lines n)
+
+-- the test of the pair 0 1 there
+abbrev printed : ℕ → Touch
+printed n = tested 0 1 (body-at (world n) 0) (body-at (world n) 1) (pair-at (world n) 0 1) .touch
+
+pub record HeatCases : Type 0 where
+  -- how many contacts count after each test, and how many touches: pushed, resting, tested the other way round, apart,
+  -- pushed again, a refused shape, a new shape, pushed
+  pub contacts : map (λ (n : ℕ). length (contacts-of 0 1 (lines n))) (5 ∷ 6 ∷ 7 ∷ 8 ∷ 10 ∷ 12 ∷ 13 ∷ 14 ∷ 16 ∷ [])
+      ≡ 0 ∷ 1 ∷ 2 ∷ 2 ∷ 3 ∷ 4 ∷ 4 ∷ 0 ∷ 1 ∷ []
+  pub touches : map (λ (n : ℕ). touches-of (contacts-of 0 1 (lines n))) (5 ∷ 6 ∷ 7 ∷ 8 ∷ 10 ∷ 12 ∷ 13 ∷ 14 ∷ 16 ∷ [])
+      ≡ 0 ∷ 1 ∷ 1 ∷ 1 ∷ 1 ∷ 2 ∷ 2 ∷ 0 ∷ 1 ∷ []
+  pub other-order : map (λ (n : ℕ). length (contacts-of 1 0 (lines n))) (7 ∷ 8 ∷ 13 ∷ 14 ∷ []) ≡ 0 ∷ 1 ∷ 1 ∷ 0 ∷ []
+  -- what the law says of the second test: its point rests and the count stays
+  pub second-test : NextTest (contacts-of 0 1 (lines 6)) (contact-in 0 1 (world 6)) (printed 6)
+  pub point-rests : printed 6 .states .new0 ≡ B2PersistState
+  pub count-stays : printed 6 .touches ≡ 1
+
+pub heat-cases : HeatCases
+unfolding neg add sub mul div le lt eq ofBits toBits root-digits whole-root rounded-root sqrt b2-sqrt b2-add b2-sub
+    b2-neg b2-scale b2-dot b2-length-squared b2-length b2-distance-vec2-squared b2-normalize b2-mul-rot-by-vec2
+    b2-mul-transform-by-vec2 point-in-range radius-in-range rotation-in-range transform-in-range
+    local-normal-in-range contact-point-in-range vector-at rotation-at placement-at unhex frame-of
+    circle-in-range farther with-local-point with-count with-one-point counted-points same-id id-among counted-ids
+    ids-of ids-in point-state states-of-ids points-in-range manifold-in-range b2-world-manifold-initialize blank-body
+    circle-body placed fresh-pair fresh-world forget-below meet-circle meet skin world-points touches-after states-of
+    touch-of tested-as tested frame-length well-formed circle-change place-change listed test-refusal test-change
+    change-of-kind change change-in changed after-frame said-of-frame circles-manifold b2-collide-circles
+    circles-normal world-of-circles contacts-after touches-of new-ids
+heat-cases =
+    let law = heat-law 0 1 (omega arith) (omega arith) (lines 6) in
+    let next = law .next-test (text "050001") (printed 6) refl refl refl in
+    record {
+      contacts = refl;
+      touches = refl;
+      other-order = refl;
+      second-test = next;
+      point-rests = next .first-rests (omega arith) refl;
+      count-stays = next .all-rest refl;
+    }

@@ -1,0 +1,109 @@
+-- Document 01, "The touch record", over a whole heat: what an ordered pair of ids remembers, counts and prints hangs on
+-- the contacts of its accepted tests since the last accepted new shape under either id, and on nothing else. So "a
+-- resting contact recorded as a fresh push" is ruled out over a heat, not a step. Definitions only.
+use Prim.Native.Nat.{ℕ, suc, _+_, _≤_, _<_}
+use mathlib.Core.Path.{_≡_}
+use mathlib.Core.Bool.{Bool, true, cond, _&&_, _||_}
+use mathlib.Core.List.{List, [], _∷_}
+use lib.Dec.{eqb}
+use Rattle.lines.specs.Fields.{byte-at}
+use Rattle.lines.specs.Hex.{frame-of}
+use Rattle.shape_definitions.specs.Refusal.{accepted}
+use Rattle.contact_definitions.specs.declared.b2_collision.B2contactId.{B2contactId}
+use Rattle.contact_definitions.specs.declared.b2_collision.B2manifold.{B2manifold}
+use Rattle.contact_definitions.specs.declared.b2_collision.B2pointState.the-variants.{B2PersistState}
+use Rattle.contact_definitions.specs.declared.b2_collision.PointStates.{PointStates}
+use Rattle.contact_definitions.specs.Manifold.{default-manifold, manifold-point}
+use Rattle.contact_definitions.specs.PointStates.{counted-ids, id-among, ids-of, states-of-ids, b2-get-point-states}
+use Rattle.record_definitions.specs.declared.world.World.{World}
+use Rattle.record_definitions.specs.declared.touch.Touch.{Touch}
+use Rattle.record_definitions.specs.declared.frame.Answer.{Answer}
+use Rattle.record_definitions.specs.declared.frame.Answer.the-variants.{Accepted, Refused, Tested}
+use Rattle.record_definitions.specs.World.{circle-kind, outline-kind, wall-kind, fresh-world, body-at, pair-at}
+use Rattle.record_definitions.specs.Touch.{meet, touches-after}
+use Rattle.record_definitions.specs.Step.{after-line, said-of-line}
+
+-- the world after some lines
+abbrev pub world-after : World → List (List ℕ) → World
+world-after w [] = w
+world-after w (line ∷ lines) = world-after (after-line w line) lines
+
+-- ---- the contacts of a pair that count: of its accepted tests since a new shape under either id, the latest first
+abbrev pub defines-shape : List ℕ → Bool
+defines-shape frame =
+    eqb (byte-at frame 0) circle-kind || eqb (byte-at frame 0) outline-kind || eqb (byte-at frame 0) wall-kind
+
+module _ (a b : ℕ) where
+  -- after one more frame, by its answer: an accepted shape of either id leaves none, an accepted test of the pair adds
+  -- its contact, and nothing else changes them
+  abbrev pub with-answer : Answer → List ℕ → B2manifold → List B2manifold → List B2manifold
+  with-answer Accepted frame contact earlier =
+      cond (defines-shape frame && (eqb (byte-at frame 1) a || eqb (byte-at frame 1) b)) [] earlier
+  with-answer (Refused number) frame contact earlier = earlier
+  with-answer (Tested t) frame contact earlier = cond (eqb (t .a) a && eqb (t .b) b) (contact ∷ earlier) earlier
+
+  -- the contact of the two bodies as they stand
+  abbrev pub contact-in : World → B2manifold
+  contact-in w = meet (body-at w a) (body-at w b) .manifold
+
+  abbrev pub with-line : World → List ℕ → List B2manifold → List B2manifold
+  with-line w line earlier = with-answer (said-of-line w line .answer) (frame-of line) (contact-in w) earlier
+
+  unfoldable pub contacts-after : World → List B2manifold → List (List ℕ) → List B2manifold
+  contacts-after w earlier [] = earlier
+  contacts-after w earlier (line ∷ lines) = contacts-after (after-line w line) (with-line w line earlier) lines
+
+  abbrev pub contacts-of : List (List ℕ) → List B2manifold
+  contacts-of lines = contacts-after fresh-world [] lines
+
+-- ---- what they decide
+-- the contact of the last of these tests; none is a default manifold
+abbrev pub last-contact : List B2manifold → B2manifold
+last-contact [] = default-manifold
+last-contact (contact ∷ earlier) = contact
+
+-- the point states of a contact against the one before
+abbrev pub states-between : B2manifold → B2manifold → PointStates
+states-between old new = states-of-ids (counted-ids old) (counted-ids new)
+
+-- the touches: the counting rule, from 0, test after test
+unfoldable pub touches-of : List B2manifold → ℕ
+touches-of [] = 0
+touches-of (contact ∷ earlier) = touches-after (touches-of earlier) (states-between (last-contact earlier) contact)
+
+-- how many of the ids are new
+unfoldable pub new-ids : List B2contactId → List B2contactId → ℕ
+new-ids old [] = 0
+new-ids old (id ∷ ids) = cond (id-among id old) (new-ids old ids) (suc (new-ids old ids))
+
+-- the points of a contact that the one before had not: all others rest
+abbrev pub new-points : B2manifold → B2manifold → ℕ
+new-points old new = new-ids (counted-ids old) (counted-ids new)
+
+-- ---- a test of the pair that met this contact and printed t, after tests that met the earlier ones
+pub record NextTest (earlier : List B2manifold) (contact : B2manifold) (t : Touch) : Type 0 where
+  -- its states, old and new, are those of Box2D's b2GetPointStates on the contact of the test before and on this one
+  pub states : (given : PointStates)
+      → b2-get-point-states given (last-contact earlier) contact ≡ record { states = t .states; refusal = accepted }
+  -- its count is the counting rule's, test after test
+  pub count : t .touches ≡ touches-of (contact ∷ earlier)
+  -- a resting point is no fresh push: where the test before had a point of its id, it persists
+  pub first-rests : 0 < contact .«point_count»
+      → id-among (manifold-point contact 0 .id) (counted-ids (last-contact earlier)) ≡ true
+      → t .states .new0 ≡ B2PersistState
+  pub second-rests : 1 < contact .«point_count»
+      → id-among (manifold-point contact 1 .id) (counted-ids (last-contact earlier)) ≡ true
+      → t .states .new1 ≡ B2PersistState
+  -- and it is not counted: the count rises at most by the number of new points, and not at all where every point rests
+  pub only-new-points : t .touches ≤ touches-of earlier + new-points (last-contact earlier) contact
+  pub all-rest : new-points (last-contact earlier) contact ≡ 0 → t .touches ≡ touches-of earlier
+
+-- ---- the law of a heat, for an ordered pair of ids and any lines from a fresh start
+pub record HeatLaw (a b : ℕ) (lines : List (List ℕ)) : Type 0 where
+  -- the pair remembers the last of these contacts, and their count
+  pub remembered : pair-at (world-after fresh-world lines) a b .ids ≡ ids-of (last-contact (contacts-of a b lines))
+  pub counted : pair-at (world-after fresh-world lines) a b .touches ≡ touches-of (contacts-of a b lines)
+  -- and so it prints, whatever line comes next
+  pub next-test : (line : List ℕ) (t : Touch)
+      → said-of-line (world-after fresh-world lines) line .answer ≡ Tested t → t .a ≡ a → t .b ≡ b
+      → NextTest (contacts-of a b lines) (contact-in a b (world-after fresh-world lines)) t
