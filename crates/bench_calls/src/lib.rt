@@ -86,7 +86,7 @@ pub extern "C" fn direct_validate(shape: &[f32], count: usize) -> u32 {
     if answer.valid { 1 } else { 0 }
 }
 
-pub mod contacts;
+pub mod contact_passes;
 mod manifolds;
 mod outlines;
 pub mod world;

@@ -5,8 +5,8 @@ use crate::worlds;
 use crate::worlds::Question;
 use crate::worlds::World;
 use bench_passes::numbers::case;
-use collision::b2_collision;
 use contact_definitions::b2_collision::WorldAnswer;
+use contacts::b2_collision;
 
 // One question, on the world manifold of the last.
 fn asked(last: WorldAnswer, q: Question) -> WorldAnswer {

@@ -5,11 +5,11 @@ use crate::clip_records;
 use crate::clip_records::Clip;
 use crate::numbers;
 use crate::numbers::CASES;
-use collision::b2_collision;
 use contact_definitions::b2_collision::B2clipVertex;
 use contact_definitions::b2_collision::B2contactFeature;
 use contact_definitions::b2_collision::B2contactId;
 use contact_definitions::b2_collision::ClipAnswer;
+use contacts::b2_collision;
 use floats::b2_math::B2vec2;
 
 // How many numbers a segment and its line have: two ends, the normal and the offset.

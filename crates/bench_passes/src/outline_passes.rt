@@ -3,9 +3,9 @@ use crate::numbers;
 use crate::placed;
 use crate::placed::PlacedCircle;
 use crate::placed::PlacedPolygon;
-use circle_contacts::b2_collide_circle;
 use contact_definitions::b2_collision::ManifoldAnswer;
-use outline_contacts::b2_collide_polygon;
+use contacts::b2_collide_circle;
+use contacts::b2_collide_polygon;
 
 fn circles_once(last: ManifoldAnswer, a: PlacedCircle, b: PlacedCircle) -> ManifoldAnswer {
     let m = last.manifold;

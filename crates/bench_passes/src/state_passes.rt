@@ -5,13 +5,13 @@ use crate::numbers;
 use crate::numbers::CASES;
 use crate::state_records;
 use crate::state_records::States;
-use collision::b2_collision;
 use contact_definitions::b2_collision::B2contactFeature;
 use contact_definitions::b2_collision::B2contactId;
 use contact_definitions::b2_collision::B2manifold;
 use contact_definitions::b2_collision::B2manifoldPoint;
 use contact_definitions::b2_collision::B2manifoldType;
 use contact_definitions::b2_collision::PointStatesAnswer;
+use contacts::b2_collision;
 use floats::b2_math::B2vec2;
 
 // How many bytes two manifolds have here: each two ids and a count.

@@ -5,7 +5,7 @@ use crate::placed::PlacedCircle;
 use crate::placed::PlacedEdge;
 use crate::placed::PlacedPolygon;
 use contact_definitions::b2_collision::ManifoldAnswer;
-use wall_contacts::b2_collide_edge;
+use contacts::b2_collide_edge;
 
 fn edge_and_circle_once(last: ManifoldAnswer, a: PlacedEdge, b: PlacedCircle) -> ManifoldAnswer {
     let m = last.manifold;

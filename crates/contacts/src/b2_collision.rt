@@ -1,4 +1,8 @@
-// The calls of b2_collision.cpp: clipping, world points, and point states.
+// Clipping, world points and point states. The record takes the world points by value, and keeps of a manifold only
+// its count and ids, from which the states are found.
 pub use collision::b2_collision::b2_clip_segment_to_line;
 pub use collision::b2_collision::b2_get_point_states;
 pub use collision::b2_collision::b2_world_manifold_initialize;
+pub use collision::b2_collision::b2_world_manifold_initialize_core;
+pub use collision::b2_collision::counted_ids;
+pub use collision::b2_collision::states_of_ids;

@@ -1,7 +1,6 @@
-// The contact calls, each in the module of Box2D's file that has it. Each stands in a crate of its own, which checks in
-// seconds; here they are together, for whoever calls them.
-pub use circle_contacts::b2_collide_circle;
-pub use outline_contacts::b2_collide_polygon;
-pub use wall_contacts::b2_collide_edge;
-
+// The door to the contacts: the calls of four of Box2D's files, each under the name of its file. The record, the test
+// entries and the benchmarks call through here; what a call is made of stands in the crate of its file.
+pub mod b2_collide_circle;
+pub mod b2_collide_edge;
+pub mod b2_collide_polygon;
 pub mod b2_collision;

@@ -2,19 +2,19 @@
 ghost use mathlib.Core.Path.{_≡_};
 ghost use Rattle.contact_definitions.specs.Manifold as manifolds;
 ghost use Rattle.record_definitions.specs.Touch as results;
-use circle_contacts::b2_collide_circle;
 use contact_definitions::b2_collision::B2contactFeature;
 use contact_definitions::b2_collision::B2contactId;
 use contact_definitions::b2_collision::B2manifold;
 use contact_definitions::b2_collision::B2manifoldPoint;
 use contact_definitions::b2_collision::B2manifoldType;
 use contact_definitions::b2_collision::ManifoldAnswer;
+use contacts::b2_collide_circle;
+use contacts::b2_collide_edge;
+use contacts::b2_collide_polygon;
 use floats::b2_math::B2vec2;
-use outline_contacts::b2_collide_polygon;
 use record_definitions::world::Body;
 use record_definitions::world::CIRCLE;
 use record_definitions::world::OUTLINE;
-use wall_contacts::b2_collide_edge;
 
 fn default_manifold() -> B2manifold
     ensures { λ r. ⌜ r ≡ manifolds.default-manifold ⌝ }

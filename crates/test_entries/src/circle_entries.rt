@@ -3,8 +3,8 @@
 ghost use Rattle.wire.specs.Words.{Written};
 ghost use Rattle.test_entries.specs.CircleEntries.{circles-answer, polygon-and-circle-answer};
 ghost use Rattle.test_entries.specs.CircleEntries.{edge-and-circle-answer};
-use circle_contacts::b2_collide_circle;
-use wall_contacts::b2_collide_edge;
+use contacts::b2_collide_circle;
+use contacts::b2_collide_edge;
 use wire::contact_answers;
 use wire::contact_records;
 use wire::records;

@@ -3,8 +3,8 @@
 // is the refusal and the manifold.
 ghost use Rattle.wire.specs.Words.{Written};
 ghost use Rattle.test_entries.specs.OutlineEntries.{polygons-answer, edge-and-polygon-answer};
-use outline_contacts::b2_collide_polygon;
-use wall_contacts::b2_collide_edge;
+use contacts::b2_collide_edge;
+use contacts::b2_collide_polygon;
 use wire::contact_answers;
 use wire::contact_records;
 use wire::records;

@@ -1,7 +1,7 @@
 // Clipping and point states: the number of words written, 0 for a malformed request or an output too short.
 ghost use Rattle.wire.specs.Words.{Written};
 ghost use Rattle.test_entries.specs.PointEntries.{clip-answer, point-states-answer};
-use collision::b2_collision;
+use contacts::b2_collision;
 use wire::contact_records;
 use wire::point_answers;
 use wire::records;

@@ -1,7 +1,7 @@
 // The entry of the world points: a request of bytes, and the answer's words.
 ghost use Rattle.wire.specs.Words.{Written};
 ghost use Rattle.test_entries.specs.WorldEntries.{world-points-answer};
-use collision::b2_collision;
+use contacts::b2_collision;
 use wire::contact_records;
 use wire::point_answers;
 use wire::records;
