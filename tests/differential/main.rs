@@ -1,5 +1,5 @@
 //! The differential runs: every row of the table, ours against the unmodified Rust and Box2D 2.4.1, every field,
-//! refusals included; and malformed requests. Built with `--cfg papers` where the Rust is at hand and `--cfg box2d`
+//! refusals included; malformed requests; and kept NaNs. Built with `--cfg papers` where the Rust is at hand and `--cfg box2d`
 //! where Box2D is.
 //! usage: differential CASES SEED               compares, for each row until CASES were asked of the references
 //!        differential store FILE CASES SEED    prints answers for tests/stored/FILE.txt, which the references share
@@ -12,11 +12,13 @@ mod contacts;
 mod floats;
 #[path = "../shared/generators.rs"]
 mod generators;
+mod kept;
 mod lent_slice;
 mod malformed;
 mod manifolds;
 #[path = "../shared/ranges.rs"]
 mod ranges;
+mod records;
 mod row;
 #[cfg(papers)]
 mod rust_contacts;
@@ -65,7 +67,7 @@ fn main() {
     assert!(words.len() == 2, "usage: differential CASES SEED");
     let (cases, seed) = (number(0), number(1));
     println!("seed {seed}");
-    let mut results = vec![malformed::run(cases, seed)];
+    let mut results = vec![malformed::run(cases, seed), kept::run(TABLE, (cases / 100).max(1000), seed)];
     for (i, row) in TABLE.iter().enumerate() {
         if compare::REFERENCES > 0 {
             results.push(compare::run(row, cases, seed + 1 + i as u64));

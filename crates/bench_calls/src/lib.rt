@@ -89,5 +89,6 @@ pub extern "C" fn direct_validate(shape: &[f32], count: usize) -> u32 {
 pub mod contact_passes;
 mod manifolds;
 mod outlines;
+pub mod shape_calls;
 pub mod world;
 mod worlds;
