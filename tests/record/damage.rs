@@ -97,7 +97,7 @@ impl Heat<'_> {
             5 => line.truncate(place),
             6 => line.extend(b"00"),
             7 => line = Vec::new(),
-            8 => line[0..2].copy_from_slice(random.of(&[b"00", b"06", b"07", b"08", b"10", b"7f", b"ff"])),
+            8 => line[0..2].copy_from_slice(random.of(&[b"00", b"0b", b"0f", b"10", b"7f", b"ee", b"ff"])),
             9 if good[0] == 3 || good[0] == 2 => line[4..6].copy_from_slice(random.of(&[b"02", b"09", b"10", b"ff"])),
             9 | 10 => {
                 // 134 digits are a frame of eight points; 135 and more are overlong, whatever they begin with

@@ -93,7 +93,7 @@ const BAD_CENTROID: &str = "020004490a1fa5492cfc44c89c4a18c8c3bc7749282b0749529c
     04000000000000000000000000003f80000002010300000000000000003f80000000000000000000003f800000\
     04010000000000000000000000003f800000";
 
-fn bytes_of(hex: &str) -> Vec<u8> {
+pub fn bytes_of(hex: &str) -> Vec<u8> {
     (0..hex.len() / 2).map(|i| u8::from_str_radix(&hex[2 * i..2 * i + 2], 16).expect("digits")).collect()
 }
 

@@ -4,7 +4,8 @@
 //!        record export CASES SEED                 compares the export
 //!        record limits CASES SEED                 searches for what docs/LIMITS.md says does not happen
 //!        record store FOLDER HEATS LENGTH SEED    writes heats and their answers for tests/stored, which both share
-//!        record touches                           the second program on standard input
+//!        record touches                           the second programs on standard input
+//!        record exports                           their export on lines ROOM FRAMES: what it returns and writes
 //!        record heat LENGTH SEED                  prints a heat
 #![allow(unknown_lints, unexpected_cfgs)]
 mod census;
@@ -69,6 +70,17 @@ fn store(folder: &str, heats: usize, length: usize, seed: u64) {
     }
 }
 
+/// The export on an output of that many bytes: what it returns, and the bytes that it writes to the front.
+fn exported(line: &str) {
+    let (room, digits) = line.split_once(' ').expect("a number and digits");
+    let old = vec![7; room.parse().expect("a number")];
+    let (number, out, agree) = second::export(&export::bytes_of(digits), &old);
+    assert!(agree, "the second programs differ on these frames");
+    let written = if number < 256 { number as usize } else { 0 };
+    assert!(out[written..] == old[written..], "the rest of the output is not as it was");
+    println!("{number} {}", out[..written].iter().map(|b| format!("{b:02x}")).collect::<String>());
+}
+
 /// A heat without a line of thousands of characters.
 fn short_heat(random: &mut Random, length: usize) -> Vec<u8> {
     loop {
@@ -109,12 +121,15 @@ fn main() {
             assert!(agree, "the second programs differ on this input");
             return std::io::stdout().write_all(&answers).expect("standard output");
         }
+        (Some("exports"), 1) => {
+            return std::io::stdin().lines().for_each(|line| exported(&line.expect("standard input")));
+        }
         (Some("heat"), 3) => {
             let text = heat(&mut Random::new(number(2)), number(1) as usize);
             return std::io::stdout().write_all(&text).expect("standard output");
         }
         _ => panic!(
-            "usage: record heats PROGRAM HEATS LENGTH SEED | export CASES SEED | limits CASES SEED | touches | heat .."
+            "usage: record heats PROGRAM HEATS LENGTH SEED | export CASES SEED | limits CASES SEED | touches | exports | .."
         ),
     };
     println!("{} passed, {} failed", passed as u32, !passed as u32);

@@ -1,5 +1,5 @@
--- Closed cases of the export: what it returns and leaves of an output whose bytes are 07. The answers are those of a
--- second program over Box2D 2.4.1. Assumes nothing.
+-- Closed cases of the export: what it returns and leaves of an output whose bytes are 07. The answers are those of the
+-- second programs, written by tests/record/closed_heats. Assumes nothing.
 use Prim.Native.String.{String}
 use mathlib.Core.Path.{refl}
 use mathlib.Core.List.{[], _∷_}

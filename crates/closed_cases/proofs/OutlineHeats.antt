@@ -1,5 +1,5 @@
--- Closed cases of the touch record, of outlines: each line of a heat with its answer. The answers are those of a second
--- program over Box2D 2.4.1. Assumes nothing.
+-- Closed cases of the touch record, of outlines: each line of a heat with its answer. The answers are those of the
+-- second programs, written by tests/record/closed_heats. Every body is placed before it is tested. Assumes nothing.
 use mathlib.Core.Path.{refl}
 use mathlib.Core.List.{[], _∷_}
 use lib.Ieee.{neg, add, sub, mul, div, le, lt, eq, ofBits, toBits}
@@ -50,6 +50,7 @@ pub record OutlineHeats : Type 0 where
   -- two boxes: two points and two touches; slid along, one point is gone, one rests and one is new
   pub outlines-slide : Runs (
       ("020004bf800000bf8000003f800000bf8000003f8000003f800000bf8000003f800000", "00") ∷
+      ("04000000000000000000000000003f800000", "00") ∷
       ("020104bf800000bf8000003f800000bf8000003f8000003f800000bf8000003f800000", "00") ∷
       ("04013fc0000000000000000000003f800000", "00") ∷
       ("050001", "050001020100000101000000023f800000000000003f4000003f800000bf051eb83f400000bf800000bf051eb8") ∷
@@ -59,7 +60,9 @@ pub record OutlineHeats : Type 0 where
   -- an outline and a circle; the other order is not listed; a refused outline leaves the old one
   pub outline-and-circle : Runs (
       ("02000300000000000000003f80000000000000000000003f800000", "00") ∷
+      ("04000000000000000000000000003f800000", "00") ∷
       ("01013f000000be8000003f000000", "00") ∷
+      ("04010000000000000000000000003f800000", "00") ∷
       ("050001", "0500010101000001000000000100000000bf8000003f0000003df5c28fbe851eb8") ∷
       ("050100", "ff0d") ∷
       ("02000200000000000000003f80000000000000", "ff01") ∷
@@ -68,7 +71,9 @@ pub record OutlineHeats : Type 0 where
   -- the kind that the contact call writes is not printed where clipping leaves no point
   pub clipped-away : Runs (
       ("020004bf800000bf8000003f800000bf8000003f8000003f800000bf8000003f800000", "00") ∷
+      ("04000000000000000000000000003f800000", "00") ∷
       ("0201033f8147ae3f83d70a3f8ccccdc0a000003f8147ae40400000", "00") ∷
+      ("04010000000000000000000000003f800000", "00") ∷
       ("050001", "05000100000000000000000000") ∷
       [])
   -- refusals 1, 2, 3, 4 and 5 of an outline
@@ -82,7 +87,9 @@ pub record OutlineHeats : Type 0 where
   -- an accepted outline whose centroid is out of range: each test of it is refused with 2
   pub far-centroid : Runs (
       ("020004490a1fa5492cfc44c89c4a18c8c3bc7749282b0749529ceac81ff02fc8484e51", "00") ∷
+      ("04000000000000000000000000003f800000", "00") ∷
       ("010100000000000000003f800000", "00") ∷
+      ("04010000000000000000000000003f800000", "00") ∷
       ("050001", "ff02") ∷
       [])
 

@@ -1,5 +1,5 @@
--- Closed cases of the touch record, of walls: each line of a heat with its answer. The answers are those of a second
--- program over Box2D 2.4.1. Assumes nothing.
+-- Closed cases of the touch record, of walls: each line of a heat with its answer. The answers are those of the
+-- second programs, written by tests/record/closed_heats. Every body is placed before it is tested. Assumes nothing.
 use mathlib.Core.Path.{refl}
 use mathlib.Core.List.{[], _∷_}
 use lib.Ieee.{neg, add, sub, mul, div, le, lt, eq, ofBits, toBits}
@@ -55,25 +55,33 @@ pub record WallHeats : Type 0 where
   -- a two-sided wall and a circle; a one-sided wall, new under the same id, does not see what is behind it
   pub wall-and-circle : Runs (
       ("030000bf800000000000003f80000000000000", "00") ∷
+      ("04000000000000000000000000003f800000", "00") ∷
       ("0101000000003f0000003f800000", "00") ∷
+      ("04010000000000000000000000003f800000", "00") ∷
       ("050001", "05000101010000010000000001800000003f80000000000000be7ae148bf028f5c") ∷
       ("030001c000000000000000bf800000000000003f800000000000004000000000000000", "00") ∷
+      ("04000000000000000000000000003f800000", "00") ∷
       ("050001", "05000100000000000000000000") ∷
       ("050100", "ff0d") ∷
       [])
   -- a one-sided wall from the side that it sees
   pub one-sided-wall : Runs (
       ("03000140000000000000003f80000000000000bf80000000000000c000000000000000", "00") ∷
+      ("04000000000000000000000000003f800000", "00") ∷
       ("0101000000003f0000003f800000", "00") ∷
+      ("04010000000000000000000000003f800000", "00") ∷
       ("050001", "05000101010000010000000001000000003f80000000000000be7ae148bf028f5c") ∷
       [])
   -- a wall and an outline; the other order, and two walls, are not listed
   pub wall-and-outline : Runs (
       ("030000c0000000000000004000000000000000", "00") ∷
+      ("04000000000000000000000000003f800000", "00") ∷
       ("02010300000000000000003f80000000000000000000003f800000", "00") ∷
+      ("04010000000000000000000000003f800000", "00") ∷
       ("050001", "05000102010000010100000002800000003f8000000000000000000000bca3d70a3f80000000000000bca3d70a") ∷
       ("050100", "ff0d") ∷
       ("03010000000000000000003f80000000000000", "00") ∷
+      ("04010000000000000000000000003f800000", "00") ∷
       ("050001", "ff0d") ∷
       [])
   -- 2 for a wall, of a ghost point too
@@ -85,13 +93,17 @@ pub record WallHeats : Type 0 where
   -- 8, and the count stays
   pub short-wall : Runs (
       ("03000000000000000000001a0000001a000000", "00") ∷
+      ("04000000000000000000000000003f800000", "00") ∷
       ("01011a400000998000003f800000", "00") ∷
+      ("04010000000000000000000000003f800000", "00") ∷
       ("050001", "ff08") ∷
       [])
   -- a squared length whose reciprocal is infinite: a point at any distance
   pub far-circle : Runs (
       ("03000000000000000000001c80000000000000", "00") ∷
+      ("04000000000000000000000000003f800000", "00") ∷
       ("01011c000000447a000000000000", "00") ∷
+      ("04010000000000000000000000003f800000", "00") ∷
       ("050001", "05000101010000010000000001800000001c8000001c000000447a000000000000") ∷
       [])
 

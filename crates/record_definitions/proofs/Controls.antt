@@ -1,5 +1,6 @@
 -- Closed cases of the touch record, of lines and circles: each line of a heat with its answer. The answers are those of
--- a second program over Box2D 2.4.1. Assumes nothing.
+-- the second programs, written by tests/record/closed_heats. Every body is placed before it is tested, but for document
+-- 01's whole case and the heat of a new shape. Assumes nothing.
 use mathlib.Core.Path.{_≡_, refl}
 use mathlib.Core.List.{[], _∷_, _++_}
 use lib.ListN.{replicate}
@@ -44,11 +45,11 @@ pub record LineCases : Type 0 where
       ("0A", "ff0a") ∷
       ("050", "ff0a") ∷
       [])
-  -- 10 of frames: kinds 00 and 06, a circle without its numbers and with a byte too many, a wall without a flag and
+  -- 10 of frames: kinds 00 and 0b, a circle without its numbers and with a byte too many, a wall without a flag and
   -- with another flag; and before 11
   pub malformed-frames : Runs (
       ("000000", "ff0a") ∷
-      ("060000", "ff0a") ∷
+      ("0b0000", "ff0a") ∷
       ("0100", "ff0a") ∷
       ("010000000000000000003f80000000", "ff0a") ∷
       ("0300", "ff0a") ∷
@@ -70,12 +71,14 @@ pub record LineCases : Type 0 where
       ("04000000000000000000000000003f800000", "ff0c") ∷
       ("050000", "ff0c") ∷
       ("010000000000000000003f800000", "00") ∷
+      ("04000000000000000000000000003f800000", "00") ∷
       ("050001", "ff0c") ∷
       ("050100", "ff0c") ∷
       [])
   -- 13, a body against itself
   pub same-body : Runs (
       ("010700000000000000003f800000", "00") ∷
+      ("04070000000000000000000000003f800000", "00") ∷
       ("050707", "ff0d") ∷
       [])
   -- 2 for the radius and for the centre; 6 for the place, the sine and the cosine, and the circle stays where it is
@@ -83,7 +86,9 @@ pub record LineCases : Type 0 where
       ("01000000000000000000bf800000", "ff02") ∷
       ("0100000000004a0000003f800000", "ff02") ∷
       ("010000000000000000003f800000", "00") ∷
+      ("04000000000000000000000000003f800000", "00") ∷
       ("01013fc00000000000003f800000", "00") ∷
+      ("04010000000000000000000000003f800000", "00") ∷
       ("04014a00000000000000000000003f800000", "ff06") ∷
       ("04010000000000000000400000003f800000", "ff06") ∷
       ("040100000000000000000000000040000000", "ff06") ∷
@@ -93,7 +98,9 @@ pub record LineCases : Type 0 where
   -- back; b a is another pair than a b
   pub circles-rest : Runs (
       ("010000000000000000003f800000", "00") ∷
+      ("04000000000000000000000000003f800000", "00") ∷
       ("01013fc00000000000003f800000", "00") ∷
+      ("04010000000000000000000000003f800000", "00") ∷
       ("050001", "050001010000000100000000013f800000000000003f40000000000000bf000000") ∷
       ("050001", "050001010002000200000000013f800000000000003f40000000000000bf000000") ∷
       ("04014040000000000000000000003f800000", "00") ∷
@@ -103,11 +110,14 @@ pub record LineCases : Type 0 where
       ("050001", "050001010000000100000000023f800000000000003f40000000000000bf000000") ∷
       ("050100", "05010001000000010000000001bf800000000000003f40000000000000bf000000") ∷
       [])
-  -- a refused shape forgets nothing; a new one is unplaced and forgets its pairs in both orders, and no others
+  -- a refused shape forgets nothing; a new one forgets its pairs in both orders, and no others
   pub shapes-forget : Runs (
       ("010000000000000000003f800000", "00") ∷
+      ("04000000000000000000000000003f800000", "00") ∷
       ("01013fc00000000000003f800000", "00") ∷
+      ("04010000000000000000000000003f800000", "00") ∷
       ("0102000000003f8000003f800000", "00") ∷
+      ("04020000000000000000000000003f800000", "00") ∷
       ("050001", "050001010000000100000000013f800000000000003f40000000000000bf000000") ∷
       ("050100", "05010001000000010000000001bf800000000000003f40000000000000bf000000") ∷
       ("050002", "05000201000000010000000001000000003f800000000000003f000000bf800000") ∷
@@ -115,9 +125,19 @@ pub record LineCases : Type 0 where
       ("050001", "050001010002000200000000013f800000000000003f40000000000000bf000000") ∷
       ("04014110000000000000000000003f800000", "00") ∷
       ("01013fc00000000000003f800000", "00") ∷
+      ("04010000000000000000000000003f800000", "00") ∷
       ("050001", "050001010000000100000000013f800000000000003f40000000000000bf000000") ∷
       ("050100", "05010001000000010000000001bf800000000000003f40000000000000bf000000") ∷
       ("050002", "05000201000200020000000001000000003f800000000000003f000000bf800000") ∷
+      [])
+  -- a new shape stands at the origin, unturned, wherever the old one was
+  pub new-shape-at-origin : Runs (
+      ("010000000000000000003f800000", "00") ∷
+      ("04000000000000000000000000003f800000", "00") ∷
+      ("01013fc00000000000003f800000", "00") ∷
+      ("040141100000000000003f80000000000000", "00") ∷
+      ("01013fc00000000000003f800000", "00") ∷
+      ("050001", "050001010000000100000000013f800000000000003f40000000000000bf000000") ∷
       [])
   -- nothing is printed of nothing, and an empty line is a line
   pub no-input : touches [] ≡ []
@@ -152,6 +172,7 @@ line-cases = record {
   out-of-range = refl;
   circles-rest = refl;
   shapes-forget = refl;
+  new-shape-at-origin = refl;
   no-input = refl;
   one-line-feed = refl;
   last-line-without-line-feed = refl;
