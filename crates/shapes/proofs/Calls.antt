@@ -42,7 +42,7 @@ use Rattle.shape_definitions.specs.Polygon.{b2-polygon-shape-set-counted}
 use Rattle.shape_definitions.proofs.b2_polygon_shape.B2polygonShape as polygon
 use Rattle.shape_definitions.proofs.b2_polygon_shape.B2polygonShape.Laws as polygon-laws
 use Rattle.shape_definitions.proofs.b2_polygon_shape.PolygonAnswer as answer
-use Rattle.shapes.proofs.b2_polygon_shape.point_or as point
+use Rattle.shapes.proofs.lent.point_or as point
 use Rattle.shapes.proofs.b2_polygon_shape.set_of_eight as eight
 
 -- a point, the machine's value of it, and that it is its value
@@ -62,23 +62,23 @@ abbrev pub value : B2polygonShape → Val
 value s = laws.val polygon.the-type polygon-laws.the-laws s
 
 module _ {M : Type 1} (𝓤 : URA M) (H : Heap 𝓤) (A : Atoms 𝓤) (mem : Memory → SProp 𝓤) (run : Routine → Fun 𝓤) where
-  abbrev pub Point : Contract 𝓤
-  Point = tripleOf 𝓤 H A point.signature (point.spec 𝓤 H A mem run)
+  abbrev pub PointOr : Contract 𝓤
+  PointOr = tripleOf 𝓤 H A point.signature (point.spec 𝓤 H A mem run)
 
-  abbrev pub EightPoints : Contract 𝓤
-  EightPoints = tripleOf 𝓤 H A eight.signature (eight.spec 𝓤 H A mem run)
+  abbrev pub SetOfEight : Contract 𝓤
+  SetOfEight = tripleOf 𝓤 H A eight.signature (eight.spec 𝓤 H A mem run)
 
   module _ (W : Given 𝓤 H A) (κ : Lft) (q : Share) (x : RefT (List B2vec2)) where
     abbrev pub Token : Item 𝓤
     Token = ‵ (flft κ q) ⊛ ‵ ftrue
 
     -- ---- point_or, at place i
-    abbrev to : ℕ → Point .Ghost
+    abbrev to : ℕ → PointOr .Ghost
     to i = (((κ, tt), (q, tt), tt, (x, (i, tt)), (slice x ∷ [], (vint w64 i ∷ [], tt))), tt)
 
     asked : (i : ℕ)
         → ent 𝓤 (onEntry 𝓤 H A point.signature (κ, tt) (q, tt) (x, (i, tt)) (slice x ∷ [], (vint w64 i ∷ [], tt)))
-        (Point .pre (to i))
+        (PointOr .pre (to i))
     asked i =
         qed W (Token ∷ ‵ (owns (ShrSlice (named 0) κ vec.the-row ∷ usize ∷ []) (x, (i, tt))
         (slice x ∷ [], (vint w64 i ∷ [], tt))) ∷ []) ∵
@@ -87,14 +87,14 @@ module _ {M : Type 1} (𝓤 : URA M) (H : Heap 𝓤) (A : Atoms 𝓤) (mem : Mem
     -- what the slice owns gives what it asks, and is kept
     apart : (i : ℕ) → i < 2 ^ 64
         → ent 𝓤 (sep 𝓤 (sem 𝓤 H A (Slice κ x)) (⋆ 𝓤 H A (Token ∷ [])))
-        (sep 𝓤 (Point .pre (to i)) (sem 𝓤 H A (Slice κ x)))
+        (sep 𝓤 (PointOr .pre (to i)) (sem 𝓤 H A (Slice κ x)))
     apart i i-fits =
         qed W (‵ (Slice κ x) ∷ Token ∷ []) ∵
         use1 W (‵ (Slice κ x) ⊛ ‵ (Slice κ x)) (shr-slice-copy 𝓤 H A W (named 0) κ vec.the-row .twice x
         (slice x ∷ [])) $ split ! $
         nothing ! $
         owned ! usize (Is usize) (uint-makes 𝓤 H A W w64) i _ (refl, i-fits) $ fjoin ! $ move ! (1 ∷ 0 ∷ []) $ fjoin ! $
-        move ! (2 ∷ 0 ∷ []) $ use2 W (raw (Point .pre (to i))) (asked i) $ frame ! $ done !
+        move ! (2 ∷ 0 ∷ []) $ use2 W (raw (PointOr .pre (to i))) (asked i) $ frame ! $ done !
 
     abbrev Got : ℕ → Val → B2vec2 → Item 𝓤
     Got i v r =
@@ -111,7 +111,7 @@ module _ {M : Type 1} (𝓤 : URA M) (H : Heap 𝓤) (A : Atoms 𝓤) (mem : Mem
     got : {K : Type 0} {Γ : List (Item 𝓤)} {G : Goal 𝓤 H} → K → Soaks G → (i : ℕ) (v : Val)
         → ((p : B2vec2) → p ≡ point-at (now x) i → Is vec.the-row p (v ∷ [])
         → Seq K W (‵ (vec.the-row .own p (v ∷ [])) ∷ Token ∷ Γ) G)
-        → Seq K W (raw (Point .post (to i) v) ∷ Γ) G
+        → Seq K W (raw (PointOr .post (to i) v) ∷ Γ) G
     got t soaks i v go-on =
         use1 W (later (some (Got i v))) (id⊢ 𝓤 _) $ await t soaks $ pick t (λ p. split t $ move t (1 ∷ []) $
         use1 W (raw (fact 𝓤 (p ≡ point-at (now x) i))) (said i p) $
@@ -121,15 +121,15 @@ module _ {M : Type 1} (𝓤 : URA M) (H : Heap 𝓤) (A : Atoms 𝓤) (mem : Mem
     -- the whole step
     pub reads : {K : Type 0} {Γ : List (Item 𝓤)} {E : Env 𝓤 H} {C : Calls 𝓤 H} {Λ : Loops 𝓤 H} {f : Name}
         {xs : List Operand} {d : Place}
-        {rest : Body} {post : Post 𝓤 H} → K → FmC 𝓤 H (W .laws) C → Triple 𝓤 (C f) Point → (i : ℕ) → i < 2 ^ 64
-        → Opds K W (raw (Point .pre (to i)) ∷ ‵ (Slice κ x) ∷ Γ) E xs (Point .args (to i))
+        {rest : Body} {post : Post 𝓤 H} → K → FmC 𝓤 H (W .laws) C → Triple 𝓤 (C f) PointOr → (i : ℕ) → i < 2 ^ 64
+        → Opds K W (raw (PointOr .pre (to i)) ∷ ‵ (Slice κ x) ∷ Γ) E xs (PointOr .args (to i))
         → ((a : Read) → a .p ≡ point-at (now x) i
         → Seq K W (‵ (vec.the-row .own (a .p) (a .v ∷ [])) ∷ Token ∷ ‵ (Slice κ x) ∷ Γ)
         (lands C Λ E d (a .v) rest post))
         → Seq K W (‵ (Slice κ x) ∷ Token ∷ Γ) (runs C Λ E (seq (call f xs d) rest) post)
     reads t fm known i fits operands go-on =
-        use2 W (raw (Point .pre (to i)) ⊛ ‵ (Slice κ x)) (apart i fits) $ split t $
-        calls-at t fm Point known (to i) operands
+        use2 W (raw (PointOr .pre (to i)) ⊛ ‵ (Slice κ x)) (apart i fits) $ split t $
+        calls-at t fm PointOr known (to i) operands
         (λ v. got t tt i v (λ p p-is is. go-on (record { p = p; v = v; is = is }) p-is))
 
     -- ---- set_of_eight
@@ -138,7 +138,7 @@ module _ {M : Type 1} (𝓤 : URA M) (H : Heap 𝓤) (A : Atoms 𝓤) (mem : Mem
       answered = b2-polygon-shape-set-counted old (a0 .p ∷ a1 .p ∷ a2 .p ∷ a3 .p ∷ a4 .p ∷ a5 .p ∷ a6 .p ∷ a7 .p ∷ [])
           (length (now x))
 
-      abbrev pub to-eight : EightPoints .Ghost
+      abbrev pub to-eight : SetOfEight .Ghost
       to-eight = (
         (
           tt,
@@ -169,7 +169,7 @@ module _ {M : Type 1} (𝓤 : URA M) (H : Heap 𝓤) (A : Atoms 𝓤) (mem : Mem
       )
 
       pub goes-eight : length (now x) < 2 ^ 64 → ent 𝓤 (sem 𝓤 H A (polygon.the-row .own old (value old ∷ [])))
-          (EightPoints .pre to-eight)
+          (SetOfEight .pre to-eight)
       goes-eight fits =
           let made = (laws.makes vec.the-type vec-laws.the-plain) 𝓤 H A in
           qed W (‵ (polygon.the-row .own old (value old ∷ [])) ∷ []) ∵ nothing ! $

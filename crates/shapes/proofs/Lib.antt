@@ -5,5 +5,5 @@ pub mod Around
 pub mod Facing
 pub mod Built
 pub mod Sides
-pub mod Lent
+pub mod EightPlaces
 pub mod Calls

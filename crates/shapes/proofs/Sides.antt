@@ -11,7 +11,7 @@ use native.Mathlib.Omega.{arith}
 use lib.Dec.{ltb, eqb}
 use lib.ListN.{length, getD}
 use lib.Ieee.{Float, lt}
-use borrow.Author.Tests.{eqb-true, lt-ltb, le-ltb, not-false}
+use borrow.Author.Tests.{eqb-true, lt-ltb, le-ltb, not-false, not-true}
 use Rattle.algebra.proofs.Booleans.{less-or-not}
 use Rattle.floats.specs.declared.b2_math.B2vec2.{B2vec2}
 use Rattle.rounding.specs.Literals.{zero32}
@@ -105,13 +105,18 @@ pub faces-next : (vs : List B2vec2) (count i : ℕ) (right : Bool) → right ≡
 unfolding faces-convex
 faces-next vs count i right right-is fails so-far = rw (add-one, so-far) (not-false _ (sym right-is ∙ fails))
 
-pub faces-failed : (vs : List B2vec2) (count i n : ℕ) → i < n → corners-not-right vs count i count ≡ false
+fails-from : (vs : List B2vec2) (count i n : ℕ) → i < n → corners-not-right vs count i count ≡ false
     → faces-convex vs count n ≡ false
 unfolding faces-convex
-faces-failed vs count i zero below fails = absurd (omega arith)
-faces-failed vs count i (suc n) below fails = elim (less-or-not i n) [
-  | inl earlier ↦ rw (faces-failed vs count i n earlier fails) refl
+fails-from vs count i zero below fails = absurd (omega arith)
+fails-from vs count i (suc n) below fails = elim (less-or-not i n) [
+  | inl earlier ↦ rw (fails-from vs count i n earlier fails) refl
   | inr last ↦ let same : n ≡ i = omega arith in
       ap (λ k. faces-convex vs count n && corners-not-right vs count k count) same
       ∙ ap (λ t. faces-convex vs count n && t) fails ∙ and-false (faces-convex vs count n)
 ]
+
+pub faces-failed : (vs : List B2vec2) (count i n : ℕ) (right : Bool) → right ≡ not (corners-not-right vs count i count)
+    → right ≡ true → i < n → faces-convex vs count n ≡ false
+faces-failed vs count i n right right-is found below =
+    fails-from vs count i n below (not-true (corners-not-right vs count i count) (sym right-is ∙ found))

@@ -1,5 +1,5 @@
--- What the parts of the outline builder hand to each other: points over those that stood in their places, with their
--- number, or the word that the part gives up; what then stands in the places is left free. Definitions only.
+-- What the steps of the outline builder hand to each other: points over those that stood in their places, with their
+-- number, or the word that the step gives up; what then stands in the places is left free. Definitions only.
 use mathlib.Core.Path.{_≡_}
 use mathlib.Core.Bool.{Bool, true, false}
 use mathlib.Core.List.{List, map}

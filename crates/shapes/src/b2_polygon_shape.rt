@@ -1,18 +1,16 @@
-// Outlines (Box2D's b2_polygon_shape.h).
+// Outlines (Box2D's b2_polygon_shape.h): boxes, the outline builder and the convexity test.
 ghost use mathlib.Core.Path.{_≡_};
 ghost use mathlib.Core.List.{[], _∷_};
-ghost use Rattle.shape_definitions.specs.Outline.{point-at};
 ghost use Rattle.shape_definitions.specs.Polygon.{refused, put-first};
 ghost use Rattle.shape_definitions.specs.Polygon.{b2-polygon-shape-set-counted, b2-polygon-shape-set};
 ghost use Rattle.shape_definitions.specs.Boxes.{b2-polygon-shape-set-as-box, b2-polygon-shape-set-as-box-angle};
 ghost use Rattle.shape_definitions.specs.Validate.{b2-polygon-shape-validate};
 use crate::convex;
 use crate::coordinates;
+use crate::lent;
 use crate::outline;
 use floats::b2_common::B2_EPSILON;
 use floats::b2_math;
-use floats::b2_math::B2Rot;
-use floats::b2_math::B2Transform;
 use floats::b2_math::B2vec2;
 use floats::b2_settings::B2_MAX_POLYGON_VERTICES;
 use floats::ranges;
@@ -30,106 +28,6 @@ fn refused(old: B2polygonShape, number: u8) -> PolygonAnswer
         refusal: number,
         shape: old,
     }
-}
-
-// The outline of the first count points: weld, start, walk, normals, centroid.
-pub fn b2_polygon_shape_set_core(
-    old: B2polygonShape,
-    points: [B2vec2; 8],
-    count: usize,
-) -> PolygonAnswer
-    ensures { λ r. ⌜ r ≡ b2-polygon-shape-set-counted old points count ⌝ }
-{
-    if count < 3 {
-        return refused(old, refusal::WRONG_NUMBER_OF_POINTS);
-    }
-    if count > B2_MAX_POLYGON_VERTICES {
-        return refused(old, refusal::WRONG_NUMBER_OF_POINTS);
-    }
-    let given = coordinates::coordinates(points);
-    if !coordinates::in_range(&given, count) {
-        return refused(old, refusal::SHAPE_OUT_OF_RANGE);
-    }
-    let mut ps = [0.0f32; 16];
-    let n = outline::weld(&given, count, &mut ps);
-    if n < 3 {
-        return refused(old, refusal::TOO_FEW_AFTER_WELDING);
-    }
-    let i0 = outline::start(&ps, n);
-    let old_vertices = old.m_vertices;
-    let mut vs = coordinates::coordinates(old_vertices);
-    let m = outline::walk(&ps, n, i0, &mut vs);
-    if m < 3 {
-        return refused(old, refusal::WALK_NOT_CLOSED);
-    }
-    let old_normals = old.m_normals;
-    let mut ns = coordinates::coordinates(old_normals);
-    if !outline::normals(&vs, m, &mut ns) {
-        return refused(old, refusal::EDGE_OR_AREA_TOO_SMALL);
-    }
-    let sum = outline::fan(&vs, m);
-    if sum.area > B2_EPSILON {
-        let s = coordinates::at(&vs, 0);
-        let centroid = b2_math::b2_add(b2_math::b2_scale(1.0 / sum.area, sum.moment), s);
-        let vertices = coordinates::points(&vs);
-        let normals = coordinates::points(&ns);
-        return PolygonAnswer {
-            refusal: refusal::ACCEPTED,
-            shape: B2polygonShape {
-                m_radius: old.m_radius,
-                m_centroid: centroid,
-                m_vertices: vertices,
-                m_normals: normals,
-                m_count: m,
-            },
-        };
-    }
-    refused(old, refusal::EDGE_OR_AREA_TOO_SMALL)
-}
-
-// The point at place i of a lent slice, or the origin past its end.
-pub fn point_or(vertices: &[B2vec2], i: usize) -> B2vec2
-    ensures { λ r. ⌜ r ≡ point-at (now (vertices .entry)) i ⌝ }
-{
-    if i < vertices.len() {
-        return vertices[i];
-    } else {
-        return B2vec2 { x: 0.0, y: 0.0 };
-    }
-}
-
-// The outline of count points, in eight places.
-pub fn set_of_eight(
-    old: B2polygonShape,
-    p0: B2vec2,
-    p1: B2vec2,
-    p2: B2vec2,
-    p3: B2vec2,
-    p4: B2vec2,
-    p5: B2vec2,
-    p6: B2vec2,
-    p7: B2vec2,
-    count: usize,
-) -> PolygonAnswer
-    ensures { λ r. ⌜ r ≡ b2-polygon-shape-set-counted old (p0 ∷ p1 ∷ p2 ∷ p3 ∷ p4 ∷ p5 ∷ p6 ∷ p7 ∷ []) count ⌝ }
-{
-    b2_polygon_shape_set_core(old, [p0, p1, p2, p3, p4, p5, p6, p7], count)
-}
-
-// The outline of the points of a lent slice. C can call it.
-#[no_mangle]
-pub extern "C" fn b2_polygon_shape_set(old: B2polygonShape, vertices: &[B2vec2]) -> PolygonAnswer
-    ensures { λ r. ⌜ r ≡ b2-polygon-shape-set old (now (vertices .entry)) ⌝ }
-{
-    let p0 = point_or(vertices, 0);
-    let p1 = point_or(vertices, 1);
-    let p2 = point_or(vertices, 2);
-    let p3 = point_or(vertices, 3);
-    let p4 = point_or(vertices, 4);
-    let p5 = point_or(vertices, 5);
-    let p6 = point_or(vertices, 6);
-    let p7 = point_or(vertices, 7);
-    set_of_eight(old, p0, p1, p2, p3, p4, p5, p6, p7, vertices.len())
 }
 
 // Four points over the old ones.
@@ -187,7 +85,7 @@ pub fn b2_polygon_shape_set_as_box_angle(
     hx: f32,
     hy: f32,
     center: B2vec2,
-    q: B2Rot,
+    q: b2_math::B2Rot,
 ) -> PolygonAnswer
     ensures { λ r. ⌜ r ≡ b2-polygon-shape-set-as-box-angle old hx hy center q ⌝ }
 {
@@ -200,7 +98,7 @@ pub fn b2_polygon_shape_set_as_box_angle(
     if !ranges::rotation_in_range(q) {
         return refused(old, refusal::PLACEMENT_OUT_OF_RANGE);
     }
-    let xf = B2Transform { p: center, q: q };
+    let xf = b2_math::B2Transform { p: center, q: q };
     let old_vertices = old.m_vertices;
     let old_normals = old.m_normals;
     let vs = put_four(
@@ -227,6 +125,95 @@ pub fn b2_polygon_shape_set_as_box_angle(
             m_count: 4,
         },
     }
+}
+
+// The outline of the first count points: weld, start, walk, normals, centroid (the steps are in outline.rt).
+pub fn b2_polygon_shape_set_core(
+    old: B2polygonShape,
+    points: [B2vec2; 8],
+    count: usize,
+) -> PolygonAnswer
+    ensures { λ r. ⌜ r ≡ b2-polygon-shape-set-counted old points count ⌝ }
+{
+    if count < 3 {
+        return refused(old, refusal::WRONG_NUMBER_OF_POINTS);
+    }
+    if count > B2_MAX_POLYGON_VERTICES {
+        return refused(old, refusal::WRONG_NUMBER_OF_POINTS);
+    }
+    let given = coordinates::coordinates(points);
+    if !coordinates::in_range(&given, count) {
+        return refused(old, refusal::SHAPE_OUT_OF_RANGE);
+    }
+    let mut ps = [0.0f32; 16];
+    let n = outline::weld(&given, count, &mut ps);
+    if n < 3 {
+        return refused(old, refusal::TOO_FEW_AFTER_WELDING);
+    }
+    let i0 = outline::start(&ps, n);
+    let old_vertices = old.m_vertices;
+    let mut vs = coordinates::coordinates(old_vertices);
+    let m = outline::walk(&ps, n, i0, &mut vs);
+    if m < 3 {
+        return refused(old, refusal::WALK_NOT_CLOSED);
+    }
+    let old_normals = old.m_normals;
+    let mut ns = coordinates::coordinates(old_normals);
+    if !outline::normals(&vs, m, &mut ns) {
+        return refused(old, refusal::EDGE_OR_AREA_TOO_SMALL);
+    }
+    let sum = outline::fan(&vs, m);
+    if sum.area > B2_EPSILON {
+        let s = coordinates::at(&vs, 0);
+        let centroid = b2_math::b2_add(b2_math::b2_scale(1.0 / sum.area, sum.moment), s);
+        let vertices = coordinates::points(&vs);
+        let normals = coordinates::points(&ns);
+        return PolygonAnswer {
+            refusal: refusal::ACCEPTED,
+            shape: B2polygonShape {
+                m_radius: old.m_radius,
+                m_centroid: centroid,
+                m_vertices: vertices,
+                m_normals: normals,
+                m_count: m,
+            },
+        };
+    }
+    refused(old, refusal::EDGE_OR_AREA_TOO_SMALL)
+}
+
+// The outline of count points, in eight places.
+pub fn set_of_eight(
+    old: B2polygonShape,
+    p0: B2vec2,
+    p1: B2vec2,
+    p2: B2vec2,
+    p3: B2vec2,
+    p4: B2vec2,
+    p5: B2vec2,
+    p6: B2vec2,
+    p7: B2vec2,
+    count: usize,
+) -> PolygonAnswer
+    ensures { λ r. ⌜ r ≡ b2-polygon-shape-set-counted old (p0 ∷ p1 ∷ p2 ∷ p3 ∷ p4 ∷ p5 ∷ p6 ∷ p7 ∷ []) count ⌝ }
+{
+    b2_polygon_shape_set_core(old, [p0, p1, p2, p3, p4, p5, p6, p7], count)
+}
+
+// The outline of the points of a lent slice. C can call it.
+#[no_mangle]
+pub extern "C" fn b2_polygon_shape_set(old: B2polygonShape, vertices: &[B2vec2]) -> PolygonAnswer
+    ensures { λ r. ⌜ r ≡ b2-polygon-shape-set old (now (vertices .entry)) ⌝ }
+{
+    let p0 = lent::point_or(vertices, 0);
+    let p1 = lent::point_or(vertices, 1);
+    let p2 = lent::point_or(vertices, 2);
+    let p3 = lent::point_or(vertices, 3);
+    let p4 = lent::point_or(vertices, 4);
+    let p5 = lent::point_or(vertices, 5);
+    let p6 = lent::point_or(vertices, 6);
+    let p7 = lent::point_or(vertices, 7);
+    set_of_eight(old, p0, p1, p2, p3, p4, p5, p6, p7, vertices.len())
 }
 
 // Whether an outline is convex, by the rounded cross products.

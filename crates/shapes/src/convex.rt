@@ -1,4 +1,4 @@
-// The parts of the convexity test: whether a corner lies right of a face, by the rounded cross product. The corners are
+// The steps of the convexity test: whether a corner lies right of a face, by the rounded cross product. The corners are
 // given by their coordinates, and all eight places are read at every face, so that the compiler can take them at once.
 ghost use mathlib.Core.Path.{_≡_};
 ghost use mathlib.Core.Bool.{not};

@@ -1,5 +1,4 @@
-// EightPoints points as a row of sixteen coordinates, x before y: what the parts of the outline builder lend to each
-// other.
+// Eight points as a row of sixteen coordinates, x before y: what the steps of the outline builder lend to each other.
 ghost use mathlib.Core.Path.{_≡_};
 ghost use Prim.Native.Nat.{_<_, _≤_};
 ghost use lib.ListN.{set, take};

@@ -1,5 +1,5 @@
-// The parts of the outline builder: welding, the start, the walk, normals, and area with moment. Points stand in the
-// first places of a row of sixteen coordinates, which is lent from part to part; the definitions are over the list of
+// The steps of the outline builder: welding, the start, the walk, normals, and area with moment. Points stand in the
+// first places of a row of sixteen coordinates, which is lent from step to step; the definitions are over the list of
 // points.
 ghost use mathlib.Core.Path.{_≡_};
 ghost use mathlib.Core.Bool.{true, _||_};
@@ -8,9 +8,9 @@ ghost use lib.Dec.{eqb};
 ghost use lib.ListN.{take};
 ghost use lib.Ieee.{lt};
 ghost use Rattle.algebra.specs.Loops.{near-any};
+ghost use Rattle.floats.specs.B2Common.{epsilon-squared};
 ghost use Rattle.floats.specs.B2Math.{b2-length-squared};
 ghost use Rattle.shape_definitions.specs.Outline.{too-near, welded, comes-before, start, turns-closer, next, row};
-ghost use Rattle.floats.specs.B2Common.{epsilon-squared};
 ghost use Rattle.shape_definitions.specs.Outline.{edges, long-enough, normal-of-edge, with-triangle, fan};
 ghost use Rattle.shapes.specs.Coordinates.{points-in, EightPoints};
 ghost use Rattle.shapes.specs.Parts.{WalkResult, NormalsResult};

@@ -42,16 +42,16 @@ use Rattle.floats.proofs.b2_math.B2vec2.Laws as vec-laws
 use Rattle.shape_definitions.specs.declared.b2_polygon_shape.B2polygonShape.{B2polygonShape}
 use Rattle.shape_definitions.specs.declared.b2_polygon_shape.PolygonAnswer.{PolygonAnswer}
 use Rattle.shape_definitions.specs.Polygon.{b2-polygon-shape-set}
-use Rattle.shapes.proofs.Lent.{lent-is}
+use Rattle.shapes.proofs.EightPlaces.{lent-is}
 use Rattle.shapes.proofs.Calls.{slice, Slice, value}
 use Rattle.shapes.proofs.Calls as asks
 use Rattle.shape_definitions.proofs.b2_polygon_shape.B2polygonShape as polygon
 use Rattle.shape_definitions.proofs.b2_polygon_shape.B2polygonShape.Laws as polygon-laws
 use Rattle.shape_definitions.proofs.b2_polygon_shape.PolygonAnswer as answer
 use Rattle.shape_definitions.proofs.b2_polygon_shape.PolygonAnswer.Laws as answer-laws
-use Rattle.shapes.proofs.b2_polygon_shape.point_or.Symbol as point-def
-use Rattle.shapes.proofs.b2_polygon_shape.point_or.Symbol.{name as point-or}
-use Rattle.shapes.proofs.b2_polygon_shape.point_or.Met as point-thm
+use Rattle.shapes.proofs.lent.point_or.Symbol as point-def
+use Rattle.shapes.proofs.lent.point_or.Symbol.{name as point-or}
+use Rattle.shapes.proofs.lent.point_or.Met as point-thm
 use Rattle.shapes.proofs.b2_polygon_shape.set_of_eight.Symbol as eight-def
 use Rattle.shapes.proofs.b2_polygon_shape.set_of_eight.Symbol.{name as set-of-eight}
 use Rattle.shapes.proofs.b2_polygon_shape.set_of_eight.Met as eight-thm
@@ -87,8 +87,8 @@ module _ {M : Type 1} (𝓤 : URA M) (H : Heap 𝓤) (A : Atoms 𝓤) (W : Given
         frame ! $ done !
 
     module _ (C : Calls 𝓤 H) (Λ : Loops 𝓤 H) (fm : FmC 𝓤 H (W .laws) C)
-        (known : Triple 𝓤 (C point-or) (asks.Point 𝓤 H A mem run))
-        (known-eight : Triple 𝓤 (C set-of-eight) (asks.EightPoints 𝓤 H A mem run)) where
+        (known : Triple 𝓤 (C point-or) (asks.PointOr 𝓤 H A mem run))
+        (known-eight : Triple 𝓤 (C set-of-eight) (asks.SetOfEight 𝓤 H A mem run)) where
       -- twelve locals, and in front of them what the slice owns and the token; the point at place i goes to local 3 +
       -- i, and what it owns is made again for the builder
       walk : Room vec.the-row (length (now x))
@@ -132,7 +132,7 @@ module _ {M : Type 1} (𝓤 : URA M) (H : Heap 𝓤) (A : Atoms 𝓤) (W : Given
           asks.reads 𝓤 H A mem run W κ q x ! fm known 7 (lit< tt)
           (and-then ! (load ! (from ! (stop !)) (look ! 20 refl)) (and-then ! (lit ! tt) (no-more !))) (λ a7 a7-is.
           land ! (from ! (stop !)) (init ! 5 refl (typed (a7 .p) _ (a7 .is) .0)) $ drop ! $ move ! (1 ∷ []) $
-          let EightPoints = asks.EightPoints 𝓤 H A mem run in
+          let SetOfEight = asks.SetOfEight 𝓤 H A mem run in
           let to-eight = asks.to-eight 𝓤 H A mem run W κ q x old a0 a1 a2 a3 a4 a5 a6 a7 in
           let answered = asks.answered 𝓤 H A mem run W κ q x old a0 a1 a2 a3 a4 a5 a6 a7 in
           -- the length, then the builder
@@ -141,9 +141,9 @@ module _ {M : Type 1} (𝓤 : URA M) (H : Heap 𝓤) (A : Atoms 𝓤) (W : Given
           (init ! 2 refl (tt, record { fits = room .0 })) $
           owned ! polygon.the-row (Is polygon.the-row) ((laws.makes polygon.the-type polygon-laws.the-plain) 𝓤 H A)
           old _ old-is $
-          use1 W (raw (EightPoints .pre to-eight)) (asks.goes-eight 𝓤 H A mem run W κ q x old a0 a1 a2 a3 a4 a5 a6 a7
+          use1 W (raw (SetOfEight .pre to-eight)) (asks.goes-eight 𝓤 H A mem run W κ q x old a0 a1 a2 a3 a4 a5 a6 a7
           (room .0)) $
-          calls-at ! fm EightPoints known-eight to-eight
+          calls-at ! fm SetOfEight known-eight to-eight
           (and-then ! (load ! (from ! (stop !)) (look ! 23 refl))
           (and-then ! (load ! (from ! (stop !)) (look ! 19 refl))
           (and-then ! (load ! (from ! (stop !)) (look ! 17 refl))
@@ -182,8 +182,8 @@ module _ {M : Type 1} (𝓤 : URA M) (H : Heap 𝓤) (A : Atoms 𝓤) (W : Given
           )))))))))))))))))))))))))
 
   module _ (C : Calls 𝓤 H) (Λ : Loops 𝓤 H) (fm : FmC 𝓤 H (W .laws) C)
-      (known : Triple 𝓤 (C point-or) (asks.Point 𝓤 H A mem run))
-      (known-eight : Triple 𝓤 (C set-of-eight) (asks.EightPoints 𝓤 H A mem run)) where
+      (known : Triple 𝓤 (C point-or) (asks.PointOr 𝓤 H A mem run))
+      (known-eight : Triple 𝓤 (C set-of-eight) (asks.SetOfEight 𝓤 H A mem run)) where
     walks : Walks 𝓤 H A f.ended stayed (WpFn 𝓤 H C Λ code.function) (f.clauses 𝓤 H A mem run)
     walks =
         walked 𝓤 H A f.ended stayed (f.clauses 𝓤 H A mem run) (WpFn 𝓤 H C Λ code.function)
@@ -192,8 +192,8 @@ module _ {M : Type 1} (𝓤 : URA M) (H : Heap 𝓤) (A : Atoms 𝓤) (W : Given
         (λ κs qs bounds a g are. via 𝓤 _ (fst∗ 𝓤 _ (emp 𝓤))
         (walk (κs .0) (qs .0) (a .0) (a .1 .0) C Λ fm known known-eight (are .1 .0 .0 .1)))
 
-  meets : (𝓣 : Tables 𝓤 H) → Triple 𝓤 (𝓣 .C point-or) (asks.Point 𝓤 H A mem run)
-      → Triple 𝓤 (𝓣 .C set-of-eight) (asks.EightPoints 𝓤 H A mem run)
+  meets : (𝓣 : Tables 𝓤 H) → Triple 𝓤 (𝓣 .C point-or) (asks.PointOr 𝓤 H A mem run)
+      → Triple 𝓤 (𝓣 .C set-of-eight) (asks.SetOfEight 𝓤 H A mem run)
       → Meets 𝓤 H A f.signature (WpFn 𝓤 H (𝓣 .C) (𝓣 .Λ) code.function) (f.spec 𝓤 H A mem run)
   meets 𝓣 known known-eight =
       walk-meets 𝓤 H A f.ended stayed W (
@@ -209,8 +209,8 @@ b2-polygon-shape-set-spec 𝓤 H 𝓜 𝓖 𝓡 =
     entered 𝓤 H (tripleOf 𝓤 H (𝓖 .A) f.signature (f.spec 𝓤 H (𝓖 .A) (𝓜 .mem) (𝓡 .run))) (tables 𝓤 H 𝓜 𝓡 code.env .C)
     (tables 𝓤 H 𝓜 𝓡 code.env .Λ) set-of-slice code.function (code.unfolded 𝓤 H 𝓜 𝓡)
     (meets 𝓤 H (𝓖 .A) (givenOf 𝓤 H 𝓜 𝓖) (𝓜 .mem) (𝓡 .run) (tablesOf 𝓤 H 𝓜 (tables 𝓤 H 𝓜 𝓡 code.env))
-    (cited 𝓤 H (asks.Point 𝓤 H (𝓖 .A) (𝓜 .mem) (𝓡 .run)) 𝓜 𝓡 code.env point-or point-def.routine
-    code.calls-shapes·b2-polygon-shape·point-or
+    (cited 𝓤 H (asks.PointOr 𝓤 H (𝓖 .A) (𝓜 .mem) (𝓡 .run)) 𝓜 𝓡 code.env point-or point-def.routine
+    code.calls-shapes·lent·point-or
     (point-thm.met 𝓤 H 𝓜 𝓖 𝓡))
-    (cited 𝓤 H (asks.EightPoints 𝓤 H (𝓖 .A) (𝓜 .mem) (𝓡 .run)) 𝓜 𝓡 code.env set-of-eight eight-def.routine
+    (cited 𝓤 H (asks.SetOfEight 𝓤 H (𝓖 .A) (𝓜 .mem) (𝓡 .run)) 𝓜 𝓡 code.env set-of-eight eight-def.routine
     code.calls-shapes·b2-polygon-shape·set-of-eight (eight-thm.met 𝓤 H 𝓜 𝓖 𝓡)))

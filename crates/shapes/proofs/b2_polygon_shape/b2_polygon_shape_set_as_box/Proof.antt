@@ -3,7 +3,10 @@ use mathlib.Core.Path.{_∙_}
 use mathlib.Core.Bool.{_&&_}
 use borrow.Author.Tests.{not-true, not-false}
 use Rattle.floats.specs.Ranges.{coordinate-in-range}
-use Rattle.shape_definitions.specs.Boxes.{b2-polygon-shape-set-as-box}
+use Rattle.shape_definitions.specs.Refusal.{shape-out-of-range}
+use Rattle.shape_definitions.specs.Outline.{origin}
+use Rattle.shape_definitions.specs.Polygon.{refused}
+use Rattle.shape_definitions.specs.Boxes.{box-corners, box-normals, box-with, b2-polygon-shape-set-as-box}
 use Rattle.algebra.proofs.Booleans.{chosen, unchosen}
 use borrow.Author.Needs.{needs}
 use Rattle.shapes.proofs.b2_polygon_shape.b2_polygon_shape_set_as_box.Statement.{statement}
@@ -44,8 +47,9 @@ returns-2 c =
     let args = tests .before .before .args in
     let both = tests .before .coordinate-in-range .result && tests .coordinate-in-range2 .result in
     simp (c .put-four2 .ensures, c .before .put-four .ensures)
-    (chosen (coordinate-in-range (args .hx) && coordinate-in-range (args .hy)) both _ _
-    (not-false both (accepted .if1 .left))
+    (chosen (coordinate-in-range (args .hx) && coordinate-in-range (args .hy)) both
+    (box-with (args .old) origin (box-corners (args .hx) (args .hy)) box-normals)
+    (refused shape-out-of-range (args .old)) (not-false both (accepted .if1 .left))
     (simp (tests .coordinate-in-range2 .ensures, tests .before .coordinate-in-range .ensures)))
 
 pub b2-polygon-shape-set-as-box-spec : {M : Type 1} → statement M

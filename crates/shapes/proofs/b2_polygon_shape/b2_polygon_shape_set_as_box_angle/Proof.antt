@@ -1,14 +1,35 @@
 -- The shape numbers are in range, or not; then sine and cosine. Assumes nothing.
-use mathlib.Core.Path.{_∙_}
-use mathlib.Core.Bool.{not, _&&_}
+use mathlib.Core.Path.{_≡_, _∙_}
+use mathlib.Core.Bool.{Bool, false, not, _&&_}
+use mathlib.Core.List.{map}
+use lib.Ieee.{Float}
+use Rattle.floats.specs.declared.b2_math.B2vec2.{B2vec2}
+use Rattle.floats.specs.declared.b2_math.B2Rot.{B2Rot}
+use Rattle.floats.specs.B2Math.{b2-mul-rot-by-vec2, b2-mul-transform-by-vec2}
 use Rattle.floats.specs.Ranges.{coordinate-in-range, point-in-range, rotation-in-range}
-use Rattle.shape_definitions.specs.Boxes.{b2-polygon-shape-set-as-box-angle}
+use Rattle.shape_definitions.specs.declared.b2_polygon_shape.B2polygonShape.{B2polygonShape}
+use Rattle.shape_definitions.specs.Refusal.{shape-out-of-range, placement-out-of-range}
+use Rattle.shape_definitions.specs.Polygon.{refused}
+use Rattle.shape_definitions.specs.Boxes.{box-corners, box-normals, box-with, b2-polygon-shape-set-as-box-angle}
 use Rattle.algebra.proofs.Booleans.{chosen, unchosen}
 use borrow.Author.Needs.{needs}
 use Rattle.shapes.proofs.b2_polygon_shape.b2_polygon_shape_set_as_box_angle.Statement.{
   statement,
 }
 use Rattle.shapes.proofs.b2_polygon_shape.b2_polygon_shape_set_as_box_angle.Tie as tie
+
+-- ---- both tests passed: outside and turned-too-far are their answers
+box-built : (old : B2polygonShape) (hx hy : Float) (center : B2vec2) (q : B2Rot) (outside turned-too-far : Bool)
+    → outside ≡ false → outside ≡ not (coordinate-in-range hx && coordinate-in-range hy && point-in-range center)
+    → turned-too-far ≡ false → turned-too-far ≡ not (rotation-in-range q)
+    → box-with old center (map (b2-mul-transform-by-vec2 (record { p = center; q = q })) (box-corners hx hy))
+    (map (b2-mul-rot-by-vec2 q) box-normals)
+    ≡ b2-polygon-shape-set-as-box-angle old hx hy center q
+unfolding b2-polygon-shape-set-as-box-angle
+box-built old hx hy center q outside turned-too-far inside outside-is turned turned-is =
+    unchosen (not (rotation-in-range q)) turned-too-far (refused placement-out-of-range old) _ turned turned-is
+    ∙ unchosen (not (coordinate-in-range hx && coordinate-in-range hy && point-in-range center)) outside
+    (refused shape-out-of-range old) _ inside outside-is
 
 coordinate-in-range-requires : tie.Need-coordinate-in-range-requires
 coordinate-in-range-requires c κs = search needs
@@ -121,16 +142,13 @@ returns-3 c =
       vertex2 .b2-mul-transform-by-vec22 .ensures,
       vertex1 .b2-mul-transform-by-vec2 .ensures,
     )
-    (unchosen (not (rotation-in-range (args .q))) _ _ _ (placed .if2 .left)
-    (simp (rotation .rotation-in-range .ensures))
-    ∙ unchosen (not (coordinate-in-range (args .hx) && coordinate-in-range (args .hy)
-    && point-in-range (args .center))) _ _ _
-    (shape .if1 .left)
+    (box-built (args .old) (args .hx) (args .hy) (args .center) (args .q) _ _ (shape .if1 .left)
     (simp (
       tests .point-in-range .ensures,
       tests .before .coordinate-in-range2 .ensures,
       tests .before .before .coordinate-in-range .ensures,
-    )))
+    ))
+    (placed .if2 .left) (simp (rotation .rotation-in-range .ensures)))
 
 pub b2-polygon-shape-set-as-box-angle-spec : {M : Type 1} → statement M
 b2-polygon-shape-set-as-box-angle-spec =

@@ -1,105 +1,32 @@
 -- Each way out of the builder answers what the definition says there. Assumes nothing.
-use mathlib.Core.Path.{_≡_, refl, sym, _∙_, ap, subst}
-use mathlib.Core.Bool.{Bool, true, false}
-use mathlib.Core.List.{List}
-use Prim.Native.Nat.{_≤_}
+use mathlib.Core.Path.{refl, sym, _∙_}
+use mathlib.Core.Bool.{true, false}
 use native.Mathlib.Omega.{arith}
-use lib.ListN.{take}
+use borrow.Author.Needs.{needs}
 use borrow.Author.Tests.{not-true, not-false}
-use Rattle.floats.specs.declared.b2_math.B2vec2.{B2vec2}
-use Rattle.floats.specs.Ranges.{point-in-range}
-use Rattle.shape_definitions.specs.declared.b2_polygon_shape.B2polygonShape.{B2polygonShape}
-use Rattle.shape_definitions.specs.Outline.{welded, row, edges, long-enough}
-use Rattle.shape_definitions.specs.Polygon.{all-points}
+use Rattle.shape_definitions.specs.Outline.{edges}
 use Rattle.shapes.specs.Coordinates.{points-in}
-use Rattle.shapes.specs.Parts.{WalkResult, NormalsResult}
 use Rattle.shapes.proofs.Tests.{at-first-place}
 use Rattle.shapes.proofs.Built.{too-few-points, too-many-points, out-of-range, too-few-kept, walk-not-back}
-use Rattle.shapes.proofs.Built.{AfterWeld, AfterWalk, after-weld, after-walk, edge-too-short, long-edges}
+use Rattle.shapes.proofs.Built.{edge-too-short, long-edges}
 use Rattle.shapes.proofs.Built.{area-too-small, outline-built}
-use borrow.Author.Needs.{needs}
 use Rattle.shapes.proofs.b2_polygon_shape.b2_polygon_shape_set_core.Statement.{statement}
 use Rattle.shapes.proofs.b2_polygon_shape.b2_polygon_shape_set_core.Tie as tie
-
--- ---- the ranges
-abbrev first-of : tie.After-in-range → tie.Start
-first-of i = i .before .before .before .before .before
-
-inside-is : (i : tie.After-in-range)
-    → all-points point-in-range (take (first-of i .args .count) (first-of i .args .points)) ≡ i .in-range .result
-inside-is i =
-    ap (λ (l : List B2vec2). all-points point-in-range (take (first-of i .args .count) l))
-    (sym (i .before .before .coordinates .ensures .1))
-    ∙ sym (i .in-range .ensures)
-
--- ---- after welding
-abbrev start-of : tie.After-weld → tie.Start
-start-of d = d .before .before .before .before .before .before .before .before .before
-
-abbrev kept : tie.After-weld → List B2vec2
-kept d = points-in (d .weld .last .1 .1 .0)
-
-at-weld : (d : tie.After-weld) → AfterWeld (start-of d .args .old) (start-of d .args .points)
-    (start-of d .args .count) (d .weld .result) (kept d)
-at-weld d =
-    let inside = d .before .before .before .before in
-    let given = inside .before .before in
-    let start = given .before .before .before in
-    let count = start .args .count in
-    after-weld _ _ count _ _ (omega arith) (omega arith) (start .good .1 .0 .1 .0 .1)
-    (inside-is inside ∙ not-false _ (d .before .before .before .if3 .left)) (d .weld .ensures .0) (d .weld .ensures .1)
-    (d .weld .ensures .2 ∙ ap (λ (l : List B2vec2). welded (take count l)) (given .coordinates .ensures .1))
-
--- ---- after the walk
-abbrev weld-of : tie.After-walk → tie.After-weld
-weld-of w = w .before .before .before .before .before .before .before .before
-
-abbrev corners : tie.After-walk → List B2vec2
-corners w = points-in (w .walk .last .1 .1 .1 .0)
-
-walked : (w : tie.After-walk)
-    → WalkResult (take (weld-of w .weld .result) (kept (weld-of w))) (start-of (weld-of w) .args .old .«m_vertices»)
-    (row (take (weld-of w .weld .result) (kept (weld-of w)))) (w .walk .result) (corners w)
-walked w =
-    let d = weld-of w in
-    let ps = take (d .weld .result) (kept d) in
-    subst (λ (old : List B2vec2). WalkResult ps old (row ps) (w .walk .result) (corners w))
-    (w .before .before .before .coordinates2 .ensures .1)
-    (w .walk .ensures .2)
-
-at-walk : (w : tie.After-walk) → 3 ≤ w .walk .result
-    → AfterWalk (start-of (weld-of w) .args .old) (start-of (weld-of w) .args .points)
-    (start-of (weld-of w) .args .count) (w .walk .result) (corners w)
-at-walk w closed =
-    let enough = w .before .before .before .before .before .before .before in
-    after-walk _ _ _ _ _ (at-weld (weld-of w)) (enough .if4 .left) _ _ (walked w) closed
-
--- ---- after the normals
-abbrev walk-of : tie.After-normals → tie.After-walk
-walk-of f = f .before .before .before .before .before .before
-
-abbrev row-of : tie.After-normals → List B2vec2
-row-of f = take (walk-of f .walk .result) (corners (walk-of f))
-
-abbrev old-of : tie.After-normals → B2polygonShape
-old-of f = start-of (weld-of (walk-of f)) .args .old
-
-abbrev faces : tie.After-normals → List B2vec2
-faces f = points-in (f .normals .last .1 .1 .0)
-
-faced : (f : tie.After-normals) (t : Bool) → f .normals .result ≡ t
-    → NormalsResult (edges (row-of f)) (old-of f .«m_normals») (long-enough (edges (row-of f))) t (faces f)
-faced f t answer =
-    subst (λ (u : Bool). NormalsResult (edges (row-of f)) (old-of f .«m_normals») (long-enough (edges (row-of f))) u
-    (faces f)) answer
-    (subst (λ (old : List B2vec2). NormalsResult (edges (row-of f)) old (long-enough (edges (row-of f)))
-    (f .normals .result) (faces f))
-    (f .before .before .before .coordinates3 .ensures .1) (f .normals .ensures .1))
-
-known : (f : tie.After-normals)
-    → AfterWalk (old-of f) (start-of (weld-of (walk-of f)) .args .points) (start-of (weld-of (walk-of f)) .args .count)
-    (walk-of f .walk .result) (corners (walk-of f))
-known f = at-walk (walk-of f) (f .before .before .before .before .before .if5 .left)
+use Rattle.shapes.proofs.b2_polygon_shape.b2_polygon_shape_set_core.Proof.Known.{
+  first-of,
+  inside-is,
+  at-weld,
+  weld-of,
+  walked,
+  corners,
+  walk-of,
+  row-of,
+  old-of,
+  faces,
+  faced,
+  known,
+}
+mod Known
 
 refused-requires : tie.Need-refused-requires
 refused-requires c κs = search needs

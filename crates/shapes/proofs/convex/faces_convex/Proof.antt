@@ -5,7 +5,6 @@ use mathlib.Core.List.{zipWith}
 use Prim.Native.Nat.{_≤_, _-_}
 use native.Mathlib.Omega.{arith}
 use lib.ListN.{length, length-map}
-use borrow.Author.Tests.{not-true}
 use Rattle.floats.specs.B2Math.{vec2}
 use Rattle.shape_definitions.specs.Validate.{faces-convex}
 use Rattle.shapes.proofs.Sides.{faces-next, faces-failed, joined-faces}
@@ -42,8 +41,8 @@ returns c =
     let loop = c .before .before .before .before .before in
     let both = loop .before .before .before in
     let args = both .before .args in
-    let fails = not-true _ (sym (c .before .some-right .ensures) ∙ c .if1 .taken) in
-    sym (faces-failed _ (args .count) (loop .loop .i) (args .count) (omega arith) fails)
+    sym (faces-failed _ (args .count) (loop .loop .i) (args .count) _ (c .before .some-right .ensures) (c .if1 .taken)
+    (omega arith))
     ∙ joined-faces (args .vs) _ _ (args .count) (both .split-coordinates .ensures .0)
     (both .split-coordinates .ensures .1)
 

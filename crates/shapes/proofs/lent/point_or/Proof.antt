@@ -47,10 +47,10 @@ use Rattle.floats.specs.declared.b2_math.B2vec2.{B2vec2}
 use Rattle.floats.proofs.b2_math.B2vec2 as vec
 use Rattle.floats.proofs.b2_math.B2vec2.Laws as vec-laws
 use Rattle.shape_definitions.specs.Outline.{origin, point-at}
-use Rattle.shapes.proofs.b2_polygon_shape.point_or.Key.{name as point-or}
-use Rattle.shapes.proofs.b2_polygon_shape.point_or as f
-use Rattle.shapes.proofs.b2_polygon_shape.point_or.Statement as stated
-use Rattle.shapes.proofs.b2_polygon_shape.point_or.Code as code
+use Rattle.shapes.proofs.lent.point_or.Key.{name as point-or}
+use Rattle.shapes.proofs.lent.point_or as f
+use Rattle.shapes.proofs.lent.point_or.Statement as stated
+use Rattle.shapes.proofs.lent.point_or.Code as code
 
 abbrev stayed : Stays (f.ended .signature .params) (f.ended .kept)
 stayed = (stay-none-slice (0 ∷ []) tt (plain (λ _. vec.the-row)) yes, (stay-none (λ _. usize) yes, tt))
