@@ -7,7 +7,7 @@
 #[allow(dead_code)]
 #[path = "../tests/shared/ranges.rs"]
 mod ranges;
-#[path = "../tests/record/rust_touches.rs"]
+#[path = "../tests/record/rust_touches/mod.rs"]
 mod touches;
 use std::fs::File;
 use std::hint::black_box;

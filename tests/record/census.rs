@@ -1,7 +1,7 @@
 //! What the heats of a run had in them, counted from inputs and the right outputs.
+use crate::kinds::{kind, KINDS};
 use crate::support::Tally;
 
-const KINDS: [&str; 4] = ["", "circle", "outline", "wall"];
 const STATES: [&str; 4] = ["null", "add", "persist", "remove"];
 
 fn lines(text: &[u8]) -> Vec<&[u8]> {
@@ -34,34 +34,40 @@ pub struct Census;
 
 impl Census {
     pub fn add(&mut self, input: &[u8], output: &[u8], tally: &mut Tally) {
-        let mut shapes = [0; 8];
+        let mut shapes = [""; 8];
         for (line, answer) in lines(input).iter().zip(lines(output)) {
             damage(line, tally);
-            match byte(answer, 0) {
-                0 => {
-                    tally.met("accepted");
-                    if byte(line, 0) <= 3 {
-                        shapes[byte(line, 1)] = byte(line, 0);
+            match (byte(answer, 0), kind(byte(line, 0))) {
+                (0xff, Some(row)) if byte(answer, 1) != 10 => {
+                    tally.met(&format!("{} refusal {}", row.name, byte(answer, 1)));
+                }
+                (0xff, _) => tally.met(&format!("refusal {}", byte(answer, 1))),
+                (0, Some(row)) => {
+                    tally.met(&format!("{} accepted", row.name));
+                    if row.makes_shape {
+                        shapes[byte(line, 1)] = row.name;
                     }
                 }
-                5 => {
-                    let pair = [1, 2].map(|i| KINDS[shapes[byte(line, i)]]).join("-");
-                    tally.met(&format!("{pair} {}", ["apart", "1 point", "2 points"][byte(answer, 3)]));
-                    (5..9).for_each(|i| tally.met(STATES[byte(answer, i)]));
-                    let before = (5..7).map(|i| byte(answer, i)).any(|state| state > 0);
-                    if before && byte(answer, 3) == 0 {
-                        tally.met("parted");
-                    }
-                    if [9, 10, 11].iter().any(|i| byte(answer, *i) > 0) || byte(answer, 12) > 20 {
-                        tally.met("more than 20 touches");
-                    }
-                }
-                _ => tally.met(&format!("refusal {}", byte(answer, 1))),
+                _ => tested(line, answer, &shapes, tally),
             }
         }
         if input.last().map_or(false, |c| *c != b'\n') {
             tally.met("no line feed at the end");
         }
+    }
+}
+
+/// Counts a test by its pair, its points, its states and its touches.
+fn tested(line: &[u8], answer: &[u8], shapes: &[&str; 8], tally: &mut Tally) {
+    let pair = [1, 2].map(|i| shapes[byte(line, i)]).join("-");
+    tally.met(&format!("{pair} {}", ["apart", "1 point", "2 points"][byte(answer, 3)]));
+    (5..9).for_each(|i| tally.met(STATES[byte(answer, i)]));
+    let before = (5..7).map(|i| byte(answer, i)).any(|state| state > 0);
+    if before && byte(answer, 3) == 0 {
+        tally.met("parted");
+    }
+    if [9, 10, 11].iter().any(|i| byte(answer, *i) > 0) || byte(answer, 12) > 20 {
+        tally.met("more than 20 touches");
     }
 }
 
@@ -91,9 +97,13 @@ pub fn wanted() -> Vec<String> {
         let counts = ["apart", "1 point", "2 points"];
         list.extend(counts[..=most].iter().map(|count| format!("{pair} {count}")));
     }
-    list.extend([1, 2, 3, 4, 5, 6, 8, 10, 11, 12, 13].iter().map(|refusal| format!("refusal {refusal}")));
+    for row in &KINDS {
+        list.extend(row.refusals.iter().map(|refusal| format!("{} refusal {refusal}", row.name)));
+    }
+    // tests are counted by their pairs
+    list.extend(KINDS.iter().filter(|row| row.name != "test").map(|row| format!("{} accepted", row.name)));
     let others = [
-        "accepted",
+        "refusal 10",
         "null",
         "add",
         "persist",

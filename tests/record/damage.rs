@@ -1,8 +1,7 @@
 //! What is wrong in random heats: frames that are refused, and damaged lines.
-use crate::generators::float;
 use crate::heats::{Heat, IDS};
-use crate::ranges::SIZE;
-use crate::robots::{body, floats, hex, place_frame, point, shape_frame, Body, Kind};
+use crate::kinds::{any, unknown_id, weighted};
+use crate::robots::{body_of, floats, hex, point, shape_frame, Body, Kind};
 
 impl Heat<'_> {
     /// A wall so short that its squared length is 0 or has no finite reciprocal, and a circle over its middle.
@@ -28,47 +27,16 @@ impl Heat<'_> {
 
     /// A frame that is well formed and, mostly, refused.
     pub fn refused(&mut self) {
-        let (id, other) = (self.id() as u8, self.random.of(&[8, 9, 0x10, 0x80, 0xff]));
-        let random = &mut *self.random;
-        let (beyond, any) = (f32::from_bits(SIZE.to_bits() + 1), float(random));
-        let bad = random.of(&[beyond, -beyond, f32::NAN, f32::INFINITY, -1e30, any]);
-        let small = random.of(&[0.0, 0.0024, 0.002, 1e-20]);
-        let frame = match random.below(14) {
-            0 => vec![2, id, 0],
-            1 => floats(&[2, id, 1], &[bad, 1.0]),
-            2 => floats(&[2, id, 2], &[0.0, 0.0, bad, 0.0]),
-            3 => floats(&[2, id, 3], &[0.0, 0.0, small, 0.0, 0.0, random.of(&[small, 1.0])]),
-            4 => {
-                let (p, q) = (point(random, 0.0), point(random, 0.0));
-                floats(&[2, id, 3], &[p[0], p[1], q[0], q[1], (p[0] + q[0]) / 2.0, (p[1] + q[1]) / 2.0])
-            }
-            5 => floats(&[2, id, 3], &[0.0, 0.0, 1.0, 0.0, 0.5, random.of(&[1e-7, 2e-7, 3e-7, -1e-7])]),
-            6 => {
-                let mut body = body(random, 1.0);
-                let place = random.below(body.points.len() as u64) as usize;
-                body.points[place][random.below(2) as usize] = bad;
-                shape_frame(id, &body)
-            }
-            7 => floats(&[1, id], &[0.0, 0.0, random.of(&[-1.0, -1e-40, -0.0, bad])]),
-            8 => {
-                let beyond_one = random.of(&[1.0000001, -1.0000001, f32::NAN, 2.0]);
-                let mut list = [0.0, 0.0, 0.0, 1.0];
-                let place = random.below(4) as usize;
-                list[place] = if place < 2 { bad } else { beyond_one };
-                floats(&[4, id], &list)
-            }
-            9 => vec![5, id, id],
-            10 => vec![5, random.of(&[id, other]), random.of(&[id, other])],
-            11 => {
-                let mut body = body(random, 1.0);
-                body.turn = [bad, 0.0];
-                random.of(&[&shape_frame(other, &body), &place_frame(other, &body)]).to_vec()
-            }
-            12 => floats(&[2, id, 9], &(0..18).map(|i| (i * i) as f32).collect::<Vec<f32>>()),
-            _ => floats(&[4, id], &[1.0, 1.0, 0.0, 1.0]),
-        };
+        let id = self.id() as u8;
+        if self.random.once_in(12) {
+            let (kind, id) = (any(self.random), unknown_id(self.random));
+            let frame = (kind.any)(self.random, id);
+            return self.frame(&frame);
+        }
+        let kind = weighted(self.random);
+        let frame = (kind.refused)(self.random, id);
         self.frame(&frame);
-        if matches!(frame[0], 1..=3) && (id as usize) < IDS {
+        if kind.makes_shape {
             // a refused shape leaves the old one, its contacts and its counts
             for _ in 0..3 {
                 let other = self.id() as u8;
@@ -81,11 +49,10 @@ impl Heat<'_> {
 
     /// A line that is no frame, or hardly one: damaged digits, wrong lengths, unknown kinds, other bytes, none at all.
     pub fn damaged(&mut self) {
-        let body = body(self.random, 1.0);
         let id = if self.random.once_in(4) { 8 } else { self.id() as u8 };
         let random = &mut *self.random;
-        let good = random.of(&[&shape_frame(id, &body), &place_frame(id, &body), &vec![5, id, 1]]).to_vec();
-        let mut line = hex(&good);
+        let kind = any(random);
+        let mut line = hex(&(kind.any)(random, id));
         let place = random.below(line.len() as u64) as usize;
         let odd = random.of(b"/:@`gGAFxz \t\r\0\x0b\x7f\x80\xc3\xff");
         match random.below(14) {
@@ -98,10 +65,11 @@ impl Heat<'_> {
             6 => line.extend(b"00"),
             7 => line = Vec::new(),
             8 => line[0..2].copy_from_slice(random.of(&[b"00", b"0b", b"0f", b"10", b"7f", b"ee", b"ff"])),
-            9 if good[0] == 3 || good[0] == 2 => line[4..6].copy_from_slice(random.of(&[b"02", b"09", b"10", b"ff"])),
+            9 if kind.third => line[4..6].copy_from_slice(random.of(&[b"02", b"09", b"10", b"ff"])),
             9 | 10 => {
                 // 134 digits are a frame of eight points; 135 and more are overlong, whatever they begin with
-                let body = Body { kind: Kind::Outline, points: (0..8).map(|_| point(random, 1.0)).collect(), ..body };
+                let points = (0..8).map(|_| point(random, 1.0)).collect();
+                let body = Body { points, ..body_of(random, 1.0, Kind::Outline) };
                 line = hex(&shape_frame(id, &body));
                 let more = random.of(&[0, 0, 1, 2, 16, 32, 66, 1000]);
                 line.extend(vec![b'0'; more]);
@@ -114,7 +82,7 @@ impl Heat<'_> {
             _ => line = vec![random.next() as u8 | 1; if random.once_in(8) { 100_000 } else { 5000 }],
         }
         self.line(&line);
-        if matches!(good[0], 1..=3) && (id as usize) < IDS {
+        if kind.makes_shape && (id as usize) < IDS {
             self.bodies[id as usize] = None;
         }
     }

@@ -148,22 +148,27 @@ impl Heat<'_> {
     }
 }
 
+/// What a heat does next: how often, whether a calm heat does it too, and what.
+const ACTIONS: [(usize, bool, fn(&mut Heat)); 5] = [
+    (2, true, |heat| heat.new_shape()),
+    (2, false, |heat| heat.refused()),
+    (2, false, |heat| heat.damaged()),
+    (1, false, |heat| heat.tiny_wall()),
+    (17, true, |heat| heat.scene()),
+];
+
 /// A heat of about this many lines.
 pub fn heat(random: &mut Random, length: usize) -> Vec<u8> {
     let scale = random.of(&[0.0, 0.0, 0.0, 1.0, 1.0, 1.0, 4.0, 100.0, 131072.0, 0.02, 1e-19]);
     let calm = random.once_in(4);
+    let actions: Vec<fn(&mut Heat)> =
+        ACTIONS.iter().filter(|row| !calm || row.1).flat_map(|row| vec![row.2; row.0]).collect();
     let mut heat = Heat { random, scale, bodies: Default::default(), text: Vec::new(), lines: 0 };
     for _ in 0..heat.random.below(6) {
         heat.new_shape();
     }
     while heat.lines < length {
-        match heat.random.below(24) {
-            0 | 1 => heat.new_shape(),
-            2 | 3 if !calm => heat.refused(),
-            4 | 5 if !calm => heat.damaged(),
-            6 if !calm => heat.tiny_wall(),
-            _ => heat.scene(),
-        }
+        heat.random.of(&actions)(&mut heat);
     }
     let mut text = heat.text;
     match random.below(8) {

@@ -15,6 +15,7 @@ mod export;
 #[path = "../shared/generators.rs"]
 mod generators;
 mod heats;
+mod kinds;
 mod limits;
 mod pieces;
 #[allow(dead_code)]

@@ -122,6 +122,10 @@ fn wall(random: &mut Random, scale: f32) -> Vec<[f32; 2]> {
 
 pub fn body(random: &mut Random, scale: f32) -> Body {
     let kind = random.of(&[Kind::Circle, Kind::Outline, Kind::Outline, Kind::Outline, Kind::Wall, Kind::Wall]);
+    body_of(random, scale, kind)
+}
+
+pub fn body_of(random: &mut Random, scale: f32, kind: Kind) -> Body {
     let points = match kind {
         Kind::Circle if random.once_in(3) => vec![point(random, scale)],
         Kind::Circle => vec![[0.0, -0.0]],

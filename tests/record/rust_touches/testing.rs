@@ -1,0 +1,95 @@
+//! Frame 05: the test of a pair.
+use super::shapes::Shape::{Circle, Outline, Wall};
+use super::{Answer, Body, Pair, Program};
+use crate::ranges::{within, CONTACT, LOCAL_NORMAL, SIZE};
+use box2d_rs::b2_collision::*;
+use box2d_rs::b2_math::B2vec2;
+use box2d_rs::shapes::b2_polygon_shape::B2polygonShape;
+use std::panic::{catch_unwind, AssertUnwindSafe};
+
+fn put(line: &mut Vec<u8>, number: f32) {
+    line.extend(number.to_bits().to_be_bytes());
+}
+
+fn put_point(line: &mut Vec<u8>, p: B2vec2) {
+    put(line, p.x);
+    put(line, p.y);
+}
+
+/// The contact of a listed pair: 13 of others, 2 by a stored centroid, 8.
+fn contact(a: &Body, b: &Body) -> Result<B2manifold, u8> {
+    let mut m = B2manifold::default();
+    let (xf_a, xf_b) = (&a.place, &b.place);
+    let tested = |outlines: &[&B2polygonShape]| {
+        let size = |p: &&B2polygonShape| within(&[p.m_centroid.x.to_bits(), p.m_centroid.y.to_bits()], SIZE);
+        if outlines.iter().all(size) {
+            Ok(())
+        } else {
+            Err(2)
+        }
+    };
+    match (&a.shape, &b.shape) {
+        (Circle(a), Circle(b)) => b2_collide_circles(&mut m, a, xf_a, b, xf_b),
+        (Outline(a), Circle(b)) => {
+            tested(&[a])?;
+            b2_collide_polygon_and_circle(&mut m, a, xf_a, b, xf_b)
+        }
+        (Outline(a), Outline(b)) => {
+            tested(&[a, b])?;
+            b2_collide_polygons(&mut m, a, xf_a, b, xf_b)
+        }
+        (Wall(a), Circle(b)) => {
+            let call = AssertUnwindSafe(|| b2_collide_edge_and_circle(&mut m, a, xf_a, b, xf_b));
+            catch_unwind(call).map_err(|_| 8)?
+        }
+        (Wall(a), Outline(b)) => {
+            tested(&[b])?;
+            b2_collide_edge_and_polygon(&mut m, a, xf_a, b, xf_b)
+        }
+        _ => return Err(13),
+    }
+    Ok(m)
+}
+
+/// World points' own refusal. Nothing in the ranges of shapes and placements comes near these limits.
+fn given(m: &B2manifold) -> Result<(), u8> {
+    let bits = |p: &B2vec2| [p.x.to_bits(), p.y.to_bits()];
+    let points = m.points[..m.point_count].iter().all(|p| within(&bits(&p.local_point), CONTACT));
+    let plane = within(&bits(&m.local_point), CONTACT) && within(&bits(&m.local_normal), LOCAL_NORMAL);
+    if points && (plane || m.point_count == 0) {
+        Ok(())
+    } else {
+        Err(9)
+    }
+}
+
+/// 05 a b: 12, 13, then the contact's refusals; a touch is counted for each point in state add.
+pub fn test(program: &mut Program, frame: &[u8]) -> Answer {
+    let (ida, idb) = (frame[1] as usize, frame[2] as usize);
+    let (a, b) = (program.bodies[ida].ok_or(12)?, program.bodies[idb].ok_or(12)?);
+    if ida == idb {
+        return Err(13);
+    }
+    let m = contact(&a, &b)?;
+    given(&m)?;
+    let mut world = B2worldManifold::default();
+    world.initialize(&m, a.place, a.shape.radius(), b.place, b.shape.radius());
+    let (mut old, mut new) = ([B2pointState::B2NullState; 2], [B2pointState::B2NullState; 2]);
+    let pair = &mut program.pairs[ida][idb];
+    b2_get_point_states(&mut old, &mut new, &pair.last, &m);
+    let added = new.iter().filter(|state| **state == B2pointState::B2AddState).count();
+    *pair = Pair { last: m, touches: pair.touches.saturating_add(added as u32) };
+
+    let kind = if m.point_count == 0 { 0 } else { m.manifold_type as u8 };
+    let mut line = vec![5, ida as u8, idb as u8, m.point_count as u8, kind];
+    line.extend(old.iter().chain(&new).map(|state| *state as u8));
+    line.extend(pair.touches.to_be_bytes());
+    if m.point_count > 0 {
+        put_point(&mut line, world.normal);
+    }
+    for i in 0..m.point_count {
+        put_point(&mut line, world.points[i]);
+        put(&mut line, world.separations[i]);
+    }
+    Ok(line)
+}
