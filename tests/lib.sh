@@ -16,7 +16,7 @@ header=netxurbil_test_calls.h
 
 # A check makes thousands of small files and removes them: in memory that takes a second or two less. Programs are run
 # from there too.
-in_memory() { awk '$2 == "/dev/shm" { options = $4 } END { exit options !~ /^rw/ || options ~ /noexec/ }' /proc/mounts; }
+in_memory() { awk '$2 == "/dev/shm" { how = $4 } END { exit how !~ /^rw/ || how ~ /noexec/ }' /proc/mounts; }
 if [ -z "$TMPDIR" ] && in_memory; then export TMPDIR=/dev/shm; fi
 
 build=target/tests

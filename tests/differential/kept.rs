@@ -1,7 +1,7 @@
-//! What a call keeps, it keeps bit for bit, a NaN's payload too: of that the contracts cannot speak, since the logic has
-//! one NaN. Records full of NaNs with random payloads, quiet and signalling, go through every call that hands a record
-//! back. Which fields are kept is asked of the entries on words, with two old records of plain numbers; all other fields
-//! must be theirs.
+//! What a call keeps, it keeps bit for bit, a NaN's payload too: of that the contracts cannot speak, since the logic
+//! has one NaN. Records full of NaNs with random payloads, quiet and signalling, go through every call that hands a
+//! record back. Which fields are kept is asked of the entries on words, with two old records of plain numbers; all
+//! other fields must be theirs.
 use crate::row::Row;
 use crate::support::{calls, Random, Tally};
 use crate::{contacts, lent_slice, manifolds, records};

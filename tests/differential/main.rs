@@ -1,6 +1,6 @@
 //! The differential runs: every row of the table, ours against the unmodified Rust and Box2D 2.4.1, every field,
-//! refusals included; malformed requests; and kept NaNs. Built with `--cfg papers` where the Rust is at hand and `--cfg box2d`
-//! where Box2D is.
+//! refusals included; malformed requests; and kept NaNs. Built with `--cfg papers` where the Rust is at hand and
+//! `--cfg box2d` where Box2D is.
 //! usage: differential CASES SEED               compares, for each row until CASES were asked of the references
 //!        differential store FILE CASES SEED    prints answers for tests/stored/FILE.txt, which the references share
 #![allow(unknown_lints, unexpected_cfgs)]

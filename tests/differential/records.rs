@@ -1,6 +1,6 @@
 //! The calls that hand a record back, on records that C can name. No float is taken apart on the way, so that a NaN's
-//! payload is seen, which the entries on words make one: passes of crate bench_calls over one case, its boxes and walls,
-//! and the outline builder. Each takes a request of an entry and answers in its words.
+//! payload is seen; the entries on words make all NaNs one. They are passes of crate bench_calls over one case, and its
+//! boxes and walls. Each takes a request of an entry and answers in its words.
 use crate::contacts::parts;
 use crate::lent_slice::{numbers, point, polygon, polygon_words, Polygon, PolygonAnswer, Vec2};
 use crate::ranges::{EDGE, POLYGON};

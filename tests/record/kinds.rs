@@ -1,6 +1,6 @@
 //! The kinds of frame, a row each: how heats send it, what is wrong in the ones that are refused, and what a run has to
-//! meet of it. A new kind of frame is a new row here, a function for what is wrong in it, and, where bodies are moved or
-//! made by it, a place in the heats.
+//! meet of it. A new kind of frame is a new row here, a function for what is wrong in it, and, where bodies are made or
+//! moved by it, a place in the heats.
 use crate::generators::float;
 use crate::ranges::SIZE;
 use crate::robots::{angle, body_of, floats, place_frame, point, shape_frame, Kind as Shape};
@@ -122,7 +122,7 @@ fn circle(random: &mut Random, id: u8) -> Vec<u8> {
     }
 }
 
-/// 1 for too few points, or the length of too many; 2; 3 and 4 for points that are near, or on a line; 5 for a flat one.
+/// 1 for too few points, 10 for nine; 2; 3 and 4 for points that are near, or on a line; 5 for a flat one.
 fn outline(random: &mut Random, id: u8) -> Vec<u8> {
     let (bad, small) = (bad(random), random.of(&[0.0, 0.0024, 0.002, 1e-20]));
     match random.below(8) {

@@ -129,9 +129,7 @@ fn main() {
             let text = heat(&mut Random::new(number(2)), number(1) as usize);
             return std::io::stdout().write_all(&text).expect("standard output");
         }
-        _ => panic!(
-            "usage: record heats PROGRAM HEATS LENGTH SEED | export CASES SEED | limits CASES SEED | touches | exports | .."
-        ),
+        _ => panic!("usage: record heats PROGRAM HEATS LENGTH SEED | export CASES SEED | limits CASES SEED | .."),
     };
     println!("{} passed, {} failed", passed as u32, !passed as u32);
     std::process::exit(!passed as i32);
