@@ -126,12 +126,12 @@ module _ (input : List ℕ) (first outline second : ℕ) (first-is : first ≡ f
       unfolding sizes-right
       both-sized = both (not (eqb first 0)) (not (eqb second outline)) (front .0)
 
-      first-size : 3 ≤ first
+      pub first-size : 3 ≤ first
       first-size =
           let some : first ≡ 0 → ⊥ = eqb-false first 0 (not-true (eqb first 0) (both-sized .0)) in
           rw first-is (length-at-least (byte-at input 2) (λ none. some (first-is ∙ none)))
 
-      second-size : 3 ≤ second - outline
+      pub second-size : 3 ≤ second - outline
       second-size =
           let third = byte-at input (outline + 2) in
           let other : second ≡ outline → ⊥ =

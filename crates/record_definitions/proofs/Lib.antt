@@ -22,6 +22,12 @@ pub mod HeatTests
 pub mod HeatSteps
 pub mod HeatLaw
 pub mod HeatCases
+pub mod ExportRuns
+pub mod ExportLines
+pub mod ExportFrames
+pub mod ExportSteps
+pub mod ExportOutcome
+pub mod ExportTheorem
 pub mod Heats
 pub mod TableCases
 pub mod Controls

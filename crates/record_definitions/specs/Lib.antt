@@ -7,3 +7,4 @@ pub mod Touches
 pub mod Reading
 pub mod Export
 pub mod Heat
+pub mod ExportLaws

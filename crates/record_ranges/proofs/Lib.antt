@@ -13,3 +13,4 @@ pub mod Bodies
 pub mod Kept
 pub mod Contacts
 pub mod Theorem
+pub mod ExportReturns

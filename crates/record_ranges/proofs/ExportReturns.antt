@@ -1,0 +1,199 @@
+-- The numbers that the export returns (`export-returns`): 13, 33 or 45, or 256 and one of 1 to 6; 256 and 9 just where
+-- the output is too short, 256 and 10 just where it is not and the input is not in order. Assumes nothing.
+use Prim.Native.Nat.{ℕ, zero, suc, _+_, _≤_, _<_}
+use mathlib.Core.Path.{_≡_, refl, sym, _∙_, ap}
+use mathlib.Core.Bool.{Bool, true, false, not, _&&_, _||_, false≢true}
+use mathlib.Core.List.{List, [], _∷_, List·Memᴰ}
+use mathlib.Core.List as L
+use mathlib.Core.Logic.{_⊎_, inl, inr}
+use native.Mathlib.Omega.{arith}
+use lib.Dec.{eqb, ltb}
+use lib.ListN.{length, getD}
+use Rattle.algebra.proofs.Booleans.{less-or-not}
+use Rattle.floats.specs.Ranges.{transform-in-range, radius-in-range}
+use Rattle.shape_definitions.specs.Validate.{polygon-in-range}
+use Rattle.shape_definitions.specs.Refusal.{accepted, shape-out-of-range, placement-out-of-range, count-out-of-range}
+use Rattle.shape_definitions.specs.Refusal.{contact-out-of-range}
+use Rattle.contact_definitions.specs.declared.b2_collision.B2manifold.{B2manifold}
+use Rattle.contact_definitions.specs.declared.b2_collision.ManifoldAnswer.{ManifoldAnswer}
+use Rattle.contact_definitions.specs.declared.b2_collision.WorldAnswer.{WorldAnswer}
+use Rattle.contact_definitions.specs.Manifold.{miscounted}
+use Rattle.contact_definitions.specs.B2CollidePolygon.{b2-collide-polygons}
+use Rattle.contact_definitions.specs.WorldManifold.{b2-world-manifold-initialize, manifold-in-range}
+use Rattle.contact_definitions.proofs.Counts.{either}
+use Rattle.record_definitions.specs.declared.world.Body.{Body}
+use Rattle.record_definitions.specs.declared.world.Pair.{Pair}
+use Rattle.record_definitions.specs.declared.world.World.{World}
+use Rattle.record_definitions.specs.declared.touch.Touch.{Touch}
+use Rattle.record_definitions.specs.declared.frame.Answer.{Answer}
+use Rattle.record_definitions.specs.declared.frame.Answer.the-variants.{Tested}
+use Rattle.record_definitions.specs.World.{outline-kind, body-at, pair-at}
+use Rattle.record_definitions.specs.Touch.{meet-outline, meet, skin, world-points, tested-as, tested}
+use Rattle.record_definitions.specs.Frame.{listed}
+use Rattle.record_definitions.specs.Answer.{touch-bytes, answer-bytes, longest-answer}
+use Rattle.record_definitions.specs.Export.{in-order, refusal-base, export-number}
+use Rattle.record_definitions.specs.ExportLaws.{export-numbers, ExportReturns}
+use Rattle.record_definitions.proofs.Exported.{too-short, out-of-order}
+use Rattle.record_definitions.proofs.Sound.{Sound}
+use Rattle.record_definitions.proofs.SoundKept.{fresh-sound, frame-keeps-sound}
+use Rattle.record_definitions.proofs.SoundTests.{NotOfHost, test-fine}
+use Rattle.record_definitions.proofs.Theorem.{result-bytes, answers-fit}
+use Rattle.record_definitions.proofs.ExportRuns.{answered, turned-down}
+use Rattle.record_definitions.proofs.ExportOutcome.{export-outcome}
+use Rattle.record_definitions.proofs.ExportTheorem.{said-last, Ends, returned-tested, returned-refused, number-is}
+use Rattle.record_ranges.proofs.Kept.{CappedWorld, fresh-capped, frame-keeps-capped}
+use Rattle.record_ranges.proofs.Contacts.{test-not-nine}
+
+-- ---- a test of two outlines, if refused, is refused with 2
+TestNumber : ℕ → Type 0
+TestNumber n =
+    (n ≡ accepted) ⊎ ((n ≡ shape-out-of-range) ⊎ ((n ≡ placement-out-of-range)
+    ⊎ ((n ≡ count-out-of-range) ⊎ (n ≡ contact-out-of-range))))
+
+module _ (a b : Body) (a-is : a .kind ≡ outline-kind) (b-is : b .kind ≡ outline-kind) where
+  of-contact : TestNumber (meet a b .refusal)
+  unfolding meet meet-outline b2-collide-polygons TestNumber
+  of-contact =
+      rw (a-is, b-is)
+      (either Good (miscounted (a .outline .«m_count») || miscounted (b .outline .«m_count»)) _ _
+      (inr (inr (inr (inl refl))))
+      (either Good (not (polygon-in-range (a .outline) && polygon-in-range (b .outline))) _ _ (inr (inl refl))
+      (either Good (not (transform-in-range (a .xf) && transform-in-range (b .xf))) _ _ (inr (inr (inl refl)))
+      (inl refl))))
+    where
+      Good : ManifoldAnswer → Type 0
+      Good answer = TestNumber (answer .refusal)
+
+  of-world-points : (m : B2manifold) → TestNumber (world-points a b m .refusal)
+  unfolding world-points b2-world-manifold-initialize TestNumber
+  of-world-points m =
+      either Good (ltb 2 (m .«point_count»)) _ _ (inr (inr (inr (inl refl))))
+      (either Good (eqb (m .«point_count») 0) _ _ (inl refl)
+      (either Good (not (manifold-in-range m && radius-in-range (skin a) && radius-in-range (skin b))) _ _
+      (inr (inr (inr (inr refl))))
+      (either Good (not (transform-in-range (a .xf) && transform-in-range (b .xf))) _ _ (inr (inr (inl refl)))
+      (inl refl))))
+    where
+      Good : WorldAnswer → Type 0
+      Good answer = TestNumber (answer .refusal)
+
+  of-test : (pair : Pair) → TestNumber (tested 0 1 a b pair .refusal)
+  unfolding tested tested-as
+  of-test pair =
+      either TestNumber (eqb (meet a b .refusal) accepted) _ _ (of-world-points (meet a b .manifold)) of-contact
+
+  both-listed : listed (a .kind) (b .kind) ≡ true
+  unfolding listed
+  both-listed = rw (a-is, b-is) refl
+
+-- ---- so the frames of the export are refused with 1 to 6
+OneToSix : ℕ → Type 0
+OneToSix n = (1 ≤ n) × (n ≤ 6)
+
+Kept : World → Type 0
+Kept w = Sound w × CappedWorld w
+
+two-left : (n : ℕ) → (n ≡ 0 → ⊥) → NotOfHost n → (n ≡ contact-out-of-range → ⊥) → TestNumber n → OneToSix n
+unfolding TestNumber OneToSix
+two-left n nonzero host nine (inl is) = absurd (nonzero is)
+two-left n nonzero host nine (inr (inl is)) = omega arith
+two-left n nonzero host nine (inr (inr (inl is))) = absurd (host .0 is)
+two-left n nonzero host nine (inr (inr (inr (inl is)))) = absurd (host .1 is)
+two-left n nonzero host nine (inr (inr (inr (inr is)))) = absurd (nine is)
+
+test-refused : (w : World) → Kept w → body-at w 0 .kind ≡ outline-kind → body-at w 1 .kind ≡ outline-kind
+    → (tested 0 1 (body-at w 0) (body-at w 1) (pair-at w 0 1) .refusal ≡ 0 → ⊥)
+    → OneToSix (tested 0 1 (body-at w 0) (body-at w 1) (pair-at w 0 1) .refusal)
+unfolding Kept
+test-refused w kept a-is b-is nonzero =
+    let a = body-at w 0 in
+    let b = body-at w 1 in
+    let pair = pair-at w 0 1 in
+    two-left (tested 0 1 a b pair .refusal) nonzero
+    (test-fine a b (kept .0 .each 0) (kept .0 .each 1) 0 1 pair (both-listed a b a-is b-is))
+    (test-not-nine a b (kept .1 .each 0) (kept .1 .each 1) 0 1 pair) (of-test a b a-is b-is pair)
+
+outcome : (input : List ℕ) → in-order input ≡ true → Ends OneToSix input
+unfolding OneToSix Kept
+outcome input ordered =
+    export-outcome OneToSix Kept (λ w kept. kept .0)
+    (λ w frame kept. (frame-keeps-sound w frame (kept .0), frame-keeps-capped w frame (kept .1)))
+    (fresh-sound, fresh-capped) (λ n nonzero few. (omega arith, omega arith)) (omega arith, omega arith) test-refused
+    input ordered
+
+-- ---- the list of numbers
+abbrev Listed : ℕ → Type 0
+Listed n = List·Memᴰ n export-numbers
+
+at-place : (l : List ℕ) (i : ℕ) → i < length l → List·Memᴰ (getD l i 0) l
+at-place [] i below = absurd (omega arith)
+at-place (x ∷ l) zero below = L.List·Memᴰ·head refl
+at-place (x ∷ l) (suc i) below = L.List·Memᴰ·tail (at-place l i (omega arith))
+
+refusal-listed : (n : ℕ) → 1 ≤ n → n ≤ 6 → Listed (refusal-base + n)
+refusal-listed zero least most = absurd (omega arith)
+refusal-listed (suc zero) least most = at-place export-numbers 3 (omega arith)
+refusal-listed (suc (suc zero)) least most = at-place export-numbers 4 (omega arith)
+refusal-listed (suc (suc (suc zero))) least most = at-place export-numbers 5 (omega arith)
+refusal-listed (suc (suc (suc (suc zero)))) least most = at-place export-numbers 6 (omega arith)
+refusal-listed (suc (suc (suc (suc (suc zero))))) least most = at-place export-numbers 7 (omega arith)
+refusal-listed (suc (suc (suc (suc (suc (suc zero)))))) least most = at-place export-numbers 8 (omega arith)
+refusal-listed (suc (suc (suc (suc (suc (suc (suc n))))))) least most = absurd (omega arith)
+
+test-listed : (t : Touch) → Listed (length (touch-bytes t))
+test-listed t =
+    rw (result-bytes t)
+    (either Listed (eqb (t .count) 0) 13 _ (at-place export-numbers 0 (omega arith))
+    (either Listed (eqb (t .count) 1) 33 45 (at-place export-numbers 1 (omega arith))
+    (at-place export-numbers 2 (omega arith))))
+
+-- ---- what is returned where the output has room and the input is in order: neither 9 nor 10
+record Ran (n : ℕ) : Type 0 where
+  is-listed : Listed n
+  below : n ≤ refusal-base + 6
+
+ran : (input out : List ℕ) → longest-answer ≤ length out → in-order input ≡ true
+    → Ran (export-number input out)
+unfolding OneToSix
+ran input out room ordered = by-outcome (outcome input ordered)
+  where
+    by-outcome : Ends OneToSix input → Ran (export-number input out)
+    by-outcome (answered t is printed) =
+        let said = said-last input in
+        let number : export-number input out ≡ length (touch-bytes t) =
+        number-is input out room ordered ∙ returned-tested said t is
+        ∙ ap (λ (answer : Answer). length (answer-bytes answer)) is in
+        let few : length (touch-bytes t) ≤ longest-answer =
+        answers-fit (record { answer = Tested t }) .0 in
+        record { is-listed = rw number (test-listed t); below = omega (arith, number, few) }
+    by-outcome (turned-down n is nonzero good first) =
+        let number : export-number input out ≡ refusal-base + n =
+        number-is input out room ordered ∙ returned-refused (said-last input) n is nonzero in
+        record { is-listed = rw number (refusal-listed n (good .0) (good .1)); below = omega (arith, number, good .1) }
+
+pub export-returns : (input out : List ℕ) → ExportReturns input out
+export-returns input out = by-room (less-or-not (length out) longest-answer) (in-order input) refl
+  where
+    by-room : (length out < longest-answer) ⊎ (longest-answer ≤ length out) → (t : Bool) → in-order input ≡ t
+        → ExportReturns input out
+    by-room (inl short) t is =
+        let number : refusal-base + 9 ≡ export-number input out = too-short input out short .0 in
+        record {
+          listed = rw (← number) (at-place export-numbers 9 (omega arith));
+          nine = (λ same. short, λ less. sym number);
+          ten = (λ same. absurd (omega arith), λ both. absurd (omega (arith, both .0)));
+        }
+    by-room (inr room) false is =
+        let number : refusal-base + 10 ≡ export-number input out = out-of-order input out room is .0 in
+        record {
+          listed = rw (← number) (at-place export-numbers 10 (omega arith));
+          nine = (λ same. absurd (omega arith), λ less. absurd (omega arith));
+          ten = (λ same. (room, is), λ both. sym number);
+        }
+    by-room (inr room) true is =
+        let done = ran input out room is in
+        record {
+          listed = done .is-listed;
+          nine = (λ same. absurd (omega (arith, done .below)), λ less. absurd (omega arith));
+          ten = (λ same. absurd (omega (arith, done .below)), λ both. absurd (false≢true (sym (both .1) ∙ is)));
+        }
