@@ -4,9 +4,9 @@ use mathlib.Core.Path.{_≡_, sym, _∙_}
 use mathlib.Core.List.{List, []}
 use borrow.Author.Tests.{ne-eqb, lt-ltb, le-ltb}
 use lib.ListN.{length}
-use Rattle.test_entries.specs.NumberEntries.{root-answer, normalize-answer}
-use Rattle.test_entries.specs.ShapeEntries.{shape-answer}
-use Rattle.test_entries.specs.ContactEntries.{contact-answer}
+use Rattle.test_entries.specs.Numbers.{root-answer, normalize-answer}
+use Rattle.test_entries.specs.ByNumber.{shape-answer}
+use Rattle.test_entries.specs.ByNumber.{contact-answer}
 use Rattle.wire.specs.Words.{word-at}
 use Rattle.test_calls.specs.Entries.{entry-answer, answer}
 

@@ -6,9 +6,9 @@ use mathlib.Core.Bool.{cond}
 use mathlib.Core.List.{List, []}
 use lib.Dec.{ltb, eqb}
 use lib.ListN.{length}
-use Rattle.test_entries.specs.NumberEntries.{root-answer, normalize-answer}
-use Rattle.test_entries.specs.ShapeEntries.{shape-answer}
-use Rattle.test_entries.specs.ContactEntries.{contact-answer}
+use Rattle.test_entries.specs.Numbers.{root-answer, normalize-answer}
+use Rattle.test_entries.specs.ByNumber.{shape-answer}
+use Rattle.test_entries.specs.ByNumber.{contact-answer}
 use Rattle.wire.specs.Words.{word-at}
 
 -- the entry is the first word: 1 to 6 make and test shapes, 7 to 14 are contact calls

@@ -14,13 +14,13 @@ pub extern "C" fn calls(input: &[u8], out: &mut [u8]) -> u32
     }
     let entry = words::word(input, 0);
     match entry {
-        15 => test_entries::number_entries::root(input, out),
-        16 => test_entries::number_entries::normalize(input, out),
+        15 => test_entries::numbers::root(input, out),
+        16 => test_entries::numbers::normalize(input, out),
         _ => {
             if entry < 7 {
-                test_entries::shape_entries::call(entry, input, out)
+                test_entries::by_number::shape_call(entry, input, out)
             } else {
-                test_entries::contact_entries::call(entry, input, out)
+                test_entries::by_number::contact_call(entry, input, out)
             }
         }
     }

@@ -1,5 +1,2 @@
-pub mod Numbers
-pub mod Walls
-pub mod Outlines
-pub mod ShapeDispatch
-pub mod ContactDispatch
+pub mod SetEntry
+pub mod UnderNumber

@@ -1,8 +1,6 @@
-pub mod NumberEntries
-pub mod WallEntries
-pub mod CircleEntries
-pub mod OutlineEntries
-pub mod PointEntries
-pub mod WorldEntries
-pub mod ShapeEntries
-pub mod ContactEntries
+pub mod Numbers
+pub mod Outlines
+pub mod Walls
+pub mod Pairs
+pub mod Points
+pub mod ByNumber

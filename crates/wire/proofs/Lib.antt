@@ -1,5 +1,4 @@
 pub mod Bytes
 pub mod Requests
 pub mod Rows
-pub mod Pairs
-pub mod PointPairs
+pub mod TwoPoints

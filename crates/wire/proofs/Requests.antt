@@ -1,33 +1,28 @@
--- Requests that are well formed, and not: a length, then kinds, flags and states. Assumes nothing.
+-- What is written for a request: nothing to one of another length, or with an unknown kind, flag or state; else the
+-- answer's words. Assumes nothing.
 use Prim.Native.Nat.{ℕ, _*_}
-use mathlib.Core.Path.{_≡_, refl, sym, _∙_}
+use mathlib.Core.Path.{_≡_, sym, _∙_}
 use mathlib.Core.Bool.{Bool, true, false, not}
-use mathlib.Core.List.{List, []}
+use mathlib.Core.List.{List}
 use lib.ListN.{length}
-use borrow.Author.Tests.{eq-eqb, ne-eqb}
+use borrow.Author.Tests.{eq-eqb, ne-eqb, not-true, not-false}
+use Rattle.wire.specs.Words.{Written}
 use Rattle.wire.specs.Requests.{well-formed}
+use Rattle.wire.proofs.Bytes.{nothing-written, written-as}
 
-not-true : (b : Bool) → not b ≡ true → b ≡ false
-not-true true e = sym e
-not-true false e = refl
-
-not-false : (b : Bool) → not b ≡ false → b ≡ true
-not-false true e = refl
-not-false false e = sym e
-
--- the test that the code made, and what it says of the request
-module _ (words : ℕ) (known : Bool) (request answer : List ℕ) where
-  pub other-length : (length request ≡ 4 * words → ⊥) → well-formed words known request answer ≡ []
+module _ (words : ℕ) (known : Bool) (request answer out : List ℕ) where
+  pub other-length : (length request ≡ 4 * words → ⊥) → Written (well-formed words known request answer) out 0 out
   unfolding well-formed
-  other-length size = simp (ne-eqb _ _ size)
+  other-length size = nothing-written _ out (simp (ne-eqb _ _ size))
 
-  pub unknown : (test : Bool) → length request ≡ 4 * words → test ≡ known → not test ≡ true
-      → well-formed words known request answer ≡ []
-  unfolding well-formed
-  unknown test size test-is none = simp (eq-eqb _ _ size, sym test-is ∙ not-true test none)
+  -- the test that the code made of kinds, flags and states
+  module _ (test : Bool) (size : length request ≡ 4 * words) (test-is : test ≡ known) where
+    pub unknown : not test ≡ true → Written (well-formed words known request answer) out 0 out
+    unfolding well-formed
+    unknown none = nothing-written _ out (simp (eq-eqb _ _ size, sym test-is ∙ not-true test none))
 
-  pub answered : (test : Bool) (ws : List ℕ) → length request ≡ 4 * words → test ≡ known → not test ≡ false
-      → ws ≡ answer
-      → ws ≡ well-formed words known request answer
-  unfolding well-formed
-  answered test ws size test-is all ws-is = ws-is ∙ simp (eq-eqb _ _ size, sym test-is ∙ not-false test all)
+    pub answered : (ws after : List ℕ) (r : ℕ) → not test ≡ false → ws ≡ answer → Written ws out r after
+        → Written (well-formed words known request answer) out r after
+    unfolding well-formed
+    answered ws after r all ws-is =
+        written-as ws _ out r after (ws-is ∙ simp (eq-eqb _ _ size, sym test-is ∙ not-false test all))

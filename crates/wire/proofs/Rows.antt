@@ -1,20 +1,17 @@
--- Rows of points, written one after the other: one more point behind the first k. Assumes nothing.
+-- Rows of points, written one after the other: one more point behind the first k, and all the words of an outline.
+-- Assumes nothing.
 use Prim.Native.Nat.{ℕ, suc, _+_, _*_, _<_}
 use mathlib.Core.Path.{_≡_, refl, sym, _∙_, ap}
 use mathlib.Core.List.{List, [], _∷_, _++_, append-assoc}
 use native.Mathlib.Omega.{arith}
 use native.Mathlib.Numerals.{add-one}
 use lib.ListN.{length, take, set, getD, length-set}
-use lib.Seq.{take-all, take-suc, take-suc-set}
+use lib.Seq.{take-suc, take-suc-set}
+use Rattle.algebra.proofs.Lists.{whole-row}
 use Rattle.floats.specs.declared.b2_math.B2vec2.{B2vec2}
 use Rattle.shape_definitions.specs.declared.b2_polygon_shape.B2polygonShape.{B2polygonShape}
-use Rattle.wire.specs.Records.{bits, low-word, points-words, polygon-words}
+use Rattle.wire.specs.Answers.{bits, low-word, points-words, polygon-words}
 
--- all of an array, by its first places
-whole-row : {A : Type 0} (n : ℕ) (l m : List A) → take n l ≡ m → length l ≡ n → l ≡ m
-whole-row n l m first size = sym (take-all n l (omega arith)) ∙ first
-
--- ---- writing
 words-next : (ps : List B2vec2) (p : B2vec2) → points-words (ps ++ (p ∷ []))
     ≡ points-words ps ++ (bits (p .x) ∷ bits (p .y) ∷ [])
 unfolding points-words

@@ -59,12 +59,9 @@ manifold-at request i = record {
   «point_count» = word-at request (i + 1);
 }
 
--- the word of a manifold's kind is one, and that of a wall's flag
+-- the word of a manifold's kind is one
 abbrev pub kind-known : List ℕ → ℕ → Bool
 kind-known request i = ltb (word-at request i) 3
-
-abbrev pub edge-known : List ℕ → ℕ → Bool
-edge-known request i = ltb (word-at request (i + 1)) 2
 
 -- ---- clip vertices
 unfoldable pub clip-vertex-at : List ℕ → ℕ → B2clipVertex

@@ -1,11 +1,10 @@
--- The records of requests and answers as words: floats are their bits, a point is x then y. POLY is radius, centroid,
--- count, eight vertices and eight normals (36 words); EDGE is radius, flag and four vertices (10 words). Decoded at
--- place i, and encoded. Definitions only.
-use Prim.Native.Nat.{ℕ, _+_, _*_, _%_}
-use mathlib.Core.Bool.{Bool, cond}
-use mathlib.Core.List.{List, [], _∷_, _++_}
-use lib.Dec.{eqb}
-use lib.Ieee.{Float, binary32, toBits}
+-- What requests hold, at word i: floats are their bits, a point is x then y; an outline is radius, centroid, count,
+-- eight vertices and eight normals (36 words), a wall is radius, flag and four vertices (10 words). Definitions only.
+use Prim.Native.Nat.{ℕ, _+_, _*_}
+use mathlib.Core.Bool.{Bool}
+use mathlib.Core.List.{List}
+use lib.Dec.{ltb, eqb}
+use lib.Ieee.{Float}
 use Rattle.floats.specs.declared.b2_math.B2vec2.{B2vec2}
 use Rattle.floats.specs.declared.b2_math.B2Rot.{B2Rot}
 use Rattle.shape_definitions.specs.declared.b2_polygon_shape.B2polygonShape.{B2polygonShape}
@@ -13,7 +12,6 @@ use Rattle.shape_definitions.specs.declared.b2_edge_shape.B2edgeShape.{B2edgeSh
 use Rattle.lines.specs.Fields as Fields
 use Rattle.wire.specs.Words.{word-at}
 
--- ---- decoding
 abbrev pub float-at : List ℕ → ℕ → Float
 float-at request i = Fields.float-at request (4 * i)
 
@@ -45,27 +43,6 @@ edge-at request i = record {
   «m_one_sided» = eqb (word-at request (i + 1)) 1;
 }
 
--- ---- encoding
-abbrev pub bits : Float → ℕ
-bits x = toBits binary32 x
-
-abbrev pub flag : Bool → ℕ
-flag b = cond b 1 0
-
--- the low word of a count: all of it, where it came from a word
-abbrev pub low-word : ℕ → ℕ
-low-word n = n % 4294967296
-
-unfoldable pub points-words : List B2vec2 → List ℕ
-points-words [] = []
-points-words (p ∷ ps) = bits (p .x) ∷ bits (p .y) ∷ points-words ps
-
-unfoldable pub polygon-words : B2polygonShape → List ℕ
-polygon-words s =
-    bits (s .«m_radius») ∷ bits (s .«m_centroid» .x) ∷ bits (s .«m_centroid» .y) ∷ low-word (s .«m_count»)
-    ∷ points-words (s .«m_vertices») ++ points-words (s .«m_normals»)
-
-unfoldable pub edge-words : B2edgeShape → List ℕ
-edge-words s =
-    bits (s .«m_radius») ∷ flag (s .«m_one_sided»)
-    ∷ points-words (s .«m_vertex0» ∷ s .«m_vertex1» ∷ s .«m_vertex2» ∷ s .«m_vertex3» ∷ [])
+-- the word of a wall's flag is one
+abbrev pub edge-known : List ℕ → ℕ → Bool
+edge-known request i = ltb (word-at request (i + 1)) 2

@@ -3,7 +3,7 @@ ghost use mathlib.Core.Path.{_≡_};
 ghost use Prim.Native.Nat.{_+_, _*_, _≤_};
 ghost use lib.ListN.{length};
 ghost use Rattle.wire.specs.ContactRecords.{circle-at, transform-at, id-at, manifold-point-at};
-ghost use Rattle.wire.specs.ContactRecords.{kind-of, manifold-at, kind-known, edge-known};
+ghost use Rattle.wire.specs.ContactRecords.{kind-of, manifold-at, kind-known};
 ghost use Rattle.wire.specs.ContactRecords.{clip-vertex-at, clip-vertices-at, world-manifold-at};
 ghost use Rattle.wire.specs.ContactRecords.{state-of, states-at, state-known, states-known};
 use crate::records;
@@ -110,14 +110,6 @@ pub fn kind_known(input: &[u8], i: usize) -> bool
     ensures { λ r. ⌜ r ≡ kind-known (now (input .entry)) i ⌝ }
 {
     words::word(input, i) < 3
-}
-
-// Whether the word of a wall's flag is one.
-pub fn edge_known(input: &[u8], i: usize) -> bool
-    requires { ⌜ 4 * i + 8 ≤ length (now input) ⌝ }
-    ensures { λ r. ⌜ r ≡ edge-known (now (input .entry)) i ⌝ }
-{
-    words::word(input, i + 1) < 2
 }
 
 // ---- clip vertices

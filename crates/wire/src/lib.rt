@@ -1,15 +1,11 @@
-// Answers of the calls on points, to words.
-
-// Requests and answers as words of four bytes.
+// Requests and answers of the C entry points for tests, as words of four bytes: records are read at a word of the
+// request, and an answer is written to the front of the lent output.
 pub mod words;
 
-// The records of points, outlines and walls from words and to words.
+// What requests hold: numbers, points, outlines and walls; and what contact requests hold besides.
+pub mod contact_records;
 pub mod records;
 
-// The records of contact requests from words: circles, placements, manifolds, clip vertices, world manifolds and point
-// states.
-pub mod contact_records;
-
-// Answers of the calls of two shapes, to words.
+// Answers: of the calls that make shapes, and of the contact calls.
+pub mod answers;
 pub mod contact_answers;
-pub mod point_answers;

@@ -17,11 +17,11 @@ root-requires c κs = search needs
 normalize-requires : tie.Need-normalize-requires
 normalize-requires c κs = search needs
 
-call-requires : tie.Need-call-requires
-call-requires c κs = search needs
+shape-call-requires : tie.Need-shape-call-requires
+shape-call-requires c κs = search needs
 
-call-requires-2 : tie.Need-call-requires-2
-call-requires-2 c κs = search needs
+contact-call-requires : tie.Need-contact-call-requires
+contact-call-requires c κs = search needs
 
 same-length : tie.Need-same-length
 same-length c = search needs
@@ -60,7 +60,7 @@ returns-4 c =
     written-as _ _ _ _ _
     (shape-entry _ _ (size .if1 .left) (entry .word .ensures) (other .match .rest .0 .1) (other .match .rest .1)
     (below .if2 .taken))
-    (called .call .ensures)
+    (called .shape-call .ensures)
 
 same-length-4 : tie.Need-same-length-4
 same-length-4 c = search needs
@@ -75,7 +75,7 @@ returns-5 c =
     written-as _ _ _ _ _
     (contact-entry _ _ (size .if1 .left) (entry .word .ensures) (other .match .rest .0 .1) (other .match .rest .1)
     (above .if2 .left))
-    (called .call2 .ensures)
+    (called .contact-call .ensures)
 
 pub calls-spec : {M : Type 1} → statement M
 calls-spec =
@@ -85,8 +85,8 @@ calls-spec =
     word-requires
     root-requires
     normalize-requires
-    call-requires
-    call-requires-2
+    shape-call-requires
+    contact-call-requires
     same-length
     returns-2
     same-length-2

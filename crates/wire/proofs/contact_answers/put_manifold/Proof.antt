@@ -2,7 +2,7 @@
 use mathlib.Core.Path.{sym, _∙_}
 use lib.ListN.{getD, length-map}
 use Rattle.wire.proofs.Bytes.{written-as}
-use Rattle.wire.proofs.Pairs.{point-words, manifold-written}
+use Rattle.wire.proofs.TwoPoints.{point-words, manifold-written}
 use borrow.Author.Needs.{needs}
 use Rattle.wire.proofs.contact_answers.put_manifold.Statement.{statement}
 use Rattle.wire.proofs.contact_answers.put_manifold.Tie as tie

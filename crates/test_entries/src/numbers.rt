@@ -1,0 +1,38 @@
+// The root and unit vectors.
+ghost use Rattle.wire.specs.Words.{Written};
+ghost use Rattle.test_entries.specs.Numbers.{root-answer, normalize-answer};
+use floats::b2_math;
+use floats::b2_math::B2vec2;
+use floats::bits;
+use wire::words;
+
+// 15, x: the root.
+pub fn root(input: &[u8], out: &mut [u8]) -> u32
+    ensures { λ r. ⌜ Written (root-answer (now (input .entry))) (now (out .entry)) r (now (out .exit)) ⌝ }
+{
+    if input.len() != 8 {
+        return 0;
+    }
+    let x = bits::f32_from_bits(words::word(input, 1));
+    let answer = [0, bits::f32_to_bits(b2_math::b2_sqrt(x))];
+    words::put_words(out, &answer)
+}
+
+// 16, x, y: the length that was found, and the vector made unit.
+pub fn normalize(input: &[u8], out: &mut [u8]) -> u32
+    ensures { λ r. ⌜ Written (normalize-answer (now (input .entry))) (now (out .entry)) r (now (out .exit)) ⌝ }
+{
+    if input.len() != 12 {
+        return 0;
+    }
+    let x = bits::f32_from_bits(words::word(input, 1));
+    let y = bits::f32_from_bits(words::word(input, 2));
+    let n = b2_math::b2_normalize(B2vec2 { x, y });
+    let answer = [
+        0,
+        bits::f32_to_bits(n.length),
+        bits::f32_to_bits(n.v.x),
+        bits::f32_to_bits(n.v.y),
+    ];
+    words::put_words(out, &answer)
+}
