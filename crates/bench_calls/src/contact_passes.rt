@@ -1,19 +1,17 @@
-// The contact calls as a program of Rattle makes them, for benchmarks: shapes stand in arrays, and a pass calls one
-// after another, each on the manifold of the last. Nothing but safety is promised: the benchmark compares the answers
-// with the references.
+// The contact calls as a program of Rattle makes them: shapes stand in arrays, and a pass calls one after another, each
+// on the answer of the last.
 use crate::manifolds;
 use crate::manifolds::Manifold;
 use bench_passes::clip_passes;
 use bench_passes::clip_records::Clip;
-use bench_passes::outline_passes;
+use bench_passes::pair_passes;
 use bench_passes::state_passes;
 use bench_passes::state_records::States;
-use bench_passes::wall_passes;
 
 #[no_mangle]
 pub extern "C" fn pass_circles(old: Manifold, a: &[f32], b: &[f32], order: &[u32]) -> Manifold {
     let answer = manifolds::answer_in(old);
-    manifolds::answer_out(outline_passes::circles(answer, a, b, order))
+    manifolds::answer_out(pair_passes::circles(answer, a, b, order))
 }
 
 #[no_mangle]
@@ -25,7 +23,7 @@ pub extern "C" fn pass_polygon_and_circle(
     order: &[u32],
 ) -> Manifold {
     let answer = manifolds::answer_in(old);
-    manifolds::answer_out(outline_passes::polygon_and_circle(answer, a, count_a, b, order))
+    manifolds::answer_out(pair_passes::polygon_and_circle(answer, a, count_a, b, order))
 }
 
 #[no_mangle]
@@ -38,7 +36,7 @@ pub extern "C" fn pass_polygons(
     order: &[u32],
 ) -> Manifold {
     let answer = manifolds::answer_in(old);
-    manifolds::answer_out(outline_passes::polygons(answer, a, count_a, b, count_b, order))
+    manifolds::answer_out(pair_passes::polygons(answer, a, count_a, b, count_b, order))
 }
 
 #[no_mangle]
@@ -50,7 +48,7 @@ pub extern "C" fn pass_edge_and_circle(
     order: &[u32],
 ) -> Manifold {
     let answer = manifolds::answer_in(old);
-    manifolds::answer_out(wall_passes::edge_and_circle(answer, a, one_sided, b, order))
+    manifolds::answer_out(pair_passes::edge_and_circle(answer, a, one_sided, b, order))
 }
 
 #[no_mangle]
@@ -63,7 +61,7 @@ pub extern "C" fn pass_edge_and_polygon(
     order: &[u32],
 ) -> Manifold {
     let answer = manifolds::answer_in(old);
-    manifolds::answer_out(wall_passes::edge_and_polygon(answer, a, one_sided, b, count_b, order))
+    manifolds::answer_out(pair_passes::edge_and_polygon(answer, a, one_sided, b, count_b, order))
 }
 
 #[no_mangle]

@@ -1,5 +1,5 @@
 // Manifolds as records that C can name: without an enum, and with the refusal beside them.
-use bench_passes::manifolds::kind_in;
+use bench_passes::numbers::kind_in;
 use contact_definitions::b2_collision::B2contactFeature;
 use contact_definitions::b2_collision::B2contactId;
 use contact_definitions::b2_collision::B2manifold;

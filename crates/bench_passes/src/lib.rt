@@ -1,20 +1,13 @@
-// Passes over walls, for the benchmark.
-
-// What the benchmark's passes over cases share.
-pub mod manifolds;
+// The passes of the benchmark: cases stand in arrays, made from numbers, and a pass makes one call after another, each on
+// the answer of the last. Nothing but safety is promised: the benchmark compares the answers with the references.
 pub mod numbers;
 
-// Placed shapes in arrays, for the passes of the benchmark.
+// Contact calls of two shapes, and the shapes with their placements.
+pub mod pair_passes;
 pub mod placed;
 
-// Passes over segments, for the benchmark.
+// Clips, and point states, with the records that C can name.
 pub mod clip_passes;
 pub mod clip_records;
-
-// Passes over pairs of manifolds, for the benchmark.
 pub mod state_passes;
 pub mod state_records;
-
-// Passes over circles and outlines, for the benchmark.
-pub mod outline_passes;
-pub mod wall_passes;

@@ -1,6 +1,7 @@
-// How many cases there are, and vectors and placements from numbers.
+// How many cases there are; vectors, placements and kinds of manifolds from numbers.
 ghost use Prim.Native.Nat.{_+_, _<_, _≤_};
 ghost use lib.ListN.{length};
+use contact_definitions::b2_collision::B2manifoldType;
 use floats::b2_math::B2Rot;
 use floats::b2_math::B2Transform;
 use floats::b2_math::B2vec2;
@@ -46,5 +47,14 @@ pub fn origin() -> B2Transform {
     B2Transform {
         p: B2vec2 { x: 0.0, y: 0.0 },
         q: B2Rot { s: 0.0, c: 0.0 },
+    }
+}
+
+// 0 circles, 1 face A, any other face B.
+pub fn kind_in(kind: u32) -> B2manifoldType {
+    match kind {
+        0 => B2manifoldType::ECircles,
+        1 => B2manifoldType::EFaceA,
+        _ => B2manifoldType::EFaceB,
     }
 }

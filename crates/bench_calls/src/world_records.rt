@@ -2,9 +2,9 @@
 // placement and radius. World manifolds as records that C can name. A case without numbers has none but 0.
 ghost use Prim.Native.Nat.{_+_, _≤_};
 ghost use lib.ListN.{length};
-use bench_passes::manifolds::kind_in;
 use bench_passes::numbers::CASES;
 use bench_passes::numbers::at_most_cases;
+use bench_passes::numbers::kind_in;
 use bench_passes::numbers::origin;
 use bench_passes::numbers::placement;
 use bench_passes::numbers::vector;

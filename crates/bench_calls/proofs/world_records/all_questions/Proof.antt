@@ -3,8 +3,8 @@ use mathlib.Core.Path.{_≡_}
 use Prim.Native.Nat.{_*_, _≤_, _-_}
 use lib.ListN.{length}
 use borrow.Author.Needs.{needs}
-use Rattle.bench_calls.proofs.worlds.all_questions.Statement.{statement}
-use Rattle.bench_calls.proofs.worlds.all_questions.Tie as tie
+use Rattle.bench_calls.proofs.world_records.all_questions.Statement.{statement}
+use Rattle.bench_calls.proofs.world_records.all_questions.Tie as tie
 
 abbrev Inv-loop : tie.InvT-loop
 Inv-loop x kind count n all₀ k₀ all k =

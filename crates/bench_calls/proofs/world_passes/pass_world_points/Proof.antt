@@ -3,8 +3,8 @@ use mathlib.Core.Path.{_≡_}
 use Prim.Native.Nat.{_<_, _≤_, _-_, _*_, _^_}
 use lib.ListN.{length}
 use borrow.Author.Needs.{needs}
-use Rattle.bench_calls.proofs.world.pass_world_points.Statement.{statement}
-use Rattle.bench_calls.proofs.world.pass_world_points.Tie as tie
+use Rattle.bench_calls.proofs.world_passes.pass_world_points.Statement.{statement}
+use Rattle.bench_calls.proofs.world_passes.pass_world_points.Tie as tie
 
 abbrev Inv-loop : tie.InvT-loop
 Inv-loop x kind count order all answer₀ i₀ answer i =

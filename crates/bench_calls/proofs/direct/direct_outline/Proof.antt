@@ -2,8 +2,8 @@
 use mathlib.Core.Logic.{⊎-elim}
 use native.Mathlib.Omega.{arith}
 use borrow.Author.Needs.{needs}
-use Rattle.bench_calls.proofs.direct_outline.Statement.{statement}
-use Rattle.bench_calls.proofs.direct_outline.Tie as tie
+use Rattle.bench_calls.proofs.direct.direct_outline.Statement.{statement}
+use Rattle.bench_calls.proofs.direct.direct_outline.Tie as tie
 
 returns : tie.Need-returns
 returns c = search needs

@@ -1,9 +1,8 @@
-// World points as a program of Rattle asks for them, for benchmarks: manifolds, placements and radii stand in an array,
-// and a pass asks one after another, each on the world manifold of the last. Nothing but safety is promised: the
-// benchmark compares the answers with the references.
-use crate::worlds;
-use crate::worlds::Question;
-use crate::worlds::World;
+// World points as a program of Rattle asks for them: manifolds, placements and radii stand in an array, and a pass asks
+// one after another, each on the world manifold of the last.
+use crate::world_records;
+use crate::world_records::Question;
+use crate::world_records::World;
 use bench_passes::numbers::case;
 use contact_definitions::b2_collision::WorldAnswer;
 use contacts::b2_collision;
@@ -30,13 +29,13 @@ pub extern "C" fn pass_world_points(
     count: usize,
     order: &[u32],
 ) -> World {
-    let all = worlds::all_questions(x, kind, count);
-    let mut answer = worlds::answer_in(old);
+    let all = world_records::all_questions(x, kind, count);
+    let mut answer = world_records::answer_in(old);
     let mut i = 0usize;
     while i < order.len() {
         let k = case(order[i]);
         answer = asked(answer, all[k]);
         i += 1;
     }
-    worlds::answer_out(answer)
+    world_records::answer_out(answer)
 }

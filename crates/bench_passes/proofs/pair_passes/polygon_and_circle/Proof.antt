@@ -3,8 +3,8 @@ use mathlib.Core.Path.{_≡_}
 use Prim.Native.Nat.{_<_, _≤_, _-_, _^_}
 use lib.ListN.{length}
 use borrow.Author.Needs.{needs}
-use Rattle.bench_passes.proofs.outline_passes.polygon_and_circle.Statement.{statement}
-use Rattle.bench_passes.proofs.outline_passes.polygon_and_circle.Tie as tie
+use Rattle.bench_passes.proofs.pair_passes.polygon_and_circle.Statement.{statement}
+use Rattle.bench_passes.proofs.pair_passes.polygon_and_circle.Tie as tie
 
 abbrev Inv-loop : tie.InvT-loop
 Inv-loop answer₀ a count-a b order all-a all-b i₀ answer i =

@@ -3,8 +3,8 @@ use mathlib.Core.Path.{_≡_}
 use Prim.Native.Nat.{_≤_, _-_}
 use lib.ListN.{length}
 use borrow.Author.Needs.{needs}
-use Rattle.bench_passes.proofs.outline_passes.circles.Statement.{statement}
-use Rattle.bench_passes.proofs.outline_passes.circles.Tie as tie
+use Rattle.bench_passes.proofs.pair_passes.circles.Statement.{statement}
+use Rattle.bench_passes.proofs.pair_passes.circles.Tie as tie
 
 abbrev Inv-loop : tie.InvT-loop
 Inv-loop answer₀ a b order all-a all-b i₀ answer i = (i ≤ length order) × (length all-a ≡ 1024) × (length all-b ≡ 1024)
