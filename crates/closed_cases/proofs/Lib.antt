@@ -3,3 +3,4 @@ pub mod EdgePolygonCases
 pub mod OutlineHeats
 pub mod WallHeats
 pub mod ExportCases
+pub mod ExportLawCases

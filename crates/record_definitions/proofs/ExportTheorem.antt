@@ -51,7 +51,7 @@ module _ (input out : List ℕ) (room : longest-answer ≤ length out) (ordered 
   unfolding export-number export-said
   number-is = rw (le-ltb (length out) longest-answer room, ordered) refl
 
-  output-is : export-output input out ≡ left-in (said-last input) out
+  pub output-is : export-output input out ≡ left-in (said-last input) out
   unfolding export-output export-said
   output-is = rw (le-ltb (length out) longest-answer room, ordered) refl
 

@@ -63,18 +63,20 @@ lines n = take n heat
 abbrev world : ℕ → World
 world n = world-after fresh-world (lines n)
 
--- the test of the pair 0 1 there
+-- the contacts of the pair 0 1 that count there, and its touches
+abbrev counted : ℕ → ℕ × ℕ
+counted n = let contacts = contacts-of 0 1 (lines n) in (length contacts, touches-of contacts)
+
+-- the test of the pair there
 abbrev printed : ℕ → Touch
 printed n = tested 0 1 (body-at (world n) 0) (body-at (world n) 1) (pair-at (world n) 0 1) .touch
 
 pub record HeatCases : Type 0 where
-  -- how many contacts count after each test, and how many touches: pushed, resting, tested the other way round, apart,
-  -- pushed again, a refused shape, a new shape, pushed
-  pub contacts : map (λ (n : ℕ). length (contacts-of 0 1 (lines n))) (5 ∷ 6 ∷ 7 ∷ 8 ∷ 10 ∷ 12 ∷ 13 ∷ 14 ∷ 16 ∷ [])
-      ≡ 0 ∷ 1 ∷ 2 ∷ 2 ∷ 3 ∷ 4 ∷ 4 ∷ 0 ∷ 1 ∷ []
-  pub touches : map (λ (n : ℕ). touches-of (contacts-of 0 1 (lines n))) (5 ∷ 6 ∷ 7 ∷ 8 ∷ 10 ∷ 12 ∷ 13 ∷ 14 ∷ 16 ∷ [])
-      ≡ 0 ∷ 1 ∷ 1 ∷ 1 ∷ 1 ∷ 2 ∷ 2 ∷ 0 ∷ 1 ∷ []
-  pub other-order : map (λ (n : ℕ). length (contacts-of 1 0 (lines n))) (7 ∷ 8 ∷ 13 ∷ 14 ∷ []) ≡ 0 ∷ 1 ∷ 1 ∷ 0 ∷ []
+  -- how many contacts count, and how many touches: pushed, resting, apart, pushed again and a shape refused, a new
+  -- shape, pushed
+  pub counts : map counted (6 ∷ 7 ∷ 10 ∷ 13 ∷ 14 ∷ 16 ∷ []) ≡ (1, 1) ∷ (2, 1) ∷ (3, 1) ∷ (4, 2) ∷ (0, 0) ∷ (1, 1) ∷ []
+  -- of the other order
+  pub other-order : map (λ (n : ℕ). length (contacts-of 1 0 (lines n))) (13 ∷ 14 ∷ []) ≡ 1 ∷ 0 ∷ []
   -- what the law says of the second test: its point rests and the count stays
   pub second-test : NextTest (contacts-of 0 1 (lines 6)) (contact-in 0 1 (world 6)) (printed 6)
   pub point-rests : printed 6 .states .new0 ≡ B2PersistState
@@ -95,8 +97,7 @@ heat-cases =
     let law = heat-law 0 1 (omega arith) (omega arith) (lines 6) in
     let next = law .next-test (text "050001") (printed 6) refl refl refl in
     record {
-      contacts = refl;
-      touches = refl;
+      counts = refl;
       other-order = refl;
       second-test = next;
       point-rests = next .first-rests (omega arith) refl;

@@ -2,10 +2,12 @@
 -- "the bytes of the test line that a fresh program prints". Definitions only.
 use Prim.Native.Nat.{ℕ, zero, suc, _+_, _≤_, _<_}
 use mathlib.Core.Path.{_≡_}
-use mathlib.Core.Bool.{false}
+use mathlib.Core.Bool.{false, cond}
 use mathlib.Core.List.{List, [], _∷_, _++_, map, List·Memᴰ}
 use mathlib.Core.Logic.{_↔_}
+use lib.Dec.{eqb}
 use lib.ListN.{length, take}
+use Rattle.lines.specs.Fields.{byte-at}
 use Rattle.lines.specs.Hex.{line-of}
 use Rattle.record_definitions.specs.Answer.{longest-answer}
 use Rattle.record_definitions.specs.Touches.{touches}
@@ -13,13 +15,19 @@ use Rattle.record_definitions.specs.Reading.{joined}
 use Rattle.record_definitions.specs.Export.{test-frame, first-placement, second-outline, second-placement}
 use Rattle.record_definitions.specs.Export.{in-order, between, refusal-base, export-number, export-output}
 
--- ---- which numbers: the length of a test line without, with one and with two points, or a refusal
+-- ---- which numbers: the bytes of a test line without, with one and with two points, or a refusal
+abbrev pub test-size : ℕ → ℕ
+test-size points = cond (eqb points 0) 13 (cond (eqb points 1) 33 45)
+
 abbrev pub export-numbers : List ℕ
 export-numbers = 13 ∷ 33 ∷ 45 ∷ map (_+_ refusal-base) (1 ∷ 2 ∷ 3 ∷ 4 ∷ 5 ∷ 6 ∷ 9 ∷ 10 ∷ [])
 
 pub record ExportReturns (input out : List ℕ) : Type 0 where
   -- one of these and no other
   pub listed : List·Memᴰ (export-number input out) export-numbers
+  -- where it is no refusal it tells the number of points, which is the fourth byte of the answer
+  pub sized : export-number input out < refusal-base
+      → export-number input out ≡ test-size (byte-at (export-output input out) 3)
   -- 9 where the output has not room for the longest test line, and only there
   pub nine : export-number input out ≡ refusal-base + 9 ↔ length out < longest-answer
   -- 10 where it has and the input is not the four frames, and only there

@@ -3,12 +3,13 @@
 use Prim.Native.Nat.{ℕ, zero, suc, _+_, _≤_, _<_}
 use mathlib.Core.Path.{_≡_, refl, sym, _∙_, ap}
 use mathlib.Core.Bool.{Bool, true, false, not, _&&_, _||_, false≢true}
-use mathlib.Core.List.{List, [], _∷_, List·Memᴰ}
+use mathlib.Core.List.{List, [], _∷_, _++_, List·Memᴰ}
 use mathlib.Core.List as L
 use mathlib.Core.Logic.{_⊎_, inl, inr}
 use native.Mathlib.Omega.{arith}
 use lib.Dec.{eqb, ltb}
-use lib.ListN.{length, getD}
+use lib.ListN.{length, getD, drop}
+use Rattle.lines.specs.Fields.{byte-at}
 use Rattle.algebra.proofs.Booleans.{less-or-not}
 use Rattle.floats.specs.Ranges.{transform-in-range, radius-in-range}
 use Rattle.shape_definitions.specs.Validate.{polygon-in-range}
@@ -26,13 +27,14 @@ use Rattle.record_definitions.specs.declared.world.Pair.{Pair}
 use Rattle.record_definitions.specs.declared.world.World.{World}
 use Rattle.record_definitions.specs.declared.touch.Touch.{Touch}
 use Rattle.record_definitions.specs.declared.frame.Answer.{Answer}
+use Rattle.record_definitions.specs.declared.frame.Said.{Said}
 use Rattle.record_definitions.specs.declared.frame.Answer.the-variants.{Tested}
 use Rattle.record_definitions.specs.World.{outline-kind, body-at, pair-at}
 use Rattle.record_definitions.specs.Touch.{meet-outline, meet, skin, world-points, tested-as, tested}
 use Rattle.record_definitions.specs.Frame.{listed}
-use Rattle.record_definitions.specs.Answer.{touch-bytes, answer-bytes, longest-answer}
-use Rattle.record_definitions.specs.Export.{in-order, refusal-base, export-number}
-use Rattle.record_definitions.specs.ExportLaws.{export-numbers, ExportReturns}
+use Rattle.record_definitions.specs.Answer.{head-bytes, touch-bytes, answer-bytes, longest-answer}
+use Rattle.record_definitions.specs.Export.{in-order, refusal-base, left-in, export-number, export-output}
+use Rattle.record_definitions.specs.ExportLaws.{test-size, export-numbers, ExportReturns}
 use Rattle.record_definitions.proofs.Exported.{too-short, out-of-order}
 use Rattle.record_definitions.proofs.Sound.{Sound}
 use Rattle.record_definitions.proofs.SoundKept.{fresh-sound, frame-keeps-sound}
@@ -40,7 +42,8 @@ use Rattle.record_definitions.proofs.SoundTests.{NotOfHost, test-fine}
 use Rattle.record_definitions.proofs.Theorem.{result-bytes, answers-fit}
 use Rattle.record_definitions.proofs.ExportRuns.{answered, turned-down}
 use Rattle.record_definitions.proofs.ExportOutcome.{export-outcome}
-use Rattle.record_definitions.proofs.ExportTheorem.{said-last, Ends, returned-tested, returned-refused, number-is}
+use Rattle.record_definitions.proofs.ExportTheorem.{said-last, Ends, returned-tested, returned-refused}
+use Rattle.record_definitions.proofs.ExportTheorem.{number-is, output-is}
 use Rattle.record_ranges.proofs.Kept.{CappedWorld, fresh-capped, frame-keeps-capped}
 use Rattle.record_ranges.proofs.Contacts.{test-not-nine}
 
@@ -148,16 +151,27 @@ test-listed t =
     (at-place export-numbers 2 (omega arith))))
 
 -- ---- what is returned where the output has room and the input is in order: neither 9 nor 10
-record Ran (n : ℕ) : Type 0 where
+record Ran (n : ℕ) (output : List ℕ) : Type 0 where
   is-listed : Listed n
+  is-sized : n < refusal-base → n ≡ test-size (byte-at output 3)
   below : n ≤ refusal-base + 6
 
+points-byte : (t : Touch) (rest : List ℕ) → byte-at (touch-bytes t ++ rest) 3 ≡ t .count
+unfolding touch-bytes head-bytes
+points-byte t rest =
+    either (λ (l : List ℕ). byte-at (l ++ rest) 3 ≡ t .count) (eqb (t .count) 0) _ _ refl
+    (either (λ (l : List ℕ). byte-at (l ++ rest) 3 ≡ t .count) (eqb (t .count) 1) _ _ refl refl)
+
+left-by-test : (said : Said) (out : List ℕ) (t : Touch) → said .answer ≡ Tested t
+    → left-in said out ≡ touch-bytes t ++ drop (length (touch-bytes t)) out
+left-by-test said out t is = rw is refl
+
 ran : (input out : List ℕ) → longest-answer ≤ length out → in-order input ≡ true
-    → Ran (export-number input out)
+    → Ran (export-number input out) (export-output input out)
 unfolding OneToSix
 ran input out room ordered = by-outcome (outcome input ordered)
   where
-    by-outcome : Ends OneToSix input → Ran (export-number input out)
+    by-outcome : Ends OneToSix input → Ran (export-number input out) (export-output input out)
     by-outcome (answered t is printed) =
         let said = said-last input in
         let number : export-number input out ≡ length (touch-bytes t) =
@@ -165,11 +179,22 @@ ran input out room ordered = by-outcome (outcome input ordered)
         ∙ ap (λ (answer : Answer). length (answer-bytes answer)) is in
         let few : length (touch-bytes t) ≤ longest-answer =
         answers-fit (record { answer = Tested t }) .0 in
-        record { is-listed = rw number (test-listed t); below = omega (arith, number, few) }
+        let left : export-output input out ≡ touch-bytes t ++ drop (length (touch-bytes t)) out =
+        output-is input out room ordered ∙ left-by-test said out t is in
+        record {
+          is-listed = rw number (test-listed t);
+          is-sized = λ written. number ∙ result-bytes t ∙ ap test-size (sym (ap (λ (l : List ℕ). byte-at l 3) left
+              ∙ points-byte t (drop (length (touch-bytes t)) out)));
+          below = omega (arith, number, few);
+        }
     by-outcome (turned-down n is nonzero good first) =
         let number : export-number input out ≡ refusal-base + n =
         number-is input out room ordered ∙ returned-refused (said-last input) n is nonzero in
-        record { is-listed = rw number (refusal-listed n (good .0) (good .1)); below = omega (arith, number, good .1) }
+        record {
+          is-listed = rw number (refusal-listed n (good .0) (good .1));
+          is-sized = λ written. absurd (omega (arith, number));
+          below = omega (arith, number, good .1);
+        }
 
 pub export-returns : (input out : List ℕ) → ExportReturns input out
 export-returns input out = by-room (less-or-not (length out) longest-answer) (in-order input) refl
@@ -180,6 +205,7 @@ export-returns input out = by-room (less-or-not (length out) longest-answer) (in
         let number : refusal-base + 9 ≡ export-number input out = too-short input out short .0 in
         record {
           listed = rw (← number) (at-place export-numbers 9 (omega arith));
+          sized = λ written. absurd (omega (arith, number));
           nine = (λ same. short, λ less. sym number);
           ten = (λ same. absurd (omega arith), λ both. absurd (omega (arith, both .0)));
         }
@@ -187,6 +213,7 @@ export-returns input out = by-room (less-or-not (length out) longest-answer) (in
         let number : refusal-base + 10 ≡ export-number input out = out-of-order input out room is .0 in
         record {
           listed = rw (← number) (at-place export-numbers 10 (omega arith));
+          sized = λ written. absurd (omega (arith, number));
           nine = (λ same. absurd (omega arith), λ less. absurd (omega arith));
           ten = (λ same. (room, is), λ both. sym number);
         }
@@ -194,6 +221,7 @@ export-returns input out = by-room (less-or-not (length out) longest-answer) (in
         let done = ran input out room is in
         record {
           listed = done .is-listed;
+          sized = done .is-sized;
           nine = (λ same. absurd (omega (arith, done .below)), λ less. absurd (omega arith));
           ten = (λ same. absurd (omega (arith, done .below)), λ both. absurd (false≢true (sym (both .1) ∙ is)));
         }
