@@ -48,6 +48,9 @@ enum netxurbil_refusal {
 
    Returns the number of bytes written: 13, 33 or 45 with 0, 1 or 2 points; or 256 plus a refusal, and then `out` is
    untouched: 9 for an output under 45 bytes, tried first; 10 where `frames` is anything but these four; else 1 to 6.
+   No other number is returned. The bytes are those of the last line that the program touches prints when it is sent these
+   four frames and 050001, each as a line of hexadecimal; a refusal from 1 to 6 is the first `ff` line that it prints
+   (both are proved: docs/CLAIMS.md, R4n and R4p).
 
    The caller owes two slices, of n and of m bytes, that may be read and written and do not overlap. Nothing outside
    them is read or written, whatever bytes they hold; nothing is kept between calls, so threads may call at once. */
