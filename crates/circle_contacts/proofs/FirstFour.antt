@@ -12,10 +12,10 @@ use Rattle.algebra.proofs.Booleans.{or-fails, or-holds}
 use Rattle.rounding.proofs.Comparison.{lt-irreflexive}
 use Rattle.floats.specs.declared.b2_math.B2vec2.{B2vec2}
 use Rattle.contact_definitions.specs.declared.axis.Best.{Best}
-use Rattle.circle_contacts.specs.declared.b2_collide_circle.Side.{Side}
+use Rattle.circle_contacts.specs.declared.outline_meeting.Side.{Side}
 use Rattle.circle_contacts.specs.Meetings.{out-of-face, SideOf}
 use Rattle.circle_contacts.specs.FirstFour.{LastOfFour, some-above, taken, no-best, best-of-four}
-use Rattle.circle_contacts.proofs.Sides.{SoFar, sides-begin, outside-at, side-taken, side-left}
+use Rattle.circle_contacts.proofs.FarthestSide.{SoFar, sides-begin, outside-at, side-taken, side-left}
 
 -- what was looked at is not taken again
 taken-once : (best : Best) (i : ℕ) (s : Float) → lt (taken best i s .value) s ≡ false

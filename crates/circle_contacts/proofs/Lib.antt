@@ -1,4 +1,4 @@
-pub mod Sides
+pub mod FarthestSide
 pub mod Meets
 pub mod FirstFour
-pub mod Circles
+pub mod CircleManifolds

@@ -1,22 +1,25 @@
 -- What the parts of outline against circle hand to each other: the face that the circle's centre is farthest out of,
--- and where the circle meets the outline. Definitions only.
+-- where the circle meets the outline, and the manifold of that. Definitions only.
 use mathlib.Core.Path.{_≡_}
 use mathlib.Core.Bool.{Bool, false, cond}
 use mathlib.Core.List.{List}
 use Prim.Native.Nat.{ℕ}
-use lib.Ieee.{Float, lt}
+use lib.Ieee.{Float, lt, binary32, add}
 use Rattle.floats.specs.declared.b2_math.B2vec2.{B2vec2}
-use Rattle.floats.specs.B2Math.{vec2, b2-sub, b2-dot}
+use Rattle.floats.specs.B2Math.{vec2, b2-sub, b2-dot, b2-mul-transform-by-vec2, b2-mul-t-transform-by-vec2}
+use Rattle.floats.specs.declared.b2_math.B2Transform.{B2Transform}
 use Rattle.shape_definitions.specs.Outline.{point-at, place-after}
+use Rattle.shape_definitions.specs.declared.b2_circle_shape.B2circleShape.{B2circleShape}
+use Rattle.shape_definitions.specs.declared.b2_polygon_shape.B2polygonShape.{B2polygonShape}
 use Rattle.contact_definitions.specs.declared.axis.Best.{Best}
 use Rattle.contact_definitions.specs.declared.b2_collision.B2manifold.{B2manifold}
 use Rattle.contact_definitions.specs.declared.b2_collision.B2manifoldType.the-variants.{EFaceA}
 use Rattle.contact_definitions.specs.Searches.{some-below, first-greatest}
-use Rattle.contact_definitions.specs.Manifold.{default-id, with-one-point}
-use Rattle.contact_definitions.specs.B2CollideCircle.{circle-at-corner, circle-at-face}
-use Rattle.circle_contacts.specs.declared.b2_collide_circle.Meeting.{Meeting}
-use Rattle.circle_contacts.specs.declared.b2_collide_circle.Meeting.the-variants.{Nothing, Point}
-use Rattle.circle_contacts.specs.declared.b2_collide_circle.Side.{Side}
+use Rattle.contact_definitions.specs.Manifold.{default-id, with-one-point, with-count}
+use Rattle.contact_definitions.specs.B2CollideCircle.{circle-at-corner, circle-at-face, polygon-circle-manifold}
+use Rattle.circle_contacts.specs.declared.outline_meeting.Meeting.{Meeting}
+use Rattle.circle_contacts.specs.declared.outline_meeting.Meeting.the-variants.{Nothing, Point}
+use Rattle.circle_contacts.specs.declared.outline_meeting.Side.{Side}
 
 -- the manifold of a meeting, of the manifold without points and the circle's centre
 abbrev pub met : Meeting → B2manifold → B2vec2 → B2manifold
@@ -58,3 +61,9 @@ AtOutline vs ns count c radius r =
     circle-at-face old (point-at vs (best .place)) (point-at vs (place-after count (best .place)))
     (point-at ns (best .place))
     (best .value) c radius centre)
+
+abbrev pub outline-circle : B2manifold → B2polygonShape → B2Transform → B2circleShape → B2Transform → B2manifold
+outline-circle m a xfA b xfB =
+    polygon-circle-manifold (with-count m 0) a
+    (b2-mul-t-transform-by-vec2 xfA (b2-mul-transform-by-vec2 xfB (b .«m_p»)))
+    (add binary32 (a .«m_radius») (b .«m_radius»)) (b .«m_p»)

@@ -35,7 +35,7 @@ use Rattle.contact_definitions.proofs.b2_collision.B2worldManifold as world
 use Rattle.contact_definitions.proofs.b2_collision.B2worldManifold.Laws as world-laws
 use Rattle.contact_definitions.proofs.b2_collision.WorldAnswer as answer
 use Rattle.contact_definitions.proofs.b2_collision.WorldAnswer.Laws as answer-laws
-use Rattle.collision.proofs.b2_collision.b2_world_manifold_initialize_core as core
+use Rattle.collision.proofs.b2_world_manifold.b2_world_manifold_initialize_core as core
 
 -- ---- the machine's values
 abbrev pub world-value : B2worldManifold → Val

@@ -13,11 +13,11 @@ use Rattle.contact_definitions.specs.declared.b2_collision.B2clipVertex.{B2clip
 use Rattle.contact_definitions.specs.Manifold.{default-point}
 use Rattle.contact_definitions.specs.ReferenceFace.{only, points-from, with-points, manifold-of-ends}
 use Rattle.collision.specs.declared.clip.Clip.{Clip}
-use Rattle.collision.specs.Places.{left-over}
+use Rattle.collision.specs.ClipPlaces.{left-over}
 use Rattle.algebra.proofs.Two.{Two, two, two-of, first-place, second-place, one-over, two-over}
-use Rattle.collision.proofs.Sides.{over-both}
-use Rattle.collision.specs.declared.kept.Kept.{Kept}
-use Rattle.collision.specs.Kept.{point-at-end, kept-ends, points-of, points-kept}
+use Rattle.collision.proofs.Clips.{over-both}
+use Rattle.collision.specs.declared.manifolds.Kept.{Kept}
+use Rattle.collision.specs.KeptPoints.{point-at-end, kept-ends, points-of, points-kept}
 
 -- ---- points of a manifold are points of its places
 points-same : (made : B2manifoldPoint → B2clipVertex → B2manifoldPoint) (m : B2manifold) (i : ℕ) (ends : List

@@ -12,7 +12,7 @@ use Rattle.contact_definitions.specs.declared.b2_collision.B2manifold.{B2manifo
 use Rattle.contact_definitions.specs.declared.b2_collision.B2worldManifold.{B2worldManifold}
 use Rattle.contact_definitions.specs.Manifold.{manifold-point}
 use Rattle.contact_definitions.specs.WorldManifold.{plane-middle, plane-separation}
-use Rattle.collision.specs.declared.face_points.WorldPoint.{WorldPoint}
+use Rattle.collision.specs.declared.world_points.WorldPoint.{WorldPoint}
 
 -- the middle and the separation at p
 abbrev pub at-plane : B2vec2 → B2vec2 → Float → Float → B2vec2 → WorldPoint

@@ -1,5 +1,5 @@
-pub mod Points
-pub mod Places
+pub mod PairRanges
+pub mod ClipPlaces
 pub mod FacePoints
-pub mod Kept
-pub mod Answers
+pub mod KeptPoints
+pub mod WorldAnswer

@@ -1,33 +1,19 @@
-// Point states (b2_get_point_states of Box2D's b2_collision.cpp), from the ids of the points alone.
-// Clipping a segment to a line, as a call (b2_clip_segment_to_line of Box2D's b2_collision.cpp): refusal 9 for a number
-// out of range.
-// World points, as a call (b2_world_manifold_initialize of Box2D's b2_collision.cpp): 7 for a count above 2; nothing
-// for no points; 9 for a number of the manifold or a radius out of range; 6 for a placement.
+// Point states and clipping as calls (Box2D's b2_collision.cpp): 7 for a count above 2, 9 for a number out of range.
+// Its world points stand in b2_world_manifold.
 ghost use mathlib.Core.Path.{_≡_};
-ghost use Rattle.contact_definitions.specs.PointStates.{same-id, id-among, ids-of, ids-in, point-state};
-ghost use Rattle.contact_definitions.specs.PointStates.{states-of-ids, b2-get-point-states};
+ghost use Rattle.contact_definitions.specs.PointStates.{same-id, id-among, ids-of, ids-in, point-state, states-of-ids};
+ghost use Rattle.contact_definitions.specs.PointStates.{b2-get-point-states};
 ghost use Rattle.contact_definitions.specs.Clip.{clip-in-range, b2-clip-segment-to-line};
-ghost use Prim.Native.Nat.{_<_, _≤_};
-ghost use Rattle.contact_definitions.specs.WorldManifold.{world-of-kind, b2-world-manifold-initialize};
-ghost use Rattle.collision.specs.Answers.{world-answer};
-use crate::circle_points;
 use crate::clip;
-use crate::face_points;
-use crate::placement_pair;
-use crate::point_ranges;
 use contact_definitions::b2_collision::B2clipVertex;
 use contact_definitions::b2_collision::B2contactId;
 use contact_definitions::b2_collision::B2manifold;
-use contact_definitions::b2_collision::B2manifoldType;
 use contact_definitions::b2_collision::B2pointState;
-use contact_definitions::b2_collision::B2worldManifold;
 use contact_definitions::b2_collision::ClipAnswer;
 use contact_definitions::b2_collision::CountedIds;
 use contact_definitions::b2_collision::PointStates;
 use contact_definitions::b2_collision::PointStatesAnswer;
-use contact_definitions::b2_collision::WorldAnswer;
 use floats::b2_common::B2_MAX_MANIFOLD_POINTS;
-use floats::b2_math::B2Transform;
 use floats::b2_math::B2vec2;
 use floats::ranges;
 use shape_definitions::refusal;
@@ -181,91 +167,4 @@ pub fn b2_clip_segment_to_line(
         count: 0,
         refusal: refusal::CONTACT_OUT_OF_RANGE,
     }
-}
-
-// By the kind of the manifold.
-pub fn world_of_kind(
-    kind: B2manifoldType,
-    old: B2worldManifold,
-    m: B2manifold,
-    xf_a: B2Transform,
-    radius_a: f32,
-    xf_b: B2Transform,
-    radius_b: f32,
-) -> B2worldManifold
-    requires { ⌜ (0 < m .«point_count») × (m .«point_count» ≤ 2) ⌝ }
-    ensures { λ r. ⌜ r ≡ world-of-kind kind old m «xf_a» «radius_a» «xf_b» «radius_b» ⌝ }
-{
-    match kind {
-        B2manifoldType::ECircles => {
-            circle_points::world_of_circles(old, m, xf_a, radius_a, xf_b, radius_b)
-        }
-        B2manifoldType::EFaceA => {
-            face_points::world_of_face_a(old, m, xf_a, radius_a, xf_b, radius_b)
-        }
-        B2manifoldType::EFaceB => {
-            face_points::world_of_face_b(old, m, xf_b, radius_b, xf_a, radius_a)
-        }
-    }
-}
-
-// The world manifold of m, from the one that was given.
-pub fn b2_world_manifold_initialize_core(
-    old: B2worldManifold,
-    m: B2manifold,
-    xf_a: B2Transform,
-    radius_a: f32,
-    xf_b: B2Transform,
-    radius_b: f32,
-) -> WorldAnswer
-    ensures { λ r. ⌜ r ≡ b2-world-manifold-initialize old m «xf_a» «radius_a» «xf_b» «radius_b» ⌝ }
-{
-    let count = m.point_count;
-    if count > B2_MAX_MANIFOLD_POINTS {
-        return WorldAnswer {
-            world: old,
-            refusal: refusal::COUNT_OUT_OF_RANGE,
-        };
-    }
-    if count == 0 {
-        return WorldAnswer {
-            world: old,
-            refusal: refusal::ACCEPTED,
-        };
-    }
-    if !point_ranges::numbers_in_range(m, radius_a, radius_b) {
-        return WorldAnswer {
-            world: old,
-            refusal: refusal::CONTACT_OUT_OF_RANGE,
-        };
-    }
-    if !placement_pair::placements_in_range(xf_a, xf_b) {
-        return WorldAnswer {
-            world: old,
-            refusal: refusal::PLACEMENT_OUT_OF_RANGE,
-        };
-    }
-    let kind = m.manifold_type;
-    let world = world_of_kind(kind, old, m, xf_a, radius_a, xf_b, radius_b);
-    WorldAnswer {
-        world,
-        refusal: refusal::ACCEPTED,
-    }
-}
-
-// The same, with the caller's record changed through a reference: the refusal, or 0.
-pub fn b2_world_manifold_initialize(
-    world: &mut B2worldManifold,
-    m: B2manifold,
-    xf_a: B2Transform,
-    radius_a: f32,
-    xf_b: B2Transform,
-    radius_b: f32,
-) -> u8
-    ensures { λ r. ⌜ world-answer (now (world .exit)) r
-        ≡ b2-world-manifold-initialize (now (world .entry)) m «xf_a» «radius_a» «xf_b» «radius_b» ⌝ }
-{
-    let a = b2_world_manifold_initialize_core(*world, m, xf_a, radius_a, xf_b, radius_b);
-    *world = a.world;
-    a.refusal
 }

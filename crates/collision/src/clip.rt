@@ -2,7 +2,7 @@
 ghost use mathlib.Core.Path.{_≡_};
 ghost use mathlib.Core.List.{[], _∷_};
 ghost use Rattle.contact_definitions.specs.Clip.{clip-distance, crossing, clipped};
-ghost use Rattle.collision.specs.Places.{two-ends, left-over};
+ghost use Rattle.collision.specs.ClipPlaces.{two-ends, left-over};
 use contact_definitions::b2_collision::B2clipVertex;
 use contact_definitions::b2_collision::B2contactFeature;
 use contact_definitions::b2_collision::B2contactId;

@@ -1,9 +1,12 @@
-// Manifolds made anew from old ones: vectors are handed on coordinate by coordinate, so that none is copied as a whole.
+// Manifolds made anew from old ones. Vectors are handed on coordinate by coordinate, so that none is copied as a whole,
+// and points are stored at constant places, by cases.
 ghost use mathlib.Core.Path.{_≡_};
 ghost use mathlib.Core.Bool.{cond};
-ghost use Rattle.contact_definitions.specs.Manifold.{contact-id, swapped-id, with-local-point};
-ghost use Rattle.contact_definitions.specs.Manifold.{with-count, with-kind, with-one-point};
+ghost use Rattle.contact_definitions.specs.Manifold.{contact-id, swapped-id, with-local-point, with-count, with-kind};
+ghost use Rattle.contact_definitions.specs.Manifold.{with-one-point};
 ghost use Rattle.contact_definitions.specs.declared.b2_collision.B2manifoldType.the-variants.{EFaceA, EFaceB};
+ghost use Rattle.collision.specs.KeptPoints.{point-at-end, kept-ends, points-kept};
+use contact_definitions::b2_collision::B2clipVertex;
 use contact_definitions::b2_collision::B2contactFeature;
 use contact_definitions::b2_collision::B2contactId;
 use contact_definitions::b2_collision::B2manifold;
@@ -138,5 +141,56 @@ pub fn point_of(old: B2manifoldPoint, local_point: B2vec2, id: B2contactId) -> B
         normal_impulse: old.normal_impulse,
         tangent_impulse: old.tangent_impulse,
         id,
+    }
+}
+
+// The two places, and how many points were written there.
+pub struct Kept {
+    pub points: [B2manifoldPoint; 2],
+    pub count: usize,
+}
+
+// An old point with the place and the id of an end.
+fn point_at_end(old: B2manifoldPoint, e: B2clipVertex) -> B2manifoldPoint
+    ensures { λ r. ⌜ r ≡ point-at-end old e ⌝ }
+{
+    let v = e.v;
+    let id = e.id;
+    point_of(old, v, id)
+}
+
+// The points of the ends that are near, over the old ones.
+pub fn kept_points(
+    old: [B2manifoldPoint; 2],
+    e0: B2clipVertex,
+    e1: B2clipVertex,
+    near0: bool,
+    near1: bool,
+) -> Kept
+    ensures { λ r. ⌜ r ≡ points-kept point-at-end old (kept-ends near0 near1 e0 e1) ⌝ }
+{
+    let p0 = old[0];
+    let p1 = old[1];
+    if near0 {
+        if near1 {
+            return Kept {
+                points: [point_at_end(p0, e0), point_at_end(p1, e1)],
+                count: 2,
+            };
+        }
+        return Kept {
+            points: [point_at_end(p0, e0), p1],
+            count: 1,
+        };
+    }
+    if near1 {
+        return Kept {
+            points: [point_at_end(p0, e1), p1],
+            count: 1,
+        };
+    }
+    Kept {
+        points: old,
+        count: 0,
     }
 }

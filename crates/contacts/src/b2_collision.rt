@@ -2,7 +2,7 @@
 // its count and ids, from which the states are found.
 pub use collision::b2_collision::b2_clip_segment_to_line;
 pub use collision::b2_collision::b2_get_point_states;
-pub use collision::b2_collision::b2_world_manifold_initialize;
-pub use collision::b2_collision::b2_world_manifold_initialize_core;
 pub use collision::b2_collision::counted_ids;
 pub use collision::b2_collision::states_of_ids;
+pub use collision::b2_world_manifold::b2_world_manifold_initialize;
+pub use collision::b2_world_manifold::b2_world_manifold_initialize_core;

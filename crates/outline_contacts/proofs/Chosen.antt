@@ -17,7 +17,7 @@ use Rattle.contact_definitions.specs.Axis.{face-a, face-b}
 use Rattle.contact_definitions.specs.B2CollidePolygon.{face-separation, b2-find-max-separation, tolerance, axis-of}
 use Rattle.contact_definitions.specs.B2CollidePolygon.{polygons-axis}
 use Rattle.outline_contacts.specs.declared.rows.FarthestFace.{FarthestFace}
-use Rattle.outline_contacts.specs.Rows.{faced}
+use Rattle.outline_contacts.specs.FaceRows.{faced}
 use Rattle.outline_contacts.specs.Outlines.{outlined}
 
 -- ---- what one search finds: the face and its separation, and the normal there

@@ -1,4 +1,4 @@
-pub mod Places
+pub mod RowPlaces
 pub mod Lowest
 pub mod Gathered
 pub mod Separation

@@ -11,7 +11,7 @@ use Rattle.floats.specs.B2Math.{b2-min}
 use Rattle.shape_definitions.specs.Outline.{point-at}
 use Rattle.contact_definitions.specs.Searches.{below-value}
 use Rattle.contact_definitions.proofs.Searches.{scan-starts, scanned, scanned-all}
-use Rattle.outline_contacts.specs.Rows.{Eight, at, distance-at, least-from, LeastRow}
+use Rattle.outline_contacts.specs.FaceRows.{Eight, at, distance-at, least-from, LeastRow}
 
 pub record Lowest (nxs nys xs ys : List Float) (v2s : List B2vec2) (count2 : ℕ) (old : List Float) (n j : ℕ)
     (row : List Float) : Type 0 where

@@ -13,7 +13,7 @@ use Rattle.contact_definitions.specs.Searches.{least, first-greatest}
 use Rattle.contact_definitions.specs.B2CollidePolygon.{face-separation}
 use Rattle.contact_definitions.proofs.Searches.{first-greatest-same}
 use Rattle.outline_contacts.specs.declared.rows.FarthestFace.{FarthestFace}
-use Rattle.outline_contacts.specs.Rows.{at, FaceRows, distance-at, least-from, LeastRow, faced}
+use Rattle.outline_contacts.specs.FaceRows.{at, FaceRows, distance-at, least-from, LeastRow, faced}
 use Rattle.outline_contacts.specs.Outlines.{outlined}
 
 module _ (xf : B2Transform) (v1s n1s v2s : List B2vec2) (count1 count2 n : ℕ) (nxs nys xs ys old row : List Float)

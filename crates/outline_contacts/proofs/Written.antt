@@ -21,11 +21,11 @@ use Rattle.contact_definitions.specs.ReferenceFace.{clipped-to-sides}
 use Rattle.contact_definitions.specs.B2CollidePolygon.{within-skins, outline-point}
 use Rattle.contact_definitions.proofs.Counts.{sides-few}
 use Rattle.collision.specs.declared.clip.Clip.{Clip}
-use Rattle.collision.specs.Places.{left-over}
+use Rattle.collision.specs.ClipPlaces.{left-over}
 use Rattle.outline_contacts.specs.declared.faces.Face.{Face}
-use Rattle.collision.specs.declared.kept.Kept.{Kept}
+use Rattle.collision.specs.declared.manifolds.Kept.{Kept}
 use Rattle.outline_contacts.specs.Faces.{incident-ends, placed-along}
-use Rattle.collision.specs.Kept.{point-at-end, kept-ends, points-kept}
+use Rattle.collision.specs.KeptPoints.{point-at-end, kept-ends, points-kept}
 use Rattle.collision.proofs.KeptEnds.{nothing-written, points-written, placed-first}
 use Rattle.outline_contacts.specs.OnFace.{named-by, placed-end, tangent-of, manifold-on-face}
 

@@ -1,4 +1,4 @@
-pub mod Rows
+pub mod FaceRows
 pub mod Faces
 pub mod Outlines
 pub mod OnFace

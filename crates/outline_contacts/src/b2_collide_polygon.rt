@@ -1,18 +1,16 @@
-// b2_find_max_separation in both directions, and the choice between them (Box2D's b2_collide_polygon.cpp).
-// The manifold of two outlines (Box2D's b2_collide_polygon.cpp), of counts that were tested before.
-// Outline against outline (Box2D's b2_collide_polygon.cpp).
+// Outline against outline (Box2D's b2_collide_polygon.cpp): the axis search, the manifold on the face that it names,
+// and the call.
 ghost use mathlib.Core.Path.{_≡_};
 ghost use mathlib.Core.List.{[]};
 ghost use Prim.Native.Nat.{_<_, _≤_};
-ghost use Rattle.contact_definitions.specs.Searches.{first-greatest};
-ghost use Rattle.contact_definitions.specs.B2CollidePolygon.{face-separation, polygons-axis};
-ghost use Rattle.outline_contacts.specs.Rows.{faced};
-ghost use Rattle.outline_contacts.specs.Outlines.{outlined, Placed};
 ghost use lib.Ieee.{binary32, add};
-ghost use Rattle.contact_definitions.specs.Manifold.{with-count};
-ghost use Rattle.contact_definitions.specs.B2CollidePolygon.{polygons-manifold};
-ghost use Rattle.outline_contacts.specs.OnFace.{placed-end, manifold-on-face};
+ghost use Rattle.contact_definitions.specs.Searches.{first-greatest};
+ghost use Rattle.contact_definitions.specs.B2CollidePolygon.{face-separation, polygons-axis, polygons-manifold};
 ghost use Rattle.contact_definitions.specs.B2CollidePolygon.{b2-collide-polygons};
+ghost use Rattle.contact_definitions.specs.Manifold.{with-count};
+ghost use Rattle.outline_contacts.specs.FaceRows.{faced};
+ghost use Rattle.outline_contacts.specs.Outlines.{outlined, Placed};
+ghost use Rattle.outline_contacts.specs.OnFace.{placed-end, manifold-on-face};
 use crate::faces::Face;
 use crate::faces::face_of;
 use crate::faces::incident_ends;
@@ -21,14 +19,13 @@ use crate::faces::within_skins;
 use crate::rows;
 use crate::rows::FarthestFace;
 use collision::clip::clip_to_sides;
-use collision::kept::kept_points;
 use collision::manifold_answer;
 use collision::manifolds::flipped;
+use collision::manifolds::kept_points;
 use collision::manifolds::kind_of;
 use collision::manifolds::no_points;
 use collision::manifolds::only_kind;
-use collision::outline_pair;
-use collision::placement_pair;
+use collision::pair_ranges;
 use contact_definitions::axis::Axis;
 use contact_definitions::b2_collision::B2clipVertex;
 use contact_definitions::b2_collision::B2manifold;
@@ -53,7 +50,7 @@ const TOLERANCE: f32 = 0.1 * B2_LINEAR_SLOP;
 
 // b2_find_max_separation, once for each direction: as one function with two callers it is not inlined. xf carries
 // outline 1 to the frame of outline 2.
-pub fn max_separation_of_a(
+fn max_separation_of_a(
     v1s: [B2vec2; 8],
     n1s: [B2vec2; 8],
     count1: usize,
@@ -76,7 +73,7 @@ pub fn max_separation_of_a(
     rows::greatest(&s, n1s, count1)
 }
 
-pub fn max_separation_of_b(
+fn max_separation_of_b(
     v1s: [B2vec2; 8],
     n1s: [B2vec2; 8],
     count1: usize,
@@ -140,7 +137,7 @@ fn placed_end(flip: bool, xf2: B2Transform, e: B2clipVertex) -> B2clipVertex
 }
 
 // The incident edge clipped to the sides of the reference face, and what is left of it within both skins.
-pub fn collide_face(m: B2manifold, f: Face, total_radius: f32) -> B2manifold
+fn collide_face(m: B2manifold, f: Face, total_radius: f32) -> B2manifold
     ensures { λ r. ⌜ r ≡ manifold-on-face m f «total_radius» ⌝ }
 {
     let local_tangent = unit(b2_sub(f.v12, f.v11));
@@ -177,7 +174,7 @@ pub fn collide_face(m: B2manifold, f: Face, total_radius: f32) -> B2manifold
 }
 
 // No point where the axis search says apart; else on the face that it names, with its data chosen first.
-pub fn polygons_manifold(
+fn polygons_manifold(
     m: B2manifold,
     pa: B2polygonShape,
     xa: B2Transform,
@@ -222,8 +219,8 @@ pub fn b2_collide_polygons(
     if wrong_a | wrong_b {
         return manifold_answer::refused(m, refusal::COUNT_OUT_OF_RANGE);
     }
-    let shapes = outline_pair::polygons_in_range(a, b);
-    let placed = placement_pair::placements_in_range(xfa, xfb);
+    let shapes = pair_ranges::polygons_in_range(a, b);
+    let placed = pair_ranges::placements_in_range(xfa, xfb);
     if shapes & placed {
         return manifold_answer::accepted(polygons_manifold(m, a, xfa, b, xfb));
     }

@@ -4,7 +4,7 @@ ghost use mathlib.Core.Path.{_≡_};
 ghost use Prim.Native.Nat.{ℕ, _<_, _≤_};
 ghost use Rattle.floats.specs.B2Math.{b2-min};
 ghost use Rattle.contact_definitions.specs.Searches.{first-greatest};
-ghost use Rattle.outline_contacts.specs.Rows.{Eight, at, FaceRows, distance-at, LeastRow, faced};
+ghost use Rattle.outline_contacts.specs.FaceRows.{Eight, at, FaceRows, distance-at, LeastRow, faced};
 use floats::b2_common::B2_MAX_FLOAT;
 use floats::b2_math::B2Transform;
 use floats::b2_math::B2vec2;

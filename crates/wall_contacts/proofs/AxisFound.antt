@@ -14,7 +14,7 @@ use Rattle.contact_definitions.specs.declared.axis.Axis.{Axis}
 use Rattle.contact_definitions.specs.EdgeAxis.{placed-corner, placed-normal, right-of, b2-compute-edge-separation}
 use Rattle.contact_definitions.specs.EdgeAxis.{b2-compute-polygon-separation, primary-axis, smoothed-if}
 use Rattle.contact_definitions.specs.EdgeAxis.{edge-polygon-axis}
-use Rattle.wall_contacts.specs.Rows.{Row, PointRows, face-distance}
+use Rattle.wall_contacts.specs.PlacedRows.{Row, PointRows, face-distance}
 
 pub normals-placed : (xf : B2Transform) (poly : B2polygonShape) {n : ℕ} {xs ys : List Float}
     → PointRows (λ i. b2-mul-rot-by-vec2 (xf .q) (point-at (poly .«m_normals») i)) n xs ys

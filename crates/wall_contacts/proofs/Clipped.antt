@@ -17,13 +17,13 @@ use Rattle.contact_definitions.specs.ReferenceFace.{clipped-to-sides}
 use Rattle.contact_definitions.specs.EdgeReference.{within-radius, point-in-frame, point-as-it-is}
 use Rattle.contact_definitions.proofs.Counts.{sides-few}
 use Rattle.collision.specs.declared.clip.Clip.{Clip}
-use Rattle.collision.specs.Places.{left-over}
-use Rattle.collision.specs.declared.kept.Kept.{Kept}
-use Rattle.collision.specs.Kept.{point-at-end, kept-ends, points-kept}
+use Rattle.collision.specs.ClipPlaces.{left-over}
+use Rattle.collision.specs.declared.manifolds.Kept.{Kept}
+use Rattle.collision.specs.KeptPoints.{point-at-end, kept-ends, points-kept}
 use Rattle.collision.proofs.KeptEnds.{nothing-written, points-written, placed-first}
 use Rattle.wall_contacts.specs.declared.edge_reference.Reference.{Reference}
 use Rattle.wall_contacts.specs.Reference.{point-by, reference-manifold}
-use Rattle.wall_contacts.specs.Ends.{placed-end}
+use Rattle.wall_contacts.specs.Reference.{placed-end}
 
 -- the ends are placed first, and kept as they are
 kept-placed : (flip : Bool) (xf : B2Transform) (old : List B2manifoldPoint) (near0 near1 : Bool)

@@ -17,7 +17,7 @@ use Rattle.contact_definitions.specs.Axis.{keeps-farther, farthest}
 use Rattle.contact_definitions.specs.EdgeAxis.{placed-corner, placed-normal, outline-axis}
 use Rattle.contact_definitions.specs.EdgeAxis.{b2-compute-polygon-separation}
 use Rattle.contact_definitions.proofs.Searches.{scan-starts}
-use Rattle.wall_contacts.specs.Rows.{face-distance}
+use Rattle.wall_contacts.specs.PlacedRows.{face-distance}
 use Rattle.wall_contacts.proofs.Scans.{scanned-from}
 
 module _ (xf : B2Transform) (poly : B2polygonShape) (v1 v2 : B2vec2) where

@@ -1,4 +1,4 @@
-pub mod Filled
+pub mod RowsFilled
 pub mod Scans
 pub mod Smoothing
 pub mod Regions
@@ -7,7 +7,6 @@ pub mod FaceScan
 pub mod Against
 pub mod References
 pub mod Clipped
-pub mod PlacedReferences
-pub mod PlacesOf
+pub mod FacePlaces
 pub mod AxisFound
 pub mod Manifolds

@@ -21,7 +21,7 @@ use Rattle.contact_definitions.specs.EdgeAxis.{primary-axis, smoothed, smoothed
 use Rattle.contact_definitions.specs.EdgeAxis.{edge-polygon-axis}
 use Rattle.contact_definitions.specs.EdgeReference.{edge-manifold-on}
 use Rattle.contact_definitions.specs.B2CollideEdge.{edge-polygon-manifold}
-use Rattle.wall_contacts.specs.Rows.{PointRows}
+use Rattle.wall_contacts.specs.PlacedRows.{PointRows}
 
 -- ---- the rows, by the names of the definitions
 pub corners-placed : (xf : B2Transform) (poly : B2polygonShape) {n : ℕ} {xs ys : List Float}

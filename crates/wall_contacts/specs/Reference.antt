@@ -1,24 +1,28 @@
 -- What is clipped against what in wall against outline, as one record, and the manifold of it. Definitions only.
-use mathlib.Core.Bool.{Bool, true, false, cond}
+use mathlib.Core.Bool.{Bool, cond, true, false}
 use mathlib.Core.List.{[], _∷_}
 use Prim.Native.Nat.{ℕ}
 use lib.Ieee.{Float}
-use Rattle.floats.specs.declared.b2_math.B2vec2.{B2vec2}
 use Rattle.floats.specs.declared.b2_math.B2Transform.{B2Transform}
-use Rattle.floats.specs.B2Math.{b2-neg}
+use Rattle.floats.specs.B2Math.{b2-mul-t-transform-by-vec2, b2-neg}
+use Rattle.floats.specs.declared.b2_math.B2vec2.{B2vec2}
 use Rattle.shape_definitions.specs.declared.b2_polygon_shape.B2polygonShape.{B2polygonShape}
 use Rattle.shape_definitions.specs.Outline.{place-after}
+use Rattle.contact_definitions.specs.declared.b2_collision.B2clipVertex.{B2clipVertex}
+use Rattle.contact_definitions.specs.Manifold.{swapped-id, vertex-feature, face-feature, as-byte, contact-id}
+use Rattle.contact_definitions.specs.Manifold.{with-count, with-kind}
 use Rattle.contact_definitions.specs.declared.b2_collision.B2manifold.{B2manifold}
 use Rattle.contact_definitions.specs.declared.b2_collision.B2manifoldPoint.{B2manifoldPoint}
 use Rattle.contact_definitions.specs.declared.b2_collision.B2manifoldType.the-variants.{EFaceA, EFaceB}
-use Rattle.contact_definitions.specs.declared.b2_collision.B2clipVertex.{B2clipVertex}
-use Rattle.contact_definitions.specs.Manifold.{vertex-feature, face-feature, as-byte, contact-id, with-count}
-use Rattle.contact_definitions.specs.Manifold.{with-kind}
 use Rattle.contact_definitions.specs.ReferenceFace.{clipped-to-sides, manifold-of-ends}
-use Rattle.contact_definitions.specs.EdgeReference.{face-between, within-radius, most-against, outline-end}
-use Rattle.contact_definitions.specs.EdgeReference.{placed-face}
+use Rattle.contact_definitions.specs.EdgeReference.{face-between, within-radius, most-against, outline-end, placed-face}
 use Rattle.contact_definitions.specs.EdgeReference.{point-in-frame, point-as-it-is}
 use Rattle.wall_contacts.specs.declared.edge_reference.Reference.{Reference}
+
+abbrev pub placed-end : Bool → B2Transform → B2clipVertex → B2clipVertex
+placed-end flip xf end =
+    cond flip (record { v = end .v; id = swapped-id (end .id) })
+    (record { v = b2-mul-t-transform-by-vec2 xf (end .v); id = end .id })
 
 unfoldable pub wall-reference : B2Transform → B2polygonShape → B2vec2 → B2vec2 → B2vec2 → B2vec2 → Reference
 wall-reference xf poly v1 v2 edge1 normal =

@@ -8,7 +8,7 @@ ghost use Rattle.shape_definitions.specs.declared.b2_polygon_shape.B2polygonSha
 ghost use Rattle.contact_definitions.specs.Manifold.{contact-id, as-byte};
 ghost use Rattle.contact_definitions.specs.EdgeAxis.{placed-corner, placed-normal};
 ghost use Rattle.contact_definitions.specs.EdgeReference.{face-between, most-against};
-ghost use Rattle.wall_contacts.specs.Rows.{PointRows};
+ghost use Rattle.wall_contacts.specs.PlacedRows.{PointRows};
 ghost use Rattle.wall_contacts.specs.Reference.{wall-reference, face-reference};
 use contact_definitions::b2_collide_edge::B2referenceFace;
 use contact_definitions::b2_collision::B2clipVertex;

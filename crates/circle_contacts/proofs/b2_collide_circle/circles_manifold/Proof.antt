@@ -1,5 +1,5 @@
 -- Too far, or one point. Assumes nothing.
-use Rattle.circle_contacts.proofs.Circles.{circles-far, circles-near}
+use Rattle.circle_contacts.proofs.CircleManifolds.{circles-far, circles-near}
 use borrow.Author.Needs.{needs}
 use Rattle.circle_contacts.proofs.b2_collide_circle.circles_manifold.Statement.{statement}
 use Rattle.circle_contacts.proofs.b2_collide_circle.circles_manifold.Tie as tie

@@ -1,5 +1,5 @@
 -- Where they meet, by cases. Assumes nothing.
-use Rattle.circle_contacts.proofs.Circles.{meets-not, meets-at}
+use Rattle.circle_contacts.proofs.CircleManifolds.{meets-not, meets-at}
 use borrow.Author.Needs.{needs}
 use Rattle.circle_contacts.proofs.b2_collide_circle.polygon_circle_manifold.Statement.{statement}
 use Rattle.circle_contacts.proofs.b2_collide_circle.polygon_circle_manifold.Tie as tie

@@ -1,5 +1,5 @@
 -- Both ends, the normal and the offset. Assumes nothing.
-use Rattle.collision.proofs.ClipRanges.{ends-in-range}
+use Rattle.collision.proofs.Clips.{ends-in-range}
 use borrow.Author.Needs.{needs}
 use Rattle.collision.proofs.b2_collision.clip_in_range.Statement.{statement}
 use Rattle.collision.proofs.b2_collision.clip_in_range.Tie as tie

@@ -2,7 +2,7 @@
 use mathlib.Core.Path.{refl, _∙_}
 use Rattle.contact_definitions.proofs.Clipping.{both-left, first-and-crossing, first-left, second-and-crossing}
 use Rattle.contact_definitions.proofs.Clipping.{second-left, none-left}
-use Rattle.collision.proofs.Ends.{two-left, one-left, nothing-left}
+use Rattle.collision.proofs.Clips.{two-left, one-left, nothing-left}
 use borrow.Author.Needs.{needs}
 use Rattle.collision.proofs.clip.clip_ends.Statement.{statement}
 use Rattle.collision.proofs.clip.clip_ends.Tie as tie

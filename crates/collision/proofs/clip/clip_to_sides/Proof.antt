@@ -1,5 +1,5 @@
 -- By what the first clip leaves. Assumes nothing.
-use Rattle.collision.proofs.Sides.{none-after, clipped-again}
+use Rattle.collision.proofs.Clips.{none-after, clipped-again}
 use borrow.Author.Needs.{needs}
 use Rattle.collision.proofs.clip.clip_to_sides.Statement.{statement}
 use Rattle.collision.proofs.clip.clip_to_sides.Tie as tie

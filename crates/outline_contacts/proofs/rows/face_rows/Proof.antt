@@ -4,9 +4,9 @@ use Prim.Native.Nat.{ℕ, _≤_, _-_}
 use native.Mathlib.Omega.{arith}
 use lib.ListN.{length}
 use Rattle.floats.specs.B2Math.{b2-mul-rot-by-vec2, b2-mul-transform-by-vec2}
-use Rattle.outline_contacts.specs.Rows.{FaceRows}
+use Rattle.outline_contacts.specs.FaceRows.{FaceRows}
 use Rattle.algebra.proofs.Lists.{getD-within}
-use Rattle.outline_contacts.proofs.Places.{face-rows-next}
+use Rattle.outline_contacts.proofs.RowPlaces.{face-rows-next}
 use borrow.Author.Needs.{needs}
 use Rattle.outline_contacts.proofs.rows.face_rows.Statement.{statement}
 use Rattle.outline_contacts.proofs.rows.face_rows.Tie as tie

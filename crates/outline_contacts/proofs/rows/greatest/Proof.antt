@@ -9,8 +9,8 @@ use Rattle.algebra.specs.Loops.{places, scan}
 use Rattle.contact_definitions.specs.Searches.{valued, is-greater, first-greatest}
 use Rattle.contact_definitions.proofs.Searches.{scan-starts, replaced-by, kept-over, scanned-all}
 use Rattle.contact_definitions.specs.declared.axis.Best.{Best}
-use Rattle.outline_contacts.specs.Rows.{Eight, at}
-use Rattle.outline_contacts.proofs.Places.{faced-is}
+use Rattle.outline_contacts.specs.FaceRows.{Eight, at}
+use Rattle.outline_contacts.proofs.RowPlaces.{faced-is}
 use borrow.Author.Needs.{needs}
 use Rattle.outline_contacts.proofs.rows.greatest.Statement.{statement}
 use Rattle.outline_contacts.proofs.rows.greatest.Tie as tie

@@ -3,8 +3,8 @@ use mathlib.Core.Path.{_≡_, refl, _∙_, ap₂}
 use Prim.Native.Nat.{ℕ, _<_, _≤_, _-_}
 use native.Mathlib.Omega.{arith}
 use Rattle.floats.specs.B2Math.{b2-min}
-use Rattle.outline_contacts.specs.Rows.{Eight, at, distance-at}
-use Rattle.outline_contacts.proofs.Places.{eight-set, row-next, rest-next, distance-is}
+use Rattle.outline_contacts.specs.FaceRows.{Eight, at, distance-at}
+use Rattle.outline_contacts.proofs.RowPlaces.{eight-set, row-next, rest-next, distance-is}
 use borrow.Author.Needs.{needs}
 use Rattle.outline_contacts.proofs.rows.lower.Statement.{statement}
 use Rattle.outline_contacts.proofs.rows.lower.Tie as tie

@@ -3,7 +3,7 @@ use mathlib.Core.Path.{_≡_}
 use Prim.Native.Nat.{_≤_, _-_}
 use native.Mathlib.Omega.{arith}
 use lib.ListN.{length}
-use Rattle.outline_contacts.specs.Rows.{Eight}
+use Rattle.outline_contacts.specs.FaceRows.{Eight}
 use Rattle.outline_contacts.proofs.Lowest.{Lowest, lowest-starts, lowest-next, lowest-ended}
 use borrow.Author.Needs.{needs}
 use Rattle.outline_contacts.proofs.rows.lower_all.Statement.{statement}

@@ -9,8 +9,8 @@ use Rattle.wall_contacts.specs.declared.edge_reference.Reference.{Refere
 use Rattle.contact_definitions.specs.EdgeReference.{edge-manifold-on}
 use Rattle.contact_definitions.specs.Manifold.{with-count}
 use Rattle.wall_contacts.specs.Reference.{reference-manifold}
-use Rattle.wall_contacts.specs.Places.{place-below}
-use Rattle.wall_contacts.proofs.PlacedReferences.{on-wall, on-face-read}
+use Rattle.wall_contacts.specs.AxisParts.{place-below}
+use Rattle.wall_contacts.proofs.References.{on-wall, on-face-read}
 use borrow.Author.Needs.{needs}
 use Rattle.wall_contacts.proofs.edge_manifold.edge_manifold_on.Statement.{statement}
 use Rattle.wall_contacts.proofs.edge_manifold.edge_manifold_on.Tie as tie

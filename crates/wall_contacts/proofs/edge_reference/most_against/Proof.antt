@@ -11,7 +11,7 @@ use Rattle.floats.specs.B2Math.{b2-dot}
 use Rattle.shape_definitions.specs.declared.b2_polygon_shape.B2polygonShape.{B2polygonShape}
 use Rattle.contact_definitions.specs.EdgeAxis.{placed-normal}
 use Rattle.contact_definitions.specs.EdgeReference.{most-against}
-use Rattle.wall_contacts.specs.Rows.{PointRows}
+use Rattle.wall_contacts.specs.PlacedRows.{PointRows}
 use Rattle.wall_contacts.proofs.Against.{dot-at, more-against, against-from, against-begun, against-taken}
 use Rattle.wall_contacts.proofs.Against.{against-left}
 use borrow.Author.Needs.{needs}

@@ -1,5 +1,5 @@
 -- Two reads. Assumes nothing.
-use Rattle.wall_contacts.proofs.Filled.{point-read}
+use Rattle.wall_contacts.proofs.RowsFilled.{point-read}
 use borrow.Author.Needs.{needs}
 use Rattle.wall_contacts.proofs.edge_reference.row_point.Statement.{statement}
 use Rattle.wall_contacts.proofs.edge_reference.row_point.Tie as tie

@@ -1,6 +1,6 @@
 -- The least distances of both sides, from the rows of distances. Assumes nothing.
 use Prim.Native.Nat.{_≤_}
-use Rattle.wall_contacts.proofs.Filled.{row-fewer}
+use Rattle.wall_contacts.proofs.RowsFilled.{row-fewer}
 use Rattle.wall_contacts.proofs.EdgeSide.{edge-separation-from}
 use native.Mathlib.Omega.{arith}
 use borrow.Author.Needs.{needs}

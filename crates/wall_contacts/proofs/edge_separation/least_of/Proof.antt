@@ -5,7 +5,7 @@ use lib.Ieee.{Float}
 use lib.ListN.{length}
 use native.Mathlib.Omega.{arith}
 use Rattle.contact_definitions.specs.Searches.{below-value, least}
-use Rattle.wall_contacts.specs.Rows.{Row}
+use Rattle.wall_contacts.specs.PlacedRows.{Row}
 use Rattle.contact_definitions.proofs.Searches.{scanned-all}
 use Rattle.wall_contacts.proofs.Scans.{scanned-from, least-begun, least-next}
 use borrow.Author.Needs.{needs}

@@ -5,8 +5,8 @@ use lib.ListN.{length, length-set}
 use native.Mathlib.Omega.{arith}
 use Rattle.floats.specs.declared.b2_math.B2vec2.{B2vec2}
 use Rattle.floats.specs.B2Math.{b2-sub, b2-neg, b2-dot}
-use Rattle.wall_contacts.specs.Rows.{Row, PointRows}
-use Rattle.wall_contacts.proofs.Filled.{row-empty, row-fewer, row-next, difference-read}
+use Rattle.wall_contacts.specs.PlacedRows.{Row, PointRows}
+use Rattle.wall_contacts.proofs.RowsFilled.{row-empty, row-fewer, row-next, difference-read}
 use borrow.Author.Needs.{needs}
 use Rattle.wall_contacts.proofs.edge_separation.side_rows.Statement.{statement}
 use Rattle.wall_contacts.proofs.edge_separation.side_rows.Tie as tie
