@@ -10,6 +10,7 @@ use crate::outline_meeting::Meeting;
 use collision::manifold_answer;
 use collision::manifolds;
 use collision::pair_ranges;
+use contact_definitions::b2_collision::B2contactFeatureType;
 use contact_definitions::b2_collision::B2manifold;
 use contact_definitions::b2_collision::B2manifoldType;
 use contact_definitions::b2_collision::ManifoldAnswer;
@@ -39,7 +40,15 @@ fn circles_manifold(
         return manifolds::no_points(m);
     }
     let zero = B2vec2 { x: 0.0, y: 0.0 };
-    manifolds::circle_point(m, B2manifoldType::ECircles, zero, pa, pb, 0, 0)
+    manifolds::circle_point(
+        m,
+        B2manifoldType::ECircles,
+        zero,
+        pa,
+        pb,
+        0,
+        B2contactFeatureType::EVertex,
+    )
 }
 
 pub fn b2_collide_circles(
@@ -85,7 +94,15 @@ fn polygon_circle_manifold(
         Meeting::Point(nx, ny, x, y) => {
             let normal = B2vec2 { x: nx, y: ny };
             let point = B2vec2 { x: x, y: y };
-            manifolds::circle_point(m, B2manifoldType::EFaceA, normal, point, centre, 0, 0)
+            manifolds::circle_point(
+                m,
+                B2manifoldType::EFaceA,
+                normal,
+                point,
+                centre,
+                0,
+                B2contactFeatureType::EVertex,
+            )
         }
     }
 }

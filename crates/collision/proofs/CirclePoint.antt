@@ -11,16 +11,16 @@ use Rattle.contact_definitions.specs.Manifold.{default-point, with-local-point,
 use Rattle.algebra.proofs.Two.{first-place, one-over}
 
 pub with-first : (m : B2manifold) (d : B2manifoldPoint) (kind : B2manifoldType) (normal point centre : B2vec2)
-    (id : B2contactId) → length (m .points) ≡ 2
+    (id made : B2contactId) → id ≡ made → length (m .points) ≡ 2
     → _≡_ {A = B2manifold} (record {
       points = with-local-point (getD (m .points) 0 d) centre id ∷ getD (m .points) 1 d ∷ [];
       «local_normal» = normal;
       «local_point» = point;
       «manifold_type» = kind;
       «point_count» = 1;
-    }) (with-one-point m kind normal point centre id)
+    }) (with-one-point m kind normal point centre made)
 unfolding with-one-point
-with-first m d kind normal point centre id m-two =
+with-first m d kind normal point centre id made id-is m-two =
     ap (λ (l : List B2manifoldPoint). record {
       points = l;
       «local_normal» = normal;
@@ -31,3 +31,4 @@ with-first m d kind normal point centre id m-two =
     (ap (λ (p : B2manifoldPoint). with-local-point p centre id ∷ getD (m .points) 1 d ∷ [])
     (first-place (m .points) d default-point m-two)
     ∙ one-over (m .points) (with-local-point (getD (m .points) 0 default-point) centre id) d m-two)
+    ∙ ap (λ (i : B2contactId). with-one-point m kind normal point centre i) id-is

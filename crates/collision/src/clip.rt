@@ -3,9 +3,9 @@ ghost use mathlib.Core.Path.{_≡_};
 ghost use mathlib.Core.List.{[], _∷_};
 ghost use Rattle.contact_definitions.specs.Clip.{clip-distance, crossing, clipped};
 ghost use Rattle.collision.specs.ClipPlaces.{two-ends, left-over};
+use crate::manifolds::contact_id;
 use contact_definitions::b2_collision::B2clipVertex;
-use contact_definitions::b2_collision::B2contactFeature;
-use contact_definitions::b2_collision::B2contactId;
+use contact_definitions::b2_collision::B2contactFeatureType;
 use floats::b2_math::B2vec2;
 use floats::b2_math::b2_add;
 use floats::b2_math::b2_dot;
@@ -31,16 +31,15 @@ pub fn cut(a: B2clipVertex, b: B2clipVertex, d0: f32, d1: f32, index: usize) -> 
 {
     let interp = d0 / (d0 - d1);
     let v = b2_add(a.v, b2_scale(interp, b2_sub(b.v, a.v)));
+    let index_a = (index % 256) as u8;
     B2clipVertex {
         v,
-        id: B2contactId {
-            cf: B2contactFeature {
-                index_a: (index % 256) as u8,
-                index_b: a.id.cf.index_b,
-                type_a: 0,
-                type_b: 1,
-            },
-        },
+        id: contact_id(
+            index_a,
+            a.id.cf.index_b,
+            B2contactFeatureType::EVertex,
+            B2contactFeatureType::EFace,
+        ),
     }
 }
 

@@ -2,17 +2,48 @@
 // and points are stored at constant places, by cases.
 ghost use mathlib.Core.Path.{_≡_};
 ghost use mathlib.Core.Bool.{cond};
-ghost use Rattle.contact_definitions.specs.Manifold.{contact-id, swapped-id, with-local-point, with-count, with-kind};
+ghost use Rattle.contact_definitions.specs.Manifold.{feature-number, vertex-feature, contact-id, swapped-id};
+ghost use Rattle.contact_definitions.specs.Manifold.{with-local-point, with-count, with-kind};
 ghost use Rattle.contact_definitions.specs.Manifold.{with-one-point};
 ghost use Rattle.contact_definitions.specs.declared.b2_collision.B2manifoldType.the-variants.{EFaceA, EFaceB};
 ghost use Rattle.collision.specs.KeptPoints.{point-at-end, kept-ends, points-kept};
 use contact_definitions::b2_collision::B2clipVertex;
 use contact_definitions::b2_collision::B2contactFeature;
+use contact_definitions::b2_collision::B2contactFeatureType;
 use contact_definitions::b2_collision::B2contactId;
 use contact_definitions::b2_collision::B2manifold;
 use contact_definitions::b2_collision::B2manifoldPoint;
 use contact_definitions::b2_collision::B2manifoldType;
 use floats::b2_math::B2vec2;
+
+// The number of a feature's type.
+fn feature_number(t: B2contactFeatureType) -> u8
+    ensures { λ r. ⌜ r ≡ feature-number t ⌝ }
+{
+    match t {
+        B2contactFeatureType::EVertex => 0,
+        B2contactFeatureType::EFace => 1,
+    }
+}
+
+// The id of two features: a place on each shape, and what meets there.
+pub fn contact_id(
+    index_a: u8,
+    index_b: u8,
+    type_a: B2contactFeatureType,
+    type_b: B2contactFeatureType,
+) -> B2contactId
+    ensures { λ r. ⌜ r ≡ contact-id «index_a» «index_b» (feature-number «type_a») (feature-number «type_b») ⌝ }
+{
+    B2contactId {
+        cf: B2contactFeature {
+            index_a,
+            index_b,
+            type_a: feature_number(type_a),
+            type_b: feature_number(type_b),
+        },
+    }
+}
 
 // m with another kind and count.
 pub fn made_anew(m: B2manifold, manifold_type: B2manifoldType, point_count: usize) -> B2manifold
@@ -79,24 +110,19 @@ pub fn circle_point(
     local_point: B2vec2,
     centre: B2vec2,
     index_a: u8,
-    type_a: u8,
+    type_a: B2contactFeatureType,
 ) -> B2manifold
-    ensures { λ r. ⌜ r ≡ with-one-point m t «local_normal» «local_point» centre (contact-id «index_a» 0 «type_a» 0) ⌝ }
+    ensures { λ r. ⌜ r ≡ with-one-point m t «local_normal» «local_point» centre
+        (contact-id «index_a» 0 (feature-number «type_a») vertex-feature) ⌝ }
 {
+    let id = contact_id(index_a, 0, type_a, B2contactFeatureType::EVertex);
     let p = m.points[0];
     let p1 = m.points[1];
     let p0 = B2manifoldPoint {
         local_point: centre,
         normal_impulse: p.normal_impulse,
         tangent_impulse: p.tangent_impulse,
-        id: B2contactId {
-            cf: B2contactFeature {
-                index_a,
-                index_b: 0,
-                type_a,
-                type_b: 0,
-            },
-        },
+        id,
     };
     B2manifold {
         points: [p0, p1],

@@ -12,6 +12,8 @@ use Rattle.rounding.specs.Literals.{zero32}
 use Rattle.floats.specs.Ranges.{transform-in-range}
 use Rattle.shape_definitions.specs.Refusal.{accepted, shape-out-of-range, placement-out-of-range, count-out-of-range}
 use Rattle.shape_definitions.specs.Outline.{origin}
+use Rattle.contact_definitions.specs.declared.b2_collision.B2contactFeatureType.{B2contactFeatureType}
+use Rattle.contact_definitions.specs.declared.b2_collision.B2contactFeatureType.the-variants.{EVertex, EFace}
 use Rattle.contact_definitions.specs.declared.b2_collision.B2contactId.{B2contactId}
 use Rattle.contact_definitions.specs.declared.b2_collision.B2manifoldPoint.{B2manifoldPoint}
 use Rattle.contact_definitions.specs.declared.b2_collision.B2manifoldType.{B2manifoldType}
@@ -20,11 +22,16 @@ use Rattle.contact_definitions.specs.declared.b2_collision.B2manifold.{B
 use Rattle.contact_definitions.specs.declared.b2_collision.ManifoldAnswer.{ManifoldAnswer}
 
 -- ---- ids: the features of a contact point
+-- the number of a feature's type
+abbrev pub feature-number : B2contactFeatureType → ℕ
+feature-number EVertex = 0
+feature-number EFace = 1
+
 abbrev pub vertex-feature : ℕ
-vertex-feature = 0
+vertex-feature = feature-number EVertex
 
 abbrev pub face-feature : ℕ
-face-feature = 1
+face-feature = feature-number EFace
 
 -- a number stored in a byte: its remainder by 256
 abbrev pub as-byte : ℕ → ℕ

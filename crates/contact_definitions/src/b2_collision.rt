@@ -1,7 +1,13 @@
 // Manifolds, clip vertices, world manifolds and point states (Box2D's b2_collision.h).
 use floats::b2_math::B2vec2;
 
-// The two features that meet in a contact point: a place on each shape, and 0 for a vertex or 1 for a face.
+// What of a shape meets another in a contact point.
+pub enum B2contactFeatureType {
+    EVertex,
+    EFace,
+}
+
+// The two features that meet in a contact point: a place on each shape, and the number of its feature's type.
 pub struct B2contactFeature {
     pub index_a: u8,
     pub index_b: u8,

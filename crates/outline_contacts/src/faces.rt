@@ -6,10 +6,10 @@ ghost use Rattle.shape_definitions.specs.Outline.{point-at};
 ghost use Rattle.contact_definitions.specs.Searches.{first-least};
 ghost use Rattle.contact_definitions.specs.B2CollidePolygon.{within-skins};
 ghost use Rattle.outline_contacts.specs.Faces.{corner-of, face-of, face-vertex, incident-ends, placed-along};
+use collision::manifolds::contact_id;
 use contact_definitions::b2_collide_edge::B2referenceFace;
 use contact_definitions::b2_collision::B2clipVertex;
-use contact_definitions::b2_collision::B2contactFeature;
-use contact_definitions::b2_collision::B2contactId;
+use contact_definitions::b2_collision::B2contactFeatureType;
 use floats::b2_common::B2_MAX_FLOAT;
 use floats::b2_math::B2Transform;
 use floats::b2_math::B2vec2;
@@ -122,16 +122,16 @@ pub fn face_of(
 pub fn face_vertex(edge: usize, i: usize, v: B2vec2) -> B2clipVertex
     ensures { λ r. ⌜ r ≡ face-vertex edge i v ⌝ }
 {
+    let index_a = (edge % 256) as u8;
+    let index_b = (i % 256) as u8;
     B2clipVertex {
         v,
-        id: B2contactId {
-            cf: B2contactFeature {
-                index_a: (edge % 256) as u8,
-                index_b: (i % 256) as u8,
-                type_a: 1,
-                type_b: 0,
-            },
-        },
+        id: contact_id(
+            index_a,
+            index_b,
+            B2contactFeatureType::EFace,
+            B2contactFeatureType::EVertex,
+        ),
     }
 }
 

@@ -1,8 +1,6 @@
 -- The manifold of wall against outline, from the parts that the code has. Assumes nothing.
-use mathlib.Core.Path.{_≡_, refl, sym, _∙_, ap}
+use mathlib.Core.Path.{_≡_, refl, _∙_}
 use mathlib.Core.Bool.{Bool, true, false, cond, _&&_}
-use mathlib.Core.List.{List}
-use Prim.Native.Nat.{ℕ}
 use lib.Ieee.{Float, binary32, neg, add, lt}
 use Rattle.rounding.specs.Literals.{zero32}
 use Rattle.floats.specs.declared.b2_math.B2vec2.{B2vec2}
@@ -10,46 +8,12 @@ use Rattle.floats.specs.declared.b2_math.B2Transform.{B2Transform}
 use Rattle.floats.specs.B2Math.{vec2, b2-sub, b2-dot, b2-normalize, b2-mul-transform-by-vec2}
 use Rattle.shape_definitions.specs.declared.b2_polygon_shape.B2polygonShape.{B2polygonShape}
 use Rattle.shape_definitions.specs.declared.b2_edge_shape.B2edgeShape.{B2edgeShape}
-use Rattle.shape_definitions.specs.Outline.{point-at}
-use Rattle.contact_definitions.specs.declared.axis.Axis.{Axis}
-use Rattle.contact_definitions.specs.declared.axis.Axis.the-variants.{Apart}
 use Rattle.contact_definitions.specs.declared.b2_collision.B2manifold.{B2manifold}
-use Rattle.contact_definitions.specs.Axis.{separation-of}
 use Rattle.contact_definitions.specs.Manifold.{with-count}
-use Rattle.contact_definitions.specs.EdgeAxis.{placed-corner, right-of, b2-compute-edge-separation}
-use Rattle.contact_definitions.specs.EdgeAxis.{primary-axis, smoothed, smoothed-if}
-use Rattle.contact_definitions.specs.EdgeAxis.{edge-polygon-axis}
+use Rattle.contact_definitions.specs.EdgeAxis.{right-of, edge-polygon-axis}
 use Rattle.contact_definitions.specs.EdgeReference.{edge-manifold-on}
 use Rattle.contact_definitions.specs.B2CollideEdge.{edge-polygon-manifold}
-use Rattle.wall_contacts.specs.PlacedRows.{PointRows}
 
--- ---- the rows, by the names of the definitions
-pub corners-placed : (xf : B2Transform) (poly : B2polygonShape) {n : ℕ} {xs ys : List Float}
-    → PointRows (λ i. b2-mul-transform-by-vec2 xf (point-at (poly .«m_vertices») i)) n xs ys
-    → PointRows (placed-corner xf poly) n xs ys
-unfolding placed-corner
-corners-placed xf poly rows = rows
-
--- ---- the search
-module _ (edge : B2edgeShape) (edge1 : B2vec2) (xf : B2Transform) (poly : B2polygonShape) (radius : Float) where
-  abbrev wall-axis : Axis
-  wall-axis = b2-compute-edge-separation xf poly (edge .«m_vertex1») (right-of edge1)
-
-  -- the wall keeps the outline off: whatever its faces say, there is no point
-  off-the-wall : (old : B2manifold) (one-sided : Bool) (s : Float)
-      → edge-manifold-on (smoothed-if one-sided edge edge1 wall-axis (Apart s)) old edge edge1 xf poly radius ≡ old
-  unfolding smoothed
-  off-the-wall old true s = refl
-  off-the-wall old false s = refl
-
-  pub kept-off : (old : B2manifold) (wall : Axis) → wall ≡ wall-axis → lt radius (separation-of wall) ≡ true
-      → edge-manifold-on (edge-polygon-axis radius edge edge1 xf poly) old edge edge1 xf poly radius ≡ old
-  unfolding edge-polygon-axis primary-axis
-  kept-off old wall wall-is apart =
-      let test = ap (λ (a : Axis). lt radius (separation-of a)) (sym wall-is) ∙ apart in
-      rw test (off-the-wall old (edge .«m_one_sided») (separation-of wall-axis))
-
--- ---- the whole
 module _ (m : B2manifold) (edge : B2edgeShape) (edge1 : B2vec2) (xf : B2Transform) (poly : B2polygonShape)
     (behind : Bool)
     (edge1-is : edge1 ≡ b2-normalize (b2-sub (edge .«m_vertex2») (edge .«m_vertex1»)) .v)

@@ -14,7 +14,7 @@ use Rattle.shape_definitions.specs.Outline.{place-after, point-at}
 use Rattle.shape_definitions.specs.declared.b2_edge_shape.B2edgeShape.{B2edgeShape}
 use Rattle.contact_definitions.specs.declared.b2_collision.B2clipVertex.{B2clipVertex}
 use Rattle.contact_definitions.specs.declared.b2_collide_edge.B2referenceFace.{B2referenceFace}
-use Rattle.contact_definitions.specs.Manifold.{as-byte, contact-id, with-count}
+use Rattle.contact_definitions.specs.Manifold.{vertex-feature, face-feature, as-byte, contact-id, with-count}
 use Rattle.contact_definitions.specs.EdgeAxis.{placed-corner, placed-normal, right-of}
 use Rattle.contact_definitions.specs.EdgeReference.{face-between, most-against, outline-end, placed-face, outline-edge}
 use Rattle.contact_definitions.specs.EdgeReference.{wall-edge, wall-manifold, face-manifold}
@@ -33,7 +33,7 @@ module _ (xf : B2Transform) (poly : B2polygonShape) (v1 v2 : B2vec2) (count : �
       → i1 ≡ most-against xf poly normal → i2 ≡ place-after count i1
       → w1 ≡ placed-corner xf poly i1 → w2 ≡ placed-corner xf poly i2
       → back ≡ b2-neg edge1 → face ≡ face-between 0 1 v1 v2 normal back edge1
-      → a ≡ vertex w1 0 i1 1 0 → b ≡ vertex w2 0 i2 1 0
+      → a ≡ vertex w1 0 i1 face-feature vertex-feature → b ≡ vertex w2 0 i2 face-feature vertex-feature
       → _≡_ {A = Reference} (record {
         face = face;
         a = a;
@@ -52,7 +52,7 @@ module _ (xf : B2Transform) (poly : B2polygonShape) (v1 v2 : B2vec2) (count : �
       → normal ≡ placed-normal xf poly i1
       → back ≡ b2-neg (vec2 (normal .y) (neg (normal .x)))
       → face ≡ face-between i1 i2 w1 w2 normal (vec2 (normal .y) (neg (normal .x))) back
-      → a ≡ vertex v2 1 i1 0 1 → b ≡ vertex v1 0 i1 0 1
+      → a ≡ vertex v2 1 i1 vertex-feature face-feature → b ≡ vertex v1 0 i1 vertex-feature face-feature
       → _≡_ {A = Reference} (record {
         face = face;
         a = a;

@@ -3,20 +3,27 @@
 // side is looked at, so one root is taken, not two.
 ghost use mathlib.Core.Path.{_≡_};
 ghost use mathlib.Core.Bool.{false};
-ghost use Prim.Native.Nat.{_<_};
+ghost use Prim.Native.Nat.{_<_, _≤_};
 ghost use lib.Ieee.{lt};
+ghost use lib.ListN.{length};
 ghost use Rattle.contact_definitions.specs.Axis.{separation-of};
-ghost use Rattle.contact_definitions.specs.EdgeAxis.{primary-axis, region-by, region-before, region-after};
-ghost use Rattle.contact_definitions.specs.EdgeAxis.{gauss-region, in-region, smoothed, smoothed-if};
-ghost use Rattle.wall_contacts.specs.AxisParts.{is-apart, axis-normal};
+ghost use Rattle.contact_definitions.specs.EdgeAxis.{placed-corner, primary-axis, region-by, region-before};
+ghost use Rattle.contact_definitions.specs.EdgeAxis.{region-after, gauss-region, in-region, smoothed, smoothed-if};
+ghost use Rattle.contact_definitions.specs.EdgeAxis.{edge-polygon-axis};
+ghost use Rattle.wall_contacts.specs.PlacedRows.{PointRows};
+ghost use Rattle.wall_contacts.specs.AxisParts.{is-apart, axis-normal, NormalsUnlessApart};
+use crate::edge_separation;
 use contact_definitions::axis::Axis;
 use contact_definitions::b2_collide_edge::GaussRegion;
 use floats::b2_math;
+use floats::b2_math::B2Transform;
 use floats::b2_math::B2vec2;
 use floats::unit;
 use shape_definitions::b2_edge_shape::B2edgeShape;
+use shape_definitions::b2_polygon_shape::B2polygonShape;
+use shape_ranges::places;
 
-pub fn separation_of(axis: Axis) -> f32
+fn separation_of(axis: Axis) -> f32
     ensures { λ r. ⌜ r ≡ separation-of axis ⌝ }
 {
     match axis {
@@ -27,7 +34,7 @@ pub fn separation_of(axis: Axis) -> f32
 }
 
 // The wall's own axis does not keep the outline off: that is known before the outline's faces are looked at.
-pub fn primary_axis(radius: f32, edge_axis: Axis, polygon_axis: Axis) -> Axis
+fn primary_axis(radius: f32, edge_axis: Axis, polygon_axis: Axis) -> Axis
     requires { ⌜ lt radius (separation-of «edge_axis») ≡ false ⌝ }
     ensures { λ r. ⌜ r ≡ primary-axis radius «edge_axis» «polygon_axis» ⌝ }
 {
@@ -137,11 +144,63 @@ fn smoothed(edge: B2edgeShape, edge1: B2vec2, edge_axis: Axis, axis: Axis) -> Ax
 }
 
 // The Gauss map is asked of one-sided walls only.
-pub fn smoothed_if(edge: B2edgeShape, edge1: B2vec2, edge_axis: Axis, axis: Axis) -> Axis
+fn smoothed_if(edge: B2edgeShape, edge1: B2vec2, edge_axis: Axis, axis: Axis) -> Axis
     ensures { λ r. ⌜ r ≡ smoothed-if (edge .«m_one_sided») edge edge1 «edge_axis» axis ⌝ }
 {
     if edge.m_one_sided {
         return smoothed(edge, edge1, edge_axis, axis);
     }
     axis
+}
+
+// The whole search, in the wall's frame, to which xf carries the outline; edge1 is the wall's direction. The outline's
+// faces are looked at only where the wall's own sides do not keep it off. Its corners in the wall's frame are left in
+// the rows xs and ys, and where it is not apart its normals in nxs and nys.
+pub fn edge_polygon_axis(
+    radius: f32,
+    edge: B2edgeShape,
+    edge1: B2vec2,
+    xf: B2Transform,
+    polygon: B2polygonShape,
+    xs: &mut [f32; 8],
+    ys: &mut [f32; 8],
+    nxs: &mut [f32; 8],
+    nys: &mut [f32; 8],
+) -> Axis
+    requires { ⌜ (polygon .«m_count» ≤ 8) × (length (now xs) ≡ 8) × (length (now ys) ≡ 8) × (length (now nxs) ≡ 8)
+        × (length (now nys) ≡ 8) ⌝ }
+    ensures { λ r. ⌜ (r ≡ edge-polygon-axis radius edge edge1 xf polygon)
+        × PointRows (placed-corner xf polygon) (polygon .«m_count») (now (xs .exit)) (now (ys .exit))
+        × NormalsUnlessApart r xf polygon (now (nxs .exit)) (now (nys .exit)) ⌝ }
+{
+    let count = polygon.m_count;
+    let n = places::padded(count);
+    let vs = polygon.m_vertices;
+    edge_separation::place_rows(xf, vs, n, xs, ys);
+    let v1 = edge.m_vertex1;
+    let normal1 = B2vec2 {
+        x: edge1.y,
+        y: -edge1.x,
+    };
+    let wall = edge_separation::b2_compute_edge_separation(xs, ys, n, count, v1, normal1);
+    let off = separation_of(wall);
+    if off > radius {
+        return Axis::Apart(off);
+    }
+    let mut faces = [0.0f32; 8];
+    let ns = polygon.m_normals;
+    edge_separation::normal_rows(
+        xf.q,
+        ns,
+        xs,
+        ys,
+        n,
+        edge.m_vertex1,
+        edge.m_vertex2,
+        nxs,
+        nys,
+        &mut faces,
+    );
+    let face = edge_separation::b2_compute_polygon_separation(&faces, nxs, nys, count);
+    smoothed_if(edge, edge1, wall, primary_axis(radius, wall, face))
 }

@@ -9,6 +9,7 @@ ghost use Rattle.contact_definitions.specs.B2CollideCircle.{farther};
 ghost use Rattle.contact_definitions.specs.B2CollideEdge.{over-before, over-after, edge-circle-answer};
 ghost use Rattle.wall_contacts.specs.EdgeCircle.{end-touch, face-touch, touch-answer};
 use collision::manifolds;
+use contact_definitions::b2_collision::B2contactFeatureType;
 use contact_definitions::b2_collision::B2manifold;
 use contact_definitions::b2_collision::B2manifoldType;
 use contact_definitions::b2_collision::ManifoldAnswer;
@@ -177,7 +178,7 @@ pub fn edge_circle_answer(
                     end,
                     centre,
                     i,
-                    0,
+                    B2contactFeatureType::EVertex,
                 ),
                 refusal: refusal::ACCEPTED,
             }
@@ -196,7 +197,7 @@ pub fn edge_circle_answer(
                     a,
                     centre,
                     0,
-                    1,
+                    B2contactFeatureType::EFace,
                 ),
                 refusal: refusal::ACCEPTED,
             }

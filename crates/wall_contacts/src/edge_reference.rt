@@ -5,15 +5,15 @@ ghost use Prim.Native.Nat.{ℕ, _<_, _≤_};
 ghost use lib.ListN.{length};
 ghost use Rattle.floats.specs.declared.b2_math.B2Transform.{B2Transform};
 ghost use Rattle.shape_definitions.specs.declared.b2_polygon_shape.B2polygonShape.{B2polygonShape};
-ghost use Rattle.contact_definitions.specs.Manifold.{contact-id, as-byte};
+ghost use Rattle.contact_definitions.specs.Manifold.{feature-number, contact-id, as-byte};
 ghost use Rattle.contact_definitions.specs.EdgeAxis.{placed-corner, placed-normal};
 ghost use Rattle.contact_definitions.specs.EdgeReference.{face-between, most-against};
 ghost use Rattle.wall_contacts.specs.PlacedRows.{PointRows};
 ghost use Rattle.wall_contacts.specs.Reference.{wall-reference, face-reference};
+use collision::manifolds::contact_id;
 use contact_definitions::b2_collide_edge::B2referenceFace;
 use contact_definitions::b2_collision::B2clipVertex;
-use contact_definitions::b2_collision::B2contactFeature;
-use contact_definitions::b2_collision::B2contactId;
+use contact_definitions::b2_collision::B2contactFeatureType;
 use floats::b2_math;
 use floats::b2_math::B2vec2;
 use shape_ranges::places;
@@ -78,23 +78,23 @@ pub struct Reference {
     pub flip: bool,
 }
 
-fn clip_vertex(v: B2vec2, index_a: usize, index_b: usize, type_a: u8, type_b: u8) -> B2clipVertex
+fn clip_vertex(
+    v: B2vec2,
+    index_a: usize,
+    index_b: usize,
+    type_a: B2contactFeatureType,
+    type_b: B2contactFeatureType,
+) -> B2clipVertex
     ensures { λ r. ⌜ r ≡ record {
       v = v;
-      id = contact-id (as-byte «index_a»)
-          (as-byte «index_b») «type_a» «type_b»;
+      id = contact-id (as-byte «index_a») (as-byte «index_b») (feature-number «type_a») (feature-number «type_b»);
     } ⌝ }
 {
+    let byte_a = (index_a % 256) as u8;
+    let byte_b = (index_b % 256) as u8;
     B2clipVertex {
         v,
-        id: B2contactId {
-            cf: B2contactFeature {
-                index_a: (index_a % 256) as u8,
-                index_b: (index_b % 256) as u8,
-                type_a,
-                type_b,
-            },
-        },
+        id: contact_id(byte_a, byte_b, type_a, type_b),
     }
 }
 
@@ -149,8 +149,20 @@ pub fn reference_a(
     let w2 = row_point(xs, ys, i2);
     Reference {
         face: face_between(0, 1, v1, v2, normal, b2_math::b2_neg(edge1), edge1),
-        a: clip_vertex(w1, 0, i1, 1, 0),
-        b: clip_vertex(w2, 0, i2, 1, 0),
+        a: clip_vertex(
+            w1,
+            0,
+            i1,
+            B2contactFeatureType::EFace,
+            B2contactFeatureType::EVertex,
+        ),
+        b: clip_vertex(
+            w2,
+            0,
+            i2,
+            B2contactFeatureType::EFace,
+            B2contactFeatureType::EVertex,
+        ),
         local_normal: normal,
         local_point: v1,
         flip: false,
@@ -187,8 +199,20 @@ pub fn reference_b(
     };
     Reference {
         face: face_between(i1, i2, w1, w2, normal, side1, b2_math::b2_neg(side1)),
-        a: clip_vertex(v2, 1, i1, 0, 1),
-        b: clip_vertex(v1, 0, i1, 0, 1),
+        a: clip_vertex(
+            v2,
+            1,
+            i1,
+            B2contactFeatureType::EVertex,
+            B2contactFeatureType::EFace,
+        ),
+        b: clip_vertex(
+            v1,
+            0,
+            i1,
+            B2contactFeatureType::EVertex,
+            B2contactFeatureType::EFace,
+        ),
         local_normal,
         local_point,
         flip: true,

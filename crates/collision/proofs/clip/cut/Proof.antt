@@ -13,15 +13,20 @@ b2-scale-requires c κs = search needs
 b2-add-requires : tie.Need-b2-add-requires
 b2-add-requires c κs = search needs
 
-cast-t12 : tie.Need-cast-t12
-cast-t12 c = search needs
+cast-index-a : tie.Need-cast-index-a
+cast-index-a c = search needs
+
+contact-id-requires : tie.Need-contact-id-requires
+contact-id-requires c κs = search needs
 
 returns : tie.Need-returns
 unfolding crossing
 returns c =
-    let b2-scale = c .before .b2-scale in
-    let b2-sub = c .before .before .b2-sub in
-    simp (c .b2-add .ensures, b2-scale .ensures, b2-sub .ensures)
+    let b2-add = c .before .b2-add in
+    let b2-scale = c .before .before .b2-scale in
+    let b2-sub = c .before .before .before .b2-sub in
+    simp (c .contact-id .ensures, b2-add .ensures, b2-scale .ensures, b2-sub .ensures)
 
 pub cut-spec : {M : Type 1} → statement M
-cut-spec = tie.close (tie.spec b2-sub-requires b2-scale-requires b2-add-requires cast-t12 returns)
+cut-spec =
+    tie.close (tie.spec b2-sub-requires b2-scale-requires b2-add-requires cast-index-a contact-id-requires returns)

@@ -1,10 +1,13 @@
--- Behind the wall, kept off by it, or by the axis found. Assumes nothing.
-use mathlib.Core.Path.{_≡_, refl, sym, _∙_, ap}
-use lib.Ieee.{lt}
+-- Behind the wall, or by the axis found. Assumes nothing.
+use mathlib.Core.Path.{_≡_, sym, _∙_, ap, subst}
+use lib.Ieee.{binary32, add}
 use Rattle.floats.specs.B2Math.{b2-sub, b2-normalize}
-use Rattle.contact_definitions.specs.EdgeAxis.{right-of, b2-compute-edge-separation}
 use Rattle.floats.specs.Unit.{unit-scale}
-use Rattle.wall_contacts.proofs.Manifolds.{corners-placed, kept-off, none-behind, in-front}
+use Rattle.contact_definitions.specs.Manifold.{with-count}
+use Rattle.contact_definitions.specs.EdgeReference.{edge-manifold-on}
+use Rattle.wall_contacts.specs.AxisParts.{place-below}
+use Rattle.wall_contacts.proofs.FacePlaces.{axis-place}
+use Rattle.wall_contacts.proofs.Manifolds.{none-behind, in-front}
 use borrow.Author.Needs.{needs}
 use Rattle.wall_contacts.proofs.b2_collide_edge.edge_polygon_manifold.Statement.{statement}
 use Rattle.wall_contacts.proofs.b2_collide_edge.edge_polygon_manifold.Tie as tie
@@ -13,9 +16,7 @@ b2-sub-requires : tie.Need-b2-sub-requires
 b2-sub-requires c κs = search needs
 
 scaled-requires : tie.Need-scaled-requires
-scaled-requires c κs =
-    let pre′ = c .before .before .pre in
-    pre′ .2 ∙ ap unit-scale (sym (c .b2-sub .ensures))
+scaled-requires c κs = c .before .pre .2 ∙ ap unit-scale (sym (c .b2-sub .ensures))
 
 centroid-behind-requires : tie.Need-centroid-behind-requires
 centroid-behind-requires c κs = search needs
@@ -24,94 +25,55 @@ no-points-requires : tie.Need-no-points-requires
 no-points-requires c κs = search needs
 
 abbrev start-of : tie.After-scaled → tie.Start
-start-of c = c .before .before .before
+start-of w = w .before .before
 
-abbrev scaled-of : tie.After-b2-compute-edge-separation → tie.After-scaled
-scaled-of c = c .before .before .before .before .before .before .before .before .before .before .before .before .before
+abbrev scaled-of : tie.After-centroid-behind → tie.After-scaled
+scaled-of w = w .before .before
 
-edge1-is : (c : tie.After-scaled)
-    → c .scaled .result
-    ≡ b2-normalize (b2-sub (start-of c .args .edge .«m_vertex2») (start-of c .args .edge .«m_vertex1»)) .v
-edge1-is c = c .scaled .ensures ∙ ap (λ e. b2-normalize e .v) (c .before .b2-sub .ensures)
-
-wall-is : (c : tie.After-b2-compute-edge-separation)
-    → c .b2-compute-edge-separation .result
-    ≡ b2-compute-edge-separation (start-of (scaled-of c) .args .xf) (start-of (scaled-of c) .args .polygon)
-    (start-of (scaled-of c) .args .edge .«m_vertex1») (right-of (scaled-of c .scaled .result))
-unfolding right-of
-wall-is c =
-    let args = start-of (scaled-of c) .args in
-    let rows = c .before .before .before .before .before .place-rows .ensures in
-    c .b2-compute-edge-separation .ensures (args .xf) (args .polygon) refl
-    (corners-placed (args .xf) (args .polygon) rows)
+edge1-is : (w : tie.After-scaled)
+    → w .scaled .result
+    ≡ b2-normalize (b2-sub (start-of w .args .edge .«m_vertex2») (start-of w .args .edge .«m_vertex1»)) .v
+edge1-is w = w .scaled .ensures ∙ ap (λ e. b2-normalize e .v) (w .before .b2-sub .ensures)
 
 returns : tie.Need-returns
 returns c =
-    let if1′ = c .before .if1 in
-    let centroid-behind′ = c .before .before .centroid-behind in
-    let args′ = c .before .before .before .before .before .before .before .args in
-    none-behind (args′ .m) (args′ .edge) _ (args′ .xf) (args′ .polygon) _
-    (edge1-is (c .before .before .before .before)) (centroid-behind′ .ensures) _ (if1′ .taken) (c .no-points .ensures)
+    let side = c .before .before in
+    let args = start-of (scaled-of side) .args in
+    none-behind (args .m) (args .edge) _ (args .xf) (args .polygon) _ (edge1-is (scaled-of side))
+    (side .centroid-behind .ensures) _ (c .before .if1 .taken) (c .no-points .ensures)
 
-padded-requires : tie.Need-padded-requires
-padded-requires c κs = search needs
+edge-polygon-axis-requires : tie.Need-edge-polygon-axis-requires
+edge-polygon-axis-requires c κs = search needs
 
-place-rows-requires : tie.Need-place-rows-requires
-place-rows-requires c κs = search needs
+abbrev in-front-of : tie.After-edge-polygon-axis → tie.Else1
+in-front-of w = w .before .before .before .before .before .before .before
 
-b2-compute-edge-separation-requires : tie.Need-b2-compute-edge-separation-requires
-b2-compute-edge-separation-requires c κs = search needs
-
-separation-of-requires : tie.Need-separation-of-requires
-separation-of-requires c κs = search needs
-
-no-points-requires-2 : tie.Need-no-points-requires-2
-no-points-requires-2 c κs = search needs
+edge-manifold-on-requires : tie.Need-edge-manifold-on-requires
+edge-manifold-on-requires c κs =
+    let axis = c .before .before .before .before in
+    let start = start-of (scaled-of (in-front-of axis .before)) in
+    let found = axis .edge-polygon-axis .ensures in
+    let args = start .args in (
+      start .pre .0,
+      start .pre .1,
+      subst (place-below (args .polygon .«m_count»)) (sym (found .0))
+          (axis-place (args .xf) (args .polygon) _ (args .edge) _ (start .pre .0)),
+      found .1,
+      found .2,
+    )
 
 returns-2 : tie.Need-returns-2
 returns-2 c =
-    let if2′ = c .before .if2 in
-    let separation-of′ = c .before .before .separation-of in
-    let earlier = c .before .before .before .before .before .before in
-    let earlier2 = earlier .before .before .before .before .before .before .before in
-    let if1′ = earlier2 .if1 in
-    let centroid-behind′ = earlier2 .before .centroid-behind in
-    let args′ = earlier2 .before .before .before .before .before .before .args in
-    let apart = sym (ap (lt _) (separation-of′ .ensures)) ∙ if2′ .taken in
-    in-front (args′ .m) (args′ .edge) _ (args′ .xf) (args′ .polygon) _ (edge1-is (earlier2 .before .before .before))
-    (centroid-behind′ .ensures) _ (if1′ .left)
-    (c .no-points2 .ensures ∙ sym (kept-off (args′ .edge) _ (args′ .xf) (args′ .polygon) _ _ _
-    (wall-is (c .before .before .before)) apart))
-
-with-faces-requires : tie.Need-with-faces-requires
-with-faces-requires c κs =
-    let if2′ = c .before .before .if2 in
-    let separation-of′ = c .before .before .before .separation-of in
-    let earlier = c .before .before .before .before .before .before .before .before .before in
-    let place-rows′ = earlier .place-rows in
-    let padded′ = earlier .before .before .before .before .padded in
-    let earlier2 = earlier .before .before .before .before .before .before .before .before .before .before .before in
-    let pre′ = earlier2 .pre in
-    let args′ = earlier2 .args in
-    let apart = sym (ap (lt _) (separation-of′ .ensures)) ∙ if2′ .left in (
-      pre′ .0,
-      padded′ .ensures .0,
-      padded′ .ensures .1,
-      wall-is
-          (c .before .before .before .before),
-      apart,
-      corners-placed (args′ .xf) (args′ .polygon) (place-rows′ .ensures),
-    )
-
-returns-3 : tie.Need-returns-3
-returns-3 c =
-    let earlier = c .before .before .before .before .before .before .before in
-    let earlier2 = earlier .before .before .before .before .before .before .before .before in
-    let if1′ = earlier2 .if1 in
-    let centroid-behind′ = earlier2 .before .centroid-behind in
-    let args′ = earlier2 .before .before .before .before .before .before .args in
-    in-front (args′ .m) (args′ .edge) _ (args′ .xf) (args′ .polygon) _ (edge1-is (earlier2 .before .before .before))
-    (centroid-behind′ .ensures) _ (if1′ .left) (c .with-faces .ensures)
+    let axis = c .before .before .before .before .before in
+    let front = in-front-of axis in
+    let scaled = scaled-of (front .before) in
+    let args = start-of scaled .args in
+    let total = add binary32 (args .polygon .«m_radius») (args .edge .«m_radius») in
+    in-front (args .m) (args .edge) _ (args .xf) (args .polygon) _ (edge1-is scaled)
+    (front .before .centroid-behind .ensures) _ (front .if1 .left)
+    (c .edge-manifold-on .ensures
+    ∙ ap (λ found. edge-manifold-on found (with-count (args .m) 0) (args .edge) (scaled .scaled .result) (args .xf)
+    (args .polygon) total) (axis .edge-polygon-axis .ensures .0))
 
 pub edge-polygon-manifold-spec : {M : Type 1} → statement M
 edge-polygon-manifold-spec =
@@ -122,11 +84,6 @@ edge-polygon-manifold-spec =
     centroid-behind-requires
     no-points-requires
     returns
-    padded-requires
-    place-rows-requires
-    b2-compute-edge-separation-requires
-    separation-of-requires
-    no-points-requires-2
-    returns-2
-    with-faces-requires
-    returns-3)
+    edge-polygon-axis-requires
+    edge-manifold-on-requires
+    returns-2)

@@ -9,7 +9,7 @@ use Rattle.wall_contacts.specs.declared.edge_reference.Reference.{Refere
 use Rattle.contact_definitions.specs.EdgeReference.{edge-manifold-on}
 use Rattle.contact_definitions.specs.Manifold.{with-count}
 use Rattle.wall_contacts.specs.Reference.{reference-manifold}
-use Rattle.wall_contacts.specs.AxisParts.{place-below}
+use Rattle.wall_contacts.specs.AxisParts.{is-apart, place-below}
 use Rattle.wall_contacts.proofs.References.{on-wall, on-face-read}
 use borrow.Author.Needs.{needs}
 use Rattle.wall_contacts.proofs.edge_manifold.edge_manifold_on.Statement.{statement}
@@ -38,7 +38,9 @@ enum-known-axis-2 : tie.Need-enum-known-axis-2
 enum-known-axis-2 c = search needs
 
 reference-a-requires : tie.Need-reference-a-requires
-reference-a-requires c κs = search needs
+reference-a-requires c κs =
+    let pre′ = c .before .before .before .before .before .pre in
+    (pre′ .0, pre′ .1, pre′ .4 .x-size, pre′ .4 .y-size, pre′ .3 .x .size, pre′ .3 .y .size)
 
 enum-known-axis-3 : tie.Need-enum-known-axis-3
 enum-known-axis-3 c = search needs
@@ -81,7 +83,7 @@ reference-b-requires c κs =
     let args′ = c .before .before .before .before .before .before .before .before .before .args in
     let pre′ = c .before .before .before .before .before .before .before .before .before .pre in
     let below = subst (place-below (args′ .polygon .«m_count»)) (axis3′ .given .1) (pre′ .2) in
-    (below, pre′ .1, pre′ .4 .x .size, pre′ .4 .y .size, pre′ .3 .x .size, pre′ .3 .y .size)
+    (below, pre′ .1, pre′ .4 .x-size, pre′ .4 .y-size, pre′ .3 .x .size, pre′ .3 .y .size)
 
 reference-manifold-requires : tie.Need-reference-manifold-requires
 reference-manifold-requires c κs = search needs
@@ -100,12 +102,14 @@ returns-2 c =
     (args .xf) (args .polygon) (args .radius) in
     ⊎-elim
     (λ w.
-    c .reference-manifold .ensures ∙ ap made (w .4 ∙ w .3 .ensures (args .xf) (args .polygon) refl (pre .3) (pre .4))
+    let normals = pre .4 .rows (ap is-apart (w .1 .given .1)) in
+    c .reference-manifold .ensures ∙ ap made (w .4 ∙ w .3 .ensures (args .xf) (args .polygon) refl (pre .3) normals)
     ∙ on-wall (args .m) (args .edge) (args .xf) (args .polygon) (args .radius) (args .edge1) _
     ∙ ap on (sym (w .1 .given .1)))
     (λ w.
     let below = subst (place-below (args .polygon .«m_count»)) (w .1 .given .1) (pre .2) in
-    c .reference-manifold .ensures ∙ ap made (w .8 ∙ w .7 .ensures (args .xf) (args .polygon) refl (pre .3) (pre .4))
+    let normals = pre .4 .rows (ap is-apart (w .1 .given .1)) in
+    c .reference-manifold .ensures ∙ ap made (w .8 ∙ w .7 .ensures (args .xf) (args .polygon) refl (pre .3) normals)
     ∙ on-face-read (args .m) (args .edge) (args .xf) (args .polygon) (args .radius) _ _ _ (omega arith) (two .1)
     (two .0)
     ∙ ap on (sym (w .1 .given .1)))
