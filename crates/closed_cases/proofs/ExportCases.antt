@@ -40,8 +40,8 @@ use Rattle.record_definitions.specs.World.{blank-body, circle-body, outline-bod
 use Rattle.record_definitions.specs.World.{forget-below}
 use Rattle.record_definitions.specs.Touch.{meet-circle, meet-outline, meet, skin, world-points, touches-after}
 use Rattle.record_definitions.specs.Touch.{states-of, touch-of, tested-as, tested}
-use Rattle.record_definitions.specs.Frame.{frame-length, well-formed, circle-change, outline-change, place-change}
-use Rattle.record_definitions.specs.Frame.{listed, test-refusal, test-change, change-of-kind, change}
+use Rattle.record_definitions.specs.Frame.{frame-length, well-formed, frame-refusal, circle-change, outline-change}
+use Rattle.record_definitions.specs.Frame.{place-change, listed, test-refusal, test-change, change-of-kind, change}
 use Rattle.record_definitions.specs.Answer.{head-bytes, point-bytes, touch-bytes}
 use Rattle.record_definitions.specs.Step.{change-in, changed, after-frame, said-of-frame}
 use Rattle.record_definitions.specs.Export.{last-said, in-order, export-said, export-number, export-output}
@@ -100,13 +100,13 @@ unfolding neg add sub mul div le lt eq ofBits toBits root-digits whole-root roun
     with-local-point with-count with-one-point counted-points same-id id-among ids-of ids-in point-state
     states-of-ids points-in-range manifold-in-range b2-world-manifold-initialize blank-body circle-body placed
     fresh-pair fresh-world forget-below meet-circle meet skin world-points touches-after states-of touch-of tested-as
-    tested frame-length well-formed circle-change place-change listed test-refusal test-change change-of-kind change
-    head-bytes point-bytes touch-bytes change-in changed after-frame said-of-frame too-near welded comes-before start
-    closer next row edges long-enough fan b2-min outline-of-corners outline-of-welded b2-polygon-shape-set
-    polygon-in-range normal-in-range points-at outline-body outline-change meet-outline b2-cross-vec-by-scalar
-    b2-cross b2-mul-t-rot b2-mul-t-rot-by-vec2 b2-mul-t-transform-by-vec2 b2-mul-t-transform face-separation
-    b2-find-max-separation axis-of polygons-axis incident-place incident-end b2-find-incident-edge local-tangent
-    face-middle face-along outline-face within-skins outline-point outline-manifold polygons-manifold
+    tested frame-length well-formed frame-refusal circle-change place-change listed test-refusal test-change
+    change-of-kind change head-bytes point-bytes touch-bytes change-in changed after-frame said-of-frame too-near
+    welded comes-before start closer next row edges long-enough fan b2-min outline-of-corners outline-of-welded
+    b2-polygon-shape-set polygon-in-range normal-in-range points-at outline-body outline-change meet-outline
+    b2-cross-vec-by-scalar b2-cross b2-mul-t-rot b2-mul-t-rot-by-vec2 b2-mul-t-transform-by-vec2 b2-mul-t-transform
+    face-separation b2-find-max-separation axis-of polygons-axis incident-place incident-end b2-find-incident-edge
+    local-tangent face-middle face-along outline-face within-skins outline-point outline-manifold polygons-manifold
     b2-collide-polygons circle-separation circle-at-corner circle-at-face circle-at-best polygon-circle-manifold
     b2-collide-polygon-and-circle clip-distance crossing clipped-by clipped clip-in-range b2-clip-segment-to-line
     clipped-to-sides only points-from with-points manifold-of-ends some-below least first-greatest first-least

@@ -15,7 +15,7 @@ use Rattle.record_definitions.specs.Frame.{frame-length}
 use Rattle.record_definitions.specs.Export.{in-order}
 use Rattle.record_definitions.specs.ExportLaws.{accepted-lines, FirstRefused, program-output}
 use Rattle.record_definitions.proofs.Heats.{Runs, bytes-of}
-use Rattle.record_definitions.proofs.Sound.{both}
+use Rattle.record_definitions.proofs.Changes.{both}
 use Rattle.record_definitions.proofs.ExportTheorem.{export-prints}
 use Rattle.closed_cases.proofs.ExportCases.{export-cases}
 

@@ -39,8 +39,8 @@ use Rattle.record_definitions.specs.World.{blank-body, circle-body, outline-bod
 use Rattle.record_definitions.specs.World.{forget-below}
 use Rattle.record_definitions.specs.Touch.{meet-circle, meet-outline, meet, skin, world-points, touches-after}
 use Rattle.record_definitions.specs.Touch.{states-of, touch-of, tested-as, tested}
-use Rattle.record_definitions.specs.Frame.{frame-length, well-formed, circle-change, outline-change, place-change}
-use Rattle.record_definitions.specs.Frame.{listed, test-refusal, test-change, change-of-kind, change}
+use Rattle.record_definitions.specs.Frame.{frame-length, well-formed, frame-refusal, circle-change, outline-change}
+use Rattle.record_definitions.specs.Frame.{place-change, listed, test-refusal, test-change, change-of-kind, change}
 use Rattle.record_definitions.specs.Answer.{head-bytes, point-bytes, touch-bytes}
 use Rattle.record_definitions.specs.Step.{change-in, changed, after-frame, said-of-frame}
 use Rattle.record_definitions.specs.Touches.{lines-from, printed-lines, touches}
@@ -101,7 +101,7 @@ unfolding neg add sub mul div le lt eq ofBits toBits root-digits whole-root roun
     circle-in-range farther with-local-point with-count with-one-point counted-points same-id id-among ids-of ids-in
     point-state states-of-ids points-in-range manifold-in-range b2-world-manifold-initialize blank-body circle-body
     placed fresh-pair fresh-world forget-below meet-circle meet skin world-points touches-after states-of touch-of
-    tested-as tested frame-length well-formed circle-change place-change listed test-refusal test-change
+    tested-as tested frame-length well-formed frame-refusal circle-change place-change listed test-refusal test-change
     change-of-kind change head-bytes point-bytes touch-bytes change-in changed after-frame said-of-frame lines-from
     printed-lines touches too-near welded comes-before start closer next row edges long-enough fan b2-min
     outline-of-corners outline-of-welded b2-polygon-shape-set polygon-in-range normal-in-range points-at outline-body

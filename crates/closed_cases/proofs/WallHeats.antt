@@ -32,16 +32,6 @@ use Rattle.contact_definitions.specs.PointStates.{same-id, id-among, ids-of, id
 use Rattle.contact_definitions.specs.WorldManifold.{on-face, on-other, plane-separation, plane-middle, carried-points}
 use Rattle.contact_definitions.specs.WorldManifold.{world-of-face, points-in-range, manifold-in-range}
 use Rattle.contact_definitions.specs.WorldManifold.{b2-world-manifold-initialize}
-use Rattle.record_definitions.specs.World.{blank-body, circle-body, outline-body, wall-body, placed, fresh-pair}
-use Rattle.record_definitions.specs.World.{fresh-world, forget-below}
-use Rattle.record_definitions.specs.Touch.{meet-circle, meet-outline, meet, skin, world-points, touches-after}
-use Rattle.record_definitions.specs.Touch.{states-of, touch-of, tested-as, tested}
-use Rattle.record_definitions.specs.Frame.{frame-length, well-formed, circle-change, outline-change, wall-at}
-use Rattle.record_definitions.specs.Frame.{wall-change, place-change, listed, test-refusal, test-change}
-use Rattle.record_definitions.specs.Frame.{change-of-kind, change}
-use Rattle.record_definitions.specs.Answer.{head-bytes, point-bytes, touch-bytes}
-use Rattle.record_definitions.specs.Step.{change-in, changed, after-frame, said-of-frame}
-use Rattle.record_definitions.specs.Touches.{lines-from, printed-lines, touches}
 use Rattle.contact_definitions.specs.EdgeAxis.{placed-corner, placed-normal, right-of, side-axis}
 use Rattle.contact_definitions.specs.EdgeAxis.{b2-compute-edge-separation, outline-axis, b2-compute-polygon-separation}
 use Rattle.contact_definitions.specs.EdgeAxis.{clearly-above, primary-axis, region-before, region-after, gauss-region}
@@ -49,6 +39,16 @@ use Rattle.contact_definitions.specs.EdgeAxis.{smoothed, edge-polygon-axis}
 use Rattle.contact_definitions.specs.EdgeReference.{face-between, within-radius, most-against, outline-end}
 use Rattle.contact_definitions.specs.EdgeReference.{outline-edge, point-in-frame, wall-manifold, wall-edge}
 use Rattle.contact_definitions.specs.EdgeReference.{point-as-it-is, placed-face, face-manifold}
+use Rattle.record_definitions.specs.World.{blank-body, circle-body, outline-body, wall-body, placed, fresh-pair}
+use Rattle.record_definitions.specs.World.{fresh-world, forget-below}
+use Rattle.record_definitions.specs.Touch.{meet-circle, meet-outline, meet, skin, world-points, touches-after}
+use Rattle.record_definitions.specs.Touch.{states-of, touch-of, tested-as, tested}
+use Rattle.record_definitions.specs.Frame.{frame-length, well-formed, frame-refusal, circle-change, outline-change}
+use Rattle.record_definitions.specs.Frame.{wall-at, wall-change, place-change, listed, test-refusal, test-change}
+use Rattle.record_definitions.specs.Frame.{change-of-kind, change}
+use Rattle.record_definitions.specs.Answer.{head-bytes, point-bytes, touch-bytes}
+use Rattle.record_definitions.specs.Step.{change-in, changed, after-frame, said-of-frame}
+use Rattle.record_definitions.specs.Touches.{lines-from, printed-lines, touches}
 use Rattle.record_definitions.proofs.Heats.{Runs}
 
 pub record WallHeats : Type 0 where
@@ -115,7 +115,7 @@ unfolding neg add sub mul div le lt eq ofBits toBits root-digits whole-root roun
     circle-in-range farther with-local-point with-count with-one-point counted-points same-id id-among ids-of ids-in
     point-state states-of-ids points-in-range manifold-in-range b2-world-manifold-initialize blank-body circle-body
     placed fresh-pair fresh-world forget-below meet-circle meet skin world-points touches-after states-of touch-of
-    tested-as tested frame-length well-formed circle-change place-change listed test-refusal test-change
+    tested-as tested frame-length well-formed frame-refusal circle-change place-change listed test-refusal test-change
     change-of-kind change head-bytes point-bytes touch-bytes change-in changed after-frame said-of-frame lines-from
     printed-lines touches too-near welded comes-before start closer next row edges long-enough fan b2-min
     outline-of-corners outline-of-welded b2-polygon-shape-set polygon-in-range normal-in-range points-at outline-body

@@ -5,12 +5,12 @@ use mathlib.Core.Path.{_≡_, refl}
 use mathlib.Core.Bool.{Bool, true, false, not, cond}
 use mathlib.Core.List.{List}
 use native.Mathlib.Omega.{arith}
-use lib.Dec.{eqb, ltb}
+use lib.Dec.{eqb}
 use Rattle.floats.specs.Ranges.{transform-in-range}
 use Rattle.lines.specs.Fields.{byte-at, points-at, placement-at}
 use Rattle.shape_definitions.specs.Circle.{circle-in-range}
 use Rattle.shape_definitions.specs.Polygon.{b2-polygon-shape-set}
-use Rattle.shape_definitions.specs.Refusal.{accepted, malformed-frame, unknown-id}
+use Rattle.shape_definitions.specs.Refusal.{accepted}
 use Rattle.contact_definitions.specs.PointStates.{ids-of}
 use Rattle.record_definitions.specs.declared.world.Body.{Body}
 use Rattle.record_definitions.specs.declared.world.Pair.{Pair}
@@ -18,11 +18,11 @@ use Rattle.record_definitions.specs.declared.touch.Touch.{Touch}
 use Rattle.record_definitions.specs.declared.frame.Answer.the-variants.{Accepted, Tested}
 use Rattle.record_definitions.specs.declared.frame.Change.{Change}
 use Rattle.record_definitions.specs.World.{no-body, blank-outline}
-use Rattle.record_definitions.specs.Touch.{meet, largest-count, touches-after, states-of, touch-of}
-use Rattle.record_definitions.specs.Touch.{tested-as, tested}
-use Rattle.record_definitions.specs.Frame.{well-formed, largest-id, refused, circle-at, circle-change}
-use Rattle.record_definitions.specs.Frame.{outline-change, wall-at, wall-change, place-change, test-refusal}
-use Rattle.record_definitions.specs.Frame.{test-change, change-of-kind, change}
+use Rattle.record_definitions.specs.Touch.{meet, largest-count, touches-after, states-of, touch-of, tested-as}
+use Rattle.record_definitions.specs.Touch.{tested}
+use Rattle.record_definitions.specs.Frame.{frame-refusal, refused, circle-at, circle-change, outline-change}
+use Rattle.record_definitions.specs.Frame.{wall-at, wall-change, place-change, test-refusal, test-change}
+use Rattle.record_definitions.specs.Frame.{change-of-kind, change}
 use Rattle.record_definitions.proofs.States.{repeated-adds-none}
 
 -- ---- whether a test answers does not hang on the pair
@@ -101,10 +101,8 @@ module _ (a b : Body) (pair pair′ : Pair) (bytes : List ℕ) where
       ≡ Tested (tested (byte-at bytes 1) (byte-at bytes 2) a b pair′ .touch)
   unfolding change Again
   change-again =
-      either-again (not (well-formed bytes)) _ _ _ _
-      (refused-again malformed-frame (refused malformed-frame a pair′))
-      (either-again (ltb largest-id (byte-at bytes 1)) _ _ _ _
-      (refused-again unknown-id (refused unknown-id a pair′)) (kind-again (byte-at bytes 0)))
+      either-again (eqb (frame-refusal bytes) accepted) _ _ _ _ (kind-again (byte-at bytes 0))
+      (refused-again (frame-refusal bytes) (refused (frame-refusal bytes) a pair′))
 
 -- ---- and it counts nothing more
 held-again : (n limit : ℕ) → min (min n limit + 0) limit ≡ min n limit

@@ -2,32 +2,27 @@
 -- (`change-alone`). Assumes nothing.
 use Prim.Native.Nat.{ℕ}
 use mathlib.Core.Path.{_≡_, refl}
-use mathlib.Core.Bool.{Bool, true, false, not, cond, false≢true}
+use mathlib.Core.Bool.{Bool, true, false, not, cond}
 use mathlib.Core.List.{List}
-use lib.Dec.{eqb, ltb}
-use borrow.Author.Tests.{eq-eqb, ne-eqb}
+use lib.Dec.{eqb}
+use borrow.Author.Tests.{eqb-true}
 use Rattle.floats.specs.Ranges.{transform-in-range}
 use Rattle.lines.specs.Fields.{byte-at, points-at, placement-at}
 use Rattle.shape_definitions.specs.Circle.{circle-in-range}
 use Rattle.shape_definitions.specs.Polygon.{b2-polygon-shape-set}
-use Rattle.shape_definitions.specs.Refusal.{accepted, shape-out-of-range, placement-out-of-range}
-use Rattle.shape_definitions.specs.Refusal.{unknown-id, no-shape}
+use Rattle.shape_definitions.specs.Refusal.{accepted, shape-out-of-range, placement-out-of-range, no-shape}
 use Rattle.record_definitions.specs.declared.world.Body.{Body}
 use Rattle.record_definitions.specs.declared.world.Pair.{Pair}
 use Rattle.record_definitions.specs.declared.frame.Change.{Change}
 use Rattle.record_definitions.specs.World.{no-body, blank-outline, circle-body, outline-body, wall-body, placed}
-use Rattle.record_definitions.specs.Frame.{frame-length, well-formed, largest-id, refused, defined, moved}
-use Rattle.record_definitions.specs.Frame.{circle-at, circle-change, outline-change, wall-at}
-use Rattle.record_definitions.specs.Frame.{wall-change, place-change, change-of-kind, change}
+use Rattle.record_definitions.specs.Frame.{frame-length, frame-refusal, refused, defined, moved, circle-at}
+use Rattle.record_definitions.specs.Frame.{circle-change, outline-change, wall-at, wall-change, place-change}
+use Rattle.record_definitions.specs.Frame.{change-of-kind, change}
+use Rattle.record_definitions.proofs.FrameRefusals.{last-kind, known-kind}
 
 -- ---- one body alone
 abbrev pub with-pair : Pair → Change → Change
 with-pair pair c = record { said = c .said; body = c .body; pair = pair; forget = c .forget }
-
--- a well-formed frame has a length
-sized : (bytes : List ℕ) → well-formed bytes ≡ true → frame-length (byte-at bytes 0) (byte-at bytes 2) ≡ 0 → ⊥
-unfolding well-formed
-sized bytes formed none = false≢true (simp (eq-eqb (frame-length (byte-at bytes 0) (byte-at bytes 2)) 0 none) at formed)
 
 module _ (pair : Pair) where
   either-way : (t : Bool) (x y x′ y′ : Change) → x ≡ with-pair pair x′ → y ≡ with-pair pair y′
@@ -73,26 +68,21 @@ module _ (pair : Pair) where
     unfolding wall-change
     wall-alone = built-alone (wall-at bytes .refusal) (wall-body (wall-at bytes .shape))
 
-    -- the kinds that have a length are 1 to 5
     kind-alone : (kind third : ℕ) → (frame-length kind third ≡ 0 → ⊥) → (kind ≡ 5 → ⊥)
         → change-of-kind kind a b pair bytes ≡ with-pair pair (change-of-kind kind a b′ pair′ bytes)
-    unfolding change-of-kind frame-length
+    unfolding change-of-kind
     kind-alone kind third known no-test =
         by-kind (eqb kind 1) _ _ _ _ (λ one. circle-alone)
         (λ no-1. by-kind (eqb kind 2) _ _ _ _ (λ two. outline-alone)
         (λ no-2. by-kind (eqb kind 3) _ _ _ _ (λ three. wall-alone)
         (λ no-3. by-kind (eqb kind 4) _ _ _ _ (λ four. place-alone)
-        (λ no-4. absurd (known (simp (no-1, no-2, no-3, no-4, ne-eqb kind 5 no-test)))))))
-
-    change-formed : (t : Bool) → well-formed bytes ≡ t → (byte-at bytes 0 ≡ 5 → ⊥)
-        → change a b pair bytes ≡ with-pair pair (change a b′ pair′ bytes)
-    unfolding change
-    change-formed false malformed no-test = rw malformed refl
-    change-formed true formed no-test =
-        let size = frame-length (byte-at bytes 0) (byte-at bytes 2) in
-        rw formed
-        (either-way (ltb largest-id (byte-at bytes 1)) (refused unknown-id a pair) _ (refused unknown-id a pair′) _ refl
-        (kind-alone (byte-at bytes 0) (byte-at bytes 2) (sized bytes formed) no-test))
+        (λ no-4. absurd (no-test (last-kind kind third known no-1 no-2 no-3 no-4))))))
 
     pub change-alone : (byte-at bytes 0 ≡ 5 → ⊥) → change a b pair bytes ≡ with-pair pair (change a b′ pair′ bytes)
-    change-alone no-test = change-formed (well-formed bytes) refl no-test
+    unfolding change
+    change-alone no-test =
+        let number = frame-refusal bytes in
+        by-kind (eqb number accepted) _ (refused number a pair) _ (refused number a pair′)
+        (λ taken. kind-alone (byte-at bytes 0) (byte-at bytes 2)
+        (known-kind bytes (eqb-true number accepted taken)) no-test)
+        (λ not-taken. refl)

@@ -17,8 +17,8 @@ use Rattle.floats.specs.B2Common.{b2-epsilon}
 use Rattle.shape_definitions.specs.declared.b2_polygon_shape.B2polygonShape.{B2polygonShape}
 use Rattle.shape_definitions.specs.declared.b2_polygon_shape.PolygonAnswer.{PolygonAnswer}
 use Rattle.shape_definitions.specs.Outline.{welded, next, start, row, point-at, edges, long-enough, fan}
-use Rattle.shape_definitions.specs.Polygon.{b2-polygon-shape-set, outline-of-welded, outline-of-row}
-use Rattle.shape_definitions.specs.Polygon.{outline-of-corners, refused, all-points}
+use Rattle.shape_definitions.specs.Polygon.{b2-polygon-shape-set, outline-of-welded, outline-of-row, outline-of-corners}
+use Rattle.shape_definitions.specs.Polygon.{refused, all-points}
 use Rattle.shape_definitions.specs.Refusal.{accepted}
 use Rattle.contact_definitions.proofs.Counts.{either}
 use Rattle.record_definitions.proofs.Changes.{by-choice}

@@ -2,12 +2,13 @@
 -- answers leaves the body and keeps the pair that `tested` says. Assumes nothing.
 use Prim.Native.Nat.{ℕ, _≤_}
 use mathlib.Core.Path.{_≡_, refl, sym, _∙_, ap}
-use mathlib.Core.Bool.{Bool, true, false, not, cond}
+use mathlib.Core.Bool.{Bool, true, false, not, cond, _&&_, false≢true}
 use mathlib.Core.List.{List}
 use mathlib.Core.Logic.{_⊎_, inl, inr}
 use native.Mathlib.Omega.{arith}
-use lib.Dec.{eqb, ltb}
-use borrow.Author.Tests.{eqb-true, ltb-false}
+use lib.Dec.{eqb}
+use borrow.Author.Tests.{eqb-true, eq-eqb}
+use Rattle.algebra.proofs.Booleans.{by-test}
 use Rattle.floats.specs.Ranges.{transform-in-range}
 use Rattle.lines.specs.Fields.{byte-at, points-at, placement-at}
 use Rattle.shape_definitions.specs.Circle.{circle-in-range}
@@ -21,10 +22,11 @@ use Rattle.record_definitions.specs.declared.frame.Answer.the-variants.{
 use Rattle.record_definitions.specs.declared.frame.Change.{Change}
 use Rattle.record_definitions.specs.World.{no-body, blank-outline}
 use Rattle.record_definitions.specs.Touch.{tested}
-use Rattle.record_definitions.specs.Frame.{well-formed, largest-id, refused, defined, circle-at, circle-change}
-use Rattle.record_definitions.specs.Frame.{outline-change, wall-at, wall-change, place-change}
-use Rattle.record_definitions.specs.Frame.{test-refusal, test-change, change-of-kind, change}
+use Rattle.record_definitions.specs.Frame.{largest-id, frame-refusal, refused, defined, circle-at, circle-change}
+use Rattle.record_definitions.specs.Frame.{outline-change, wall-at, wall-change, place-change, test-refusal}
+use Rattle.record_definitions.specs.Frame.{test-change, change-of-kind, change}
 use Rattle.record_definitions.specs.Export.{answer-refusal, refusal-in}
+use Rattle.record_definitions.proofs.FrameRefusals.{last-kind, known-kind, first-known, second-known}
 
 -- the kinds of frames that define a shape
 abbrev pub NewShape : ℕ → Type 0
@@ -34,6 +36,11 @@ pub by-choice : {A : Type 0} (P : A → Type 0) (test : Bool) (x y : A) → (tes
     → P (cond test x y)
 by-choice P true x y h k = h refl
 by-choice P false x y h k = k refl
+
+pub both : (s t : Bool) → s && t ≡ true → (s ≡ true) × (t ≡ true)
+both true true e = (refl, refl)
+both true false e = absurd (false≢true e)
+both false t e = absurd (false≢true e)
 
 -- what a test that answers t leaves
 pub record WasTested (ida idb : ℕ) (a b : Body) (pair : Pair) (t : Touch) (c : Change) : Type 0 where
@@ -46,26 +53,19 @@ pub record WasTested (ida idb : ℕ) (a b : Body) (pair : Pair) (t : Touch) (c :
 
 module _ (a b : Body) (pair : Pair) (bytes : List ℕ) where
   -- an accepted frame names an id, and is that of its kind
-  by-kind : (t u : Bool) → well-formed bytes ≡ t → ltb largest-id (byte-at bytes 1) ≡ u
-      → refusal-in (change a b pair bytes .said) ≡ accepted
-      → (byte-at bytes 1 ≤ largest-id)
-      × (change a b pair bytes ≡ change-of-kind (byte-at bytes 0) a b pair bytes)
-  unfolding change
-  by-kind false u malformed above taken =
-      let never : _≡_ {A = ℕ} 10 0 = simp malformed at taken in
-      absurd (omega arith)
-  by-kind true true formed above taken =
-      let never : _≡_ {A = ℕ} 11 0 = simp (formed, above) at taken in
-      absurd (omega arith)
-  by-kind true false formed within taken =
-      (omega (arith, ltb-false largest-id (byte-at bytes 1) within), simp (formed, within))
-
   module _ (taken : refusal-in (change a b pair bytes .said) ≡ accepted) where
+    not-refused-alone : frame-refusal bytes ≡ accepted
+    unfolding change
+    not-refused-alone =
+        let number = frame-refusal bytes in
+        by-test (eqb number accepted) (eqb-true number accepted) (λ some. simp some at taken)
+
     pub first-id : byte-at bytes 1 ≤ largest-id
-    first-id = by-kind (well-formed bytes) (ltb largest-id (byte-at bytes 1)) refl refl taken .0
+    first-id = first-known bytes not-refused-alone
 
     pub is-of-kind : change a b pair bytes ≡ change-of-kind (byte-at bytes 0) a b pair bytes
-    is-of-kind = by-kind (well-formed bytes) (ltb largest-id (byte-at bytes 1)) refl refl taken .1
+    unfolding change
+    is-of-kind = simp (eq-eqb (frame-refusal bytes) accepted not-refused-alone)
 
   -- ---- a new shape that is accepted forgets its pairs
   built-forgets : (t : Bool) (n : ℕ) (made : Body)
@@ -106,8 +106,7 @@ module _ (a b : Body) (pair : Pair) (bytes : List ℕ) where
       → (change a b pair bytes .pair ≡ pair) × (change a b pair bytes .forget ≡ false)
   unfolding change change-of-kind
   placing-leaves four =
-      either Leaves (not (well-formed bytes)) _ _ (refl, refl)
-      (either Leaves (ltb largest-id (byte-at bytes 1)) _ _ (refl, refl) (rw four place-leaves))
+      either Leaves (eqb (frame-refusal bytes) accepted) _ _ (rw four place-leaves) (refl, refl)
     where
       Leaves : Change → Type 0
       Leaves c = (c .pair ≡ pair) × (c .forget ≡ false)
@@ -152,18 +151,9 @@ module _ (a b : Body) (pair : Pair) (bytes : List ℕ) where
       (either Answers (not (transform-in-range (placement-at bytes 2))) _ _ (refused-answers _)
       (accepted-answers _ refl))
 
-  -- the second id of a test that nothing speaks against
-  second-within : (ida idb kinda kindb : ℕ) (t : Bool) → ltb largest-id idb ≡ t
-      → test-refusal ida idb kinda kindb ≡ accepted → idb ≤ largest-id
-  unfolding test-refusal
-  second-within ida idb kinda kindb true above none =
-      let never : _≡_ {A = ℕ} 11 0 = simp above at none in
-      absurd (omega arith)
-  second-within ida idb kinda kindb false within none = omega (arith, ltb-false largest-id idb within)
-
-  test-answers : Answers (test-change (byte-at bytes 1) (byte-at bytes 2) a b pair)
+  test-answers : byte-at bytes 2 ≤ largest-id → Answers (test-change (byte-at bytes 1) (byte-at bytes 2) a b pair)
   unfolding test-change Answers
-  test-answers =
+  test-answers known =
       let ida = byte-at bytes 1 in
       let idb = byte-at bytes 2 in
       let number = test-refusal ida idb (a .kind) (b .kind) in
@@ -171,8 +161,7 @@ module _ (a b : Body) (pair : Pair) (bytes : List ℕ) where
       by-choice Answers (eqb number accepted) _ _
       (λ listed-pair. by-choice Answers (eqb (answer .refusal) accepted) _ _
       (λ taken t is. record {
-        second-id = second-within ida idb (a .kind) (b .kind) (ltb largest-id idb) refl
-            (eqb-true number accepted listed-pair);
+        second-id = known;
         not-refused = eqb-true (answer .refusal) accepted taken;
         touch-is = cc;
         pair-is = refl;
@@ -182,16 +171,21 @@ module _ (a b : Body) (pair : Pair) (bytes : List ℕ) where
       (λ not-taken. refused-answers (answer .refusal)))
       (λ not-listed. refused-answers number)
 
-  kind-answers : (kind : ℕ) → Answers (change-of-kind kind a b pair bytes)
+  kind-answers : frame-refusal bytes ≡ accepted → Answers (change-of-kind (byte-at bytes 0) a b pair bytes)
   unfolding change-of-kind
-  kind-answers kind =
-      either Answers (eqb kind 1) _ _ circle-answers
-      (either Answers (eqb kind 2) _ _ outline-answers
-      (either Answers (eqb kind 3) _ _ wall-answers (either Answers (eqb kind 4) _ _ place-answers test-answers)))
+  kind-answers taken =
+      let kind = byte-at bytes 0 in
+      by-choice Answers (eqb kind 1) _ _ (λ one. circle-answers)
+      (λ no-1. by-choice Answers (eqb kind 2) _ _ (λ two. outline-answers)
+      (λ no-2. by-choice Answers (eqb kind 3) _ _ (λ three. wall-answers)
+      (λ no-3. by-choice Answers (eqb kind 4) _ _ (λ four. place-answers)
+      (λ no-4. test-answers (second-known bytes taken
+      (last-kind kind (byte-at bytes 2) (known-kind bytes taken) no-1 no-2 no-3 no-4))))))
 
   pub was-tested : (t : Touch) → change a b pair bytes .said .answer ≡ Tested t
       → WasTested (byte-at bytes 1) (byte-at bytes 2) a b pair t (change a b pair bytes)
   unfolding change Answers
   was-tested =
-      either Answers (not (well-formed bytes)) _ _ (refused-answers _)
-      (either Answers (ltb largest-id (byte-at bytes 1)) _ _ (refused-answers _) (kind-answers (byte-at bytes 0)))
+      let number = frame-refusal bytes in
+      by-choice Answers (eqb number accepted) _ _ (λ taken. kind-answers (eqb-true number accepted taken))
+      (λ not-taken. refused-answers number)

@@ -4,7 +4,6 @@
 use mathlib.Core.Path.{_≡_, refl}
 use mathlib.Core.List.{[], _∷_, _++_}
 use lib.ListN.{replicate}
-use Rattle.lines.proofs.Text.{text}
 use lib.Ieee.{neg, add, sub, mul, div, le, lt, eq, ofBits, toBits}
 use Rattle.sqrt.specs.Sqrt.{root-digits, whole-root, rounded-root, sqrt}
 use Rattle.floats.specs.B2Math.{b2-sqrt, b2-add, b2-sub, b2-neg, b2-scale, b2-dot, b2-length-squared, b2-length}
@@ -13,6 +12,7 @@ use Rattle.floats.specs.Ranges.{point-in-range, radius-in-range, rotation-in-ra
 use Rattle.floats.specs.Ranges.{local-normal-in-range, contact-point-in-range}
 use Rattle.lines.specs.Fields.{vector-at, points-at, rotation-at, placement-at}
 use Rattle.lines.specs.Hex.{unhex, frame-of, hex}
+use Rattle.lines.proofs.Text.{text}
 use Rattle.shape_definitions.specs.Circle.{circle-in-range}
 use Rattle.shape_definitions.specs.Polygon.{outline-of-welded, b2-polygon-shape-set}
 use Rattle.shape_definitions.specs.Outline.{too-near, welded}
@@ -25,8 +25,9 @@ use Rattle.record_definitions.specs.World.{blank-body, circle-body, outl
 use Rattle.record_definitions.specs.World.{forget-below}
 use Rattle.record_definitions.specs.Touch.{meet-circle, meet, skin, world-points, touches-after, states-of}
 use Rattle.record_definitions.specs.Touch.{touch-of, tested-as, tested}
-use Rattle.record_definitions.specs.Frame.{frame-length, well-formed, circle-change, outline-change, place-change}
-use Rattle.record_definitions.specs.Frame.{listed, test-refusal, test-change, change-of-kind, change}
+use Rattle.record_definitions.specs.Frame.{frame-length, well-formed, frame-refusal, circle-change}
+use Rattle.record_definitions.specs.Frame.{outline-change, place-change, listed, test-refusal, test-change}
+use Rattle.record_definitions.specs.Frame.{change-of-kind, change}
 use Rattle.record_definitions.specs.Answer.{head-bytes, point-bytes, touch-bytes}
 use Rattle.record_definitions.specs.Step.{change-in, changed, after-frame, said-of-frame}
 use Rattle.record_definitions.specs.Touches.{lines-from, printed-lines, touches}
@@ -158,7 +159,7 @@ unfolding neg add sub mul div le lt eq ofBits toBits root-digits whole-root roun
     circle-in-range farther with-local-point with-count with-one-point counted-points same-id id-among ids-of ids-in
     point-state states-of-ids points-in-range manifold-in-range b2-world-manifold-initialize blank-body circle-body
     placed fresh-pair fresh-world forget-below meet-circle meet skin world-points touches-after states-of touch-of
-    tested-as tested frame-length well-formed circle-change place-change listed test-refusal test-change
+    tested-as tested frame-length well-formed frame-refusal circle-change place-change listed test-refusal test-change
     change-of-kind change head-bytes point-bytes touch-bytes change-in changed after-frame said-of-frame lines-from
     printed-lines touches circles-manifold b2-collide-circles circles-normal world-of-circles outline-change
     outline-body b2-polygon-shape-set outline-of-welded points-at too-near welded

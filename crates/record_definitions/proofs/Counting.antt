@@ -18,8 +18,7 @@ use Rattle.record_definitions.specs.declared.world.Body.{Body}
 use Rattle.record_definitions.specs.declared.world.Pair.{Pair}
 use Rattle.record_definitions.specs.World.{circle-kind, outline-kind}
 use Rattle.record_definitions.specs.Touch.{meet-circle, meet-outline, meet, world-points, refusal-of}
-use Rattle.record_definitions.specs.Touch.{touches-after, states-of, touch-of, tested-as}
-use Rattle.record_definitions.specs.Touch.{tested}
+use Rattle.record_definitions.specs.Touch.{touches-after, states-of, touch-of, tested-as, tested}
 
 -- ---- at most two points
 on-face-few : (answer : ManifoldAnswer) → Accepted OnFace answer → Accepted Few answer

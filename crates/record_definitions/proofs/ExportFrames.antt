@@ -17,7 +17,7 @@ use Rattle.record_definitions.specs.Export.{test-frame, FourFrames, firs
 use Rattle.record_definitions.specs.Export.{second-placement, begin-all, in-order, between}
 use Rattle.record_definitions.specs.ExportLaws.{export-frames}
 use Rattle.record_definitions.proofs.Exported.{length-at-most, four-frames, first-size, second-size}
-use Rattle.record_definitions.proofs.Sound.{both}
+use Rattle.record_definitions.proofs.Changes.{both}
 use Rattle.record_definitions.proofs.ExportLines.{Sendable, AllSendable, in-front, in-rest}
 
 -- ---- a part of the input

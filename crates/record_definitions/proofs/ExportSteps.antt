@@ -11,7 +11,7 @@ use lib.Dec.{eqb, ltb}
 use lib.Ieee.{lt}
 use lib.ListN.{length, getD, set}
 use lib.Seq.{getD-set-same, getD-set-other}
-use borrow.Author.Tests.{eqb-false, le-ltb}
+use borrow.Author.Tests.{eqb-false}
 use Rattle.algebra.proofs.Booleans.{by-test}
 use Rattle.floats.specs.declared.b2_math.B2vec2.{B2vec2}
 use Rattle.floats.specs.B2Common.{b2-epsilon}
@@ -20,8 +20,8 @@ use Rattle.lines.specs.Fields.{byte-at, points-at, placement-at}
 use Rattle.shape_definitions.specs.declared.b2_polygon_shape.B2polygonShape.{B2polygonShape}
 use Rattle.shape_definitions.specs.declared.b2_polygon_shape.PolygonAnswer.{PolygonAnswer}
 use Rattle.shape_definitions.specs.Outline.{welded, row, edges, long-enough, fan}
-use Rattle.shape_definitions.specs.Polygon.{b2-polygon-shape-set, outline-of-welded, outline-of-row}
-use Rattle.shape_definitions.specs.Polygon.{outline-of-corners, all-points}
+use Rattle.shape_definitions.specs.Polygon.{b2-polygon-shape-set, outline-of-welded, outline-of-row, outline-of-corners}
+use Rattle.shape_definitions.specs.Polygon.{all-points}
 use Rattle.shape_definitions.specs.Refusal.{accepted, placement-out-of-range}
 use Rattle.contact_definitions.proofs.Counts.{either}
 use Rattle.record_definitions.specs.declared.world.Body.{Body}
@@ -34,12 +34,13 @@ use Rattle.record_definitions.specs.declared.frame.Change.{Change}
 use Rattle.record_definitions.specs.World.{outline-kind, blank-outline, outline-body, placed, blank-body, body-at}
 use Rattle.record_definitions.specs.World.{pair-at}
 use Rattle.record_definitions.specs.Touch.{tested}
-use Rattle.record_definitions.specs.Frame.{frame-length, well-formed, largest-id, outline-change, place-change}
-use Rattle.record_definitions.specs.Frame.{listed, test-refusal, test-answered, test-change, change-of-kind}
-use Rattle.record_definitions.specs.Frame.{change}
+use Rattle.record_definitions.specs.Frame.{frame-length, well-formed, largest-id, frame-refusal, outline-change}
+use Rattle.record_definitions.specs.Frame.{place-change, listed, test-refusal, test-answered, test-change}
+use Rattle.record_definitions.specs.Frame.{change-of-kind, change}
 use Rattle.record_definitions.specs.Step.{first-place, second-place, changed, change-in, after-frame}
 use Rattle.record_definitions.specs.Step.{said-of-frame}
 use Rattle.record_definitions.specs.Export.{test-frame}
+use Rattle.record_definitions.proofs.FrameRefusals.{not-refused-alone}
 use Rattle.record_definitions.proofs.Pairs.{within-place}
 use Rattle.record_definitions.proofs.Sound.{Sound}
 use Rattle.record_definitions.proofs.ExportFrames.{ExportFrame}
@@ -73,11 +74,12 @@ abbrev Made : (ℕ → Type 0) → Change → Type 0
 Made Number c = OutlineOr Number (c .said .answer) (c .body)
 
 module _ (a b : Body) (pair : Pair) (frame : List ℕ) where
-  of-its-kind : (kind : ℕ) → byte-at frame 0 ≡ kind → byte-at frame 1 ≤ largest-id → well-formed frame ≡ true
-      → change a b pair frame ≡ change-of-kind kind a b pair frame
+  of-its-kind : (kind : ℕ) → byte-at frame 0 ≡ kind → (kind ≡ 5 → ⊥) → byte-at frame 1 ≤ largest-id
+      → well-formed frame ≡ true → change a b pair frame ≡ change-of-kind kind a b pair frame
   unfolding change
-  of-its-kind kind kind-is known formed =
-      rw (formed, le-ltb largest-id (byte-at frame 1) known) (ap (λ (k : ℕ). change-of-kind k a b pair frame) kind-is)
+  of-its-kind kind kind-is no-test known formed =
+      rw (not-refused-alone frame formed known (λ five. no-test (sym kind-is ∙ five)))
+      (ap (λ (k : ℕ). change-of-kind k a b pair frame) kind-is)
 
   outline-made : Made (λ (n : ℕ). n ≤ 5) (outline-change a pair frame)
   unfolding outline-change outline-body
@@ -101,7 +103,7 @@ pub data TestedOr (number : ℕ) (answer : Answer) : Type 0 where
 
 module _ (a b : Body) (pair : Pair) (a-is : a .kind ≡ outline-kind) (b-is : b .kind ≡ outline-kind) where
   test-is : change a b pair test-frame ≡ test-answered a pair (tested 0 1 a b pair)
-  unfolding change change-of-kind well-formed frame-length test-change test-refusal listed
+  unfolding change change-of-kind frame-refusal well-formed frame-length test-change test-refusal listed
   test-is = rw (a-is, b-is) refl
 
   answered : TestedOr (tested 0 1 a b pair .refusal) (test-answered a pair (tested 0 1 a b pair) .said .answer)
@@ -123,22 +125,25 @@ module _ (w : World) (sound : Sound w) (id : ℕ) (known : id ≤ largest-id) (f
     there : first-place frame ≡ id
     there = ap (λ (n : ℕ). n % 8) (given .id-is) ∙ within-place id known
 
-    in-world : change-in w frame ≡ change-of-kind kind (body-at w id) other pair frame
+    in-world : (kind ≡ 5 → ⊥) → change-in w frame ≡ change-of-kind kind (body-at w id) other pair frame
     unfolding change-in
-    in-world =
+    in-world no-test =
         ap (λ (i : ℕ). change (body-at w i) other (pair-at w i (second-place frame)) frame) there
-        ∙ of-its-kind (body-at w id) other pair frame kind (given .kind-is) (rw (given .id-is) known) (given .formed)
+        ∙ of-its-kind (body-at w id) other pair frame kind (given .kind-is) no-test (rw (given .id-is) known)
+        (given .formed)
 
-    said-there : said-of-frame w frame .answer ≡ change-of-kind kind (body-at w id) other pair frame .said .answer
+    said-there : (kind ≡ 5 → ⊥)
+        → said-of-frame w frame .answer ≡ change-of-kind kind (body-at w id) other pair frame .said .answer
     unfolding said-of-frame
-    said-there = ap (λ (c : Change). c .said .answer) in-world
+    said-there no-test = ap (λ (c : Change). c .said .answer) (in-world no-test)
 
-    body-there : body-at (after-frame w frame) id ≡ change-of-kind kind (body-at w id) other pair frame .body
+    body-there : (kind ≡ 5 → ⊥)
+        → body-at (after-frame w frame) id ≡ change-of-kind kind (body-at w id) other pair frame .body
     unfolding after-frame changed
-    body-there =
+    body-there no-test =
         ap (λ (i : ℕ). getD (set (w .bodies) i (change-in w frame .body)) id blank-body) there
         ∙ getD-set-same (w .bodies) id (change-in w frame .body) blank-body (omega (arith, sound .bodies-size))
-        ∙ ap (λ (c : Change). c .body) in-world
+        ∙ ap (λ (c : Change). c .body) (in-world no-test)
 
     pub others-stay : (j : ℕ) → (j ≡ id → ⊥) → body-at (after-frame w frame) j ≡ body-at w j
     unfolding after-frame changed
@@ -152,13 +157,13 @@ module _ (w : World) (sound : Sound w) (id : ℕ) (known : id ≤ largest-id) (f
   pub outline-step : ExportFrame 2 id frame → InWorld (λ (n : ℕ). n ≤ 5)
   unfolding change-of-kind
   outline-step given =
-      rw (said-there 2 given, body-there 2 given) (outline-made (body-at w id) (other 2 given) (pair 2 given) frame)
+      rw (said-there 2 given (λ e. omega arith), body-there 2 given (λ e. omega arith)) (outline-made (body-at w id) (other 2 given) (pair 2 given) frame)
 
   pub place-step : body-at w id .kind ≡ outline-kind → ExportFrame 4 id frame
       → InWorld (λ (n : ℕ). n ≡ placement-out-of-range)
   unfolding change-of-kind
   place-step is given =
-      rw (said-there 4 given, body-there 4 given)
+      rw (said-there 4 given (λ e. omega arith), body-there 4 given (λ e. omega arith))
       (placed-or-not (body-at w id) (other 4 given) (pair 4 given) frame is)
 
 -- outlines under 0 and 1

@@ -2,7 +2,7 @@
 -- Assumes nothing.
 use Prim.Native.Nat.{ℕ, _+_, _-_, _≤_, _<_}
 use mathlib.Core.Path.{_≡_, refl, _∙_, ap}
-use mathlib.Core.Bool.{Bool, true, false, not, _&&_, false≢true}
+use mathlib.Core.Bool.{Bool, true, false, not, _&&_}
 use mathlib.Core.List.{List, [], _∷_}
 use mathlib.Core.Logic.{_⊎_, inl, inr}
 use native.Mathlib.Omega.{arith}
@@ -14,6 +14,7 @@ use Rattle.lines.specs.Buffers.{Put}
 use Rattle.lines.specs.Fields.{byte-at}
 use Rattle.lines.specs.Hex.{largest-frame}
 use Rattle.shape_definitions.specs.Refusal.{contact-out-of-range, malformed-frame}
+use Rattle.record_definitions.specs.declared.frame.Answer.the-variants.{Refused}
 use Rattle.record_definitions.specs.declared.frame.Said.{Said}
 use Rattle.record_definitions.specs.World.{fresh-world}
 use Rattle.record_definitions.specs.Frame.{frame-length, outline-length}
@@ -21,6 +22,7 @@ use Rattle.record_definitions.specs.Answer.{said-bytes, longest-answer}
 use Rattle.record_definitions.specs.Export.{refusal-in, last-said, test-frame, FourFrames, first-placement}
 use Rattle.record_definitions.specs.Export.{second-outline, second-placement, begins, begin-all, in-order}
 use Rattle.record_definitions.specs.Export.{export-said, refusal-base, export-number, export-output}
+use Rattle.record_definitions.proofs.Changes.{both}
 
 -- ---- the length of an outline's frame: none, or 3 to 67
 Size : ℕ → Type 0
@@ -49,12 +51,6 @@ length-at-least third some = either (sizes third)
     either : Size (frame-length 2 third) → 3 ≤ frame-length 2 third
     either (inl none) = absurd (some none)
     either (inr size) = size .0
-
--- ---- a test that is made of tests
-both : (s t : Bool) → s && t ≡ true → (s ≡ true) × (t ≡ true)
-both true true e = (refl, refl)
-both true false e = absurd (false≢true e)
-both false t e = absurd (false≢true e)
 
 -- ---- the kind and the id of a part that begins at a place
 module _ (input : List ℕ) (from size kind id : ℕ) (room : 2 ≤ size) (holds : begins input from kind id ≡ true) where
@@ -165,6 +161,11 @@ module _ (input : List ℕ) (first outline second : ℕ) (first-is : first ≡ f
           let whole : first - 0 ≡ first = omega arith in
           is ∙ rw (ordered, ← second-same, ← outline-same, ← first-is, whole) refl
 
+pub out-of-order : (input : List ℕ) → in-order input ≡ false
+    → record { answer = Refused malformed-frame } ≡ export-said input
+unfolding export-said
+out-of-order input bad = simp bad
+
 -- ---- what is returned, and left
 module _ (input out : List ℕ) where
   pub too-short : length out < longest-answer
@@ -173,14 +174,6 @@ module _ (input out : List ℕ) where
   too-short short = (
     simp (lt-ltb (length out) longest-answer short),
     simp (lt-ltb (length out) longest-answer short),
-  )
-
-  pub out-of-order : longest-answer ≤ length out → in-order input ≡ false
-      → (refusal-base + malformed-frame ≡ export-number input out) × (out ≡ export-output input out)
-  unfolding export-number export-output export-said
-  out-of-order room bad = (
-    simp (le-ltb (length out) longest-answer room, bad),
-    simp (le-ltb (length out) longest-answer room, bad),
   )
 
   module _ (room : longest-answer ≤ length out) (said : Said) (is : said ≡ export-said input) (number : ℕ)

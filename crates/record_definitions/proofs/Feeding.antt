@@ -1,31 +1,21 @@
--- Feeding a piece of input a character at a time: what the loop of `feed` knows after i characters (`SoFar`), one
--- character more, a line feed or another, and what it knows at the end. Assumes nothing.
-use Prim.Native.Nat.{ℕ, zero, suc, _+_, _*_, _-_, _%_, _≤_, _<_}
+-- Feeding a piece of input a character at a time, for any way of printing: what the loop of `feed` knows after i
+-- characters (`SoFar`), one character more, a line feed or another, and what it knows at the end. Assumes nothing.
+use Prim.Native.Nat.{ℕ, zero, suc, _+_, _-_, _≤_, _<_}
 use mathlib.Core.Path.{_≡_, refl, sym, _∙_, ap}
-use mathlib.Core.Bool.{true, false}
 use mathlib.Core.List.{List, [], _∷_, _++_, append-nil}
 use native.Mathlib.Omega.{arith}
 use native.Mathlib.Numerals.{add-one}
-use lib.ListN.{length, getD, take, drop, set, length-append, length-drop, length-set}
-use lib.Seq.{take-all, take-suc, take-suc-set, length-take-le}
-use borrow.Author.Tests.{eq-eqb, ne-eqb, lt-ltb, le-ltb}
+use lib.ListN.{length, getD, take, drop, length-append, length-drop}
+use lib.Seq.{take-suc, length-take-le}
+use borrow.Author.Tests.{eq-eqb, ne-eqb}
 use borrow.Rule.Slice.PartMut.{putMid, midOf}
 use Rattle.algebra.specs.Buffer.{over}
 use Rattle.algebra.proofs.Buffer.{over-next, length-over}
-use Rattle.algebra.proofs.Lists.{getD-within}
 use Rattle.lines.specs.Buffers.{Put}
-use Rattle.lines.specs.Fields.{byte-at}
-use Rattle.lines.specs.Hex.{frame-of, line-feed}
-use Rattle.record_definitions.specs.declared.world.Body.{Body}
-use Rattle.record_definitions.specs.declared.world.Pair.{Pair}
+use Rattle.lines.specs.Hex.{line-feed}
 use Rattle.record_definitions.specs.declared.world.World.{World}
-use Rattle.record_definitions.specs.declared.frame.Change.{Change}
 use Rattle.record_definitions.specs.declared.frame.Said.{Said}
 use Rattle.record_definitions.specs.declared.reader.Reader.{Reader}
-use Rattle.record_definitions.specs.World.{blank-body, fresh-pair, forget, forget-below}
-use Rattle.record_definitions.specs.Frame.{change}
-use Rattle.record_definitions.specs.Answer.{said-line, longest-line}
-use Rattle.record_definitions.specs.Step.{changed, change-in, after-frame, said-of-frame}
 use Rattle.record_definitions.specs.Step.{after-line, said-of-line}
 use Rattle.record_definitions.specs.Reading.{Reading, kept-length, with-character, after-character, after}
 use Rattle.record_definitions.specs.Reading.{printed-character, printed, reading, FedAs}
@@ -164,89 +154,26 @@ module _ (print : Said → List ℕ) where
               ∙ rw next-after (simp (eq-eqb x line-feed feed));
         }
 
--- ---- at the end: all was taken, or the output has no room for one more line
-module _ (s : Reader) (chunk old out : List ℕ) (w : World) (line : List ℕ) (len at i : ℕ)
-    (so-far : SoFar said-line chunk old (reading s) out w line len at i)
-    (end : longest-line ≤ length old - at → i ≡ length chunk) where
-  -- with room for a line some of a piece was taken
-  some-taken : (k : ℕ) → k ≡ i → longest-line ≤ length old → 0 < length chunk → 0 < k
-  unfolding printed
-  some-taken zero is room more =
-      let start : at ≡ 0 =
-      so-far .count ∙ ap (λ (n : ℕ). length (printed said-line (reading s) (take n chunk))) (sym is) in
-      absurd (omega (arith, is, end (omega (arith, start))))
-  some-taken (suc k) is room more = omega arith
+  -- ---- at the end: all was taken, or the output has no room for one more line
+  module _ (longest : ℕ) (s : Reader) (chunk old out : List ℕ) (w : World) (line : List ℕ) (len at i : ℕ)
+      (so-far : SoFar chunk old (reading s) out w line len at i)
+      (end : longest ≤ length old - at → i ≡ length chunk) where
+    -- with room for a line some of a piece was taken
+    some-taken : (k : ℕ) → k ≡ i → longest ≤ length old → 0 < length chunk → 0 < k
+    unfolding printed
+    some-taken zero is room more =
+        let start : at ≡ 0 =
+        so-far .count ∙ ap (λ (n : ℕ). length (printed print (reading s) (take n chunk))) (sym is) in
+        absurd (omega (arith, is, end (omega (arith, start))))
+    some-taken (suc k) is room more = omega arith
 
-  pub fed-at-end : FedAs s chunk old
-      (record { reader = record { world = w; line = line; len = len }; taken = i; written = at }) out
-  fed-at-end = record {
-    within = so-far .within;
-    all = end;
-    some = some-taken i refl;
-    state = so-far .state;
-    count = so-far .count;
-    output = so-far .output;
-  }
-
--- ---- the world after a line, from what the code reads in it
-module _ (w : World) (line frame : List ℕ) (frame-is : frame ≡ frame-of line) (a b : ℕ) (a-is : a ≡ byte-at frame 1 % 8)
-    (b-is : b ≡ byte-at frame 2 % 8) (bodies-size : length (w .bodies) ≡ 8) (pairs-size : length (w .pairs) ≡ 64)
-    (past-a past-b : Body) (past-pair : Pair) (c : Change)
-    (c-is : c ≡ change (getD (w .bodies) a past-a) (getD (w .bodies) b past-b) (getD (w .pairs) (8 * a + b) past-pair)
-    frame) where
-  pub change-is : c ≡ change-in w (frame-of line)
-  unfolding change-in
-  change-is =
-      c-is
-      ∙ rw (
-        getD-within (w .bodies) a past-a blank-body (omega arith),
-        getD-within (w .bodies) b past-b blank-body (omega arith),
-        getD-within (w .pairs) (8 * a + b) past-pair fresh-pair (omega arith),
-        a-is,
-        b-is,
-        frame-is,
-      ) refl
-
-  pub said-is : c .said ≡ said-of-line w line
-  unfolding said-of-frame
-  said-is = ap (λ (d : Change). d .said) change-is
-
-  world-changed : changed w a b c ≡ after-line w line
-  unfolding after-frame
-  world-changed = rw (← frame-is, ← a-is, ← b-is) (ap (changed w a b) (change-is ∙ rw (← frame-is) refl))
-
-  -- a new shape: its pairs are forgotten
-  pub world-forgets : (fresh : List Pair) → c .forget ≡ true → fresh ≡ forget a (w .pairs)
-      → record { bodies = set (w .bodies) a (c .body); pairs = fresh } ≡ after-line w line
-  unfolding changed
-  world-forgets fresh forgets is = rw is (simp forgets at world-changed)
-
-  -- any other frame: the pair is written
-  pub world-keeps : c .forget ≡ false
-      → record { bodies = set (w .bodies) a (c .body); pairs = set (w .pairs) (8 * a + b) (c .pair) }
-      ≡ after-line w line
-  unfolding changed
-  world-keeps keeps = simp keeps at world-changed
-
-pub length-forget : (id : ℕ) (pairs : List Pair) (n : ℕ) → length (forget-below id pairs n) ≡ length pairs
-unfolding forget-below
-length-forget id pairs zero = refl
-length-forget id pairs (suc n) = simp length-set (length-forget id pairs n)
-
--- ---- keeping a character
-pub character-kept : (line : List ℕ) (len x : ℕ) → len < kept-length → length line ≡ kept-length
-    → take (len + 1) (set line len x) ≡ with-character (take len line) x
-character-kept line len x short size =
-    ap (λ (n : ℕ). take n (set line len x)) (add-one len) ∙ take-suc-set line len x (omega arith)
-    ∙ simp (lt-ltb (length (take len line)) kept-length (omega (arith, length-take-le len line (omega arith))))
-
-pub character-dropped : (line : List ℕ) (len x : ℕ) → kept-length ≤ len → len ≤ kept-length
-    → length line ≡ kept-length → take len line ≡ with-character (take len line) x
-character-dropped line len x full short size =
-    simp (le-ltb (length (take len line)) kept-length (omega (arith, length-take-le len line (omega arith))))
-
--- a count past the row that is kept says the whole row
-pub count-held : (line : List ℕ) (len : ℕ) → kept-length ≤ len → length line ≡ kept-length
-    → take kept-length line ≡ take len line
-count-held line len full size =
-    take-all kept-length line (omega arith) ∙ sym (take-all len line (omega arith))
+    pub fed-at-end : FedAs print longest s chunk old
+        (record { reader = record { world = w; line = line; len = len }; taken = i; written = at }) out
+    fed-at-end = record {
+      within = so-far .within;
+      all = end;
+      some = some-taken i refl;
+      state = so-far .state;
+      count = so-far .count;
+      output = so-far .output;
+    }

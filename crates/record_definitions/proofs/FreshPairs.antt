@@ -5,7 +5,7 @@ use mathlib.Core.Path.{_≡_, refl, sym, _∙_, ap}
 use mathlib.Core.Bool.{Bool, true, false}
 use mathlib.Core.List.{List, [], _∷_}
 use native.Mathlib.Omega.{arith}
-use lib.ListN.{getD, set, replicate}
+use lib.ListN.{getD, take, set, replicate}
 use borrow.Author.Tests.{eq-eqb, ne-eqb}
 use Rattle.lines.specs.Fields.{byte-at}
 use Rattle.record_definitions.specs.declared.world.Body.{Body}
@@ -15,8 +15,8 @@ use Rattle.record_definitions.specs.declared.frame.Change.{Change}
 use Rattle.record_definitions.specs.declared.frame.Said.{Said}
 use Rattle.record_definitions.specs.World.{blank-body, fresh-pair, fresh-world, pair-place, forget-below}
 use Rattle.record_definitions.specs.Frame.{change}
-use Rattle.record_definitions.specs.Step.{first-place, second-place, pairs-after, changed, change-in}
-use Rattle.record_definitions.specs.Step.{after-frame, said-of-frame}
+use Rattle.record_definitions.specs.Step.{first-place, second-place, pairs-after, changed, change-in, after-frame}
+use Rattle.record_definitions.specs.Step.{said-of-frame}
 use Rattle.record_definitions.specs.Export.{refusal-in, last-said, test-frame, FourFrames}
 use Rattle.record_definitions.proofs.Alone.{change-alone}
 
@@ -104,91 +104,85 @@ step-last : (bodies : List Body) (c : Change)
 unfolding last-said said-of-frame change-in world-of fresh-pairs
 step-last bodies c c-is = ap (λ (d : Change). d .said) c-is
 
+-- the bodies after some changes, each of the body under an id
+after-changes : List Body → List (ℕ × Change) → List Body
+after-changes bodies [] = bodies
+after-changes bodies ((id, c) ∷ changes) = after-changes (set bodies id (c .body)) changes
+
 -- ---- the four frames and the test, from what the code calls
 module _ (f0 f1 f2 f3 : List ℕ) (four : FourFrames f0 f1 f2 f3) (c0 c1 c2 c3 : Change) (n0 n1 n2 n3 : ℕ) where
   said-last : Said
   said-last = last-said fresh-world f0 (f1 ∷ f2 ∷ f3 ∷ test-frame ∷ [])
 
-  bodies0 : List Body
-  bodies0 = replicate 8 blank-body
+  -- the bodies after the first n of the four
+  abbrev bodies : ℕ → List Body
+  bodies n = after-changes (replicate 8 blank-body) (take n ((0, c0) ∷ (0, c1) ∷ (1, c2) ∷ (1, c3) ∷ []))
 
-  bodies1 : List Body
-  bodies1 = set bodies0 0 (c0 .body)
-
-  bodies2 : List Body
-  bodies2 = set bodies1 0 (c1 .body)
-
-  bodies3 : List Body
-  bodies3 = set bodies2 1 (c2 .body)
-
-  bodies4 : List Body
-  bodies4 = set bodies3 1 (c3 .body)
-
-  begun : last-said (world-of bodies0) f0 (f1 ∷ f2 ∷ f3 ∷ test-frame ∷ []) ≡ said-last
-  unfolding said-last bodies0
+  begun : last-said (world-of (bodies 0)) f0 (f1 ∷ f2 ∷ f3 ∷ test-frame ∷ []) ≡ said-last
+  unfolding said-last after-changes
   begun = ap (λ (w : World). last-said w f0 (f1 ∷ f2 ∷ f3 ∷ test-frame ∷ [])) (sym fresh-is)
 
   module _ (is-0 : c0 ≡ change blank-body blank-body fresh-pair f0) (number-0 : n0 ≡ refusal-in (c0 .said)) where
     pub refused-0 : (n0 ≡ 0 → ⊥) → c0 .said ≡ last-said fresh-world f0 (f1 ∷ f2 ∷ f3 ∷ test-frame ∷ [])
-    unfolding said-last bodies0
+    unfolding said-last after-changes
     refused-0 some =
-        step-refused bodies0 f0 0 (four .id-0) (omega arith) (λ e. omega (arith, four .kind-0)) c0 is-0 f1
+        step-refused (bodies 0) f0 0 (four .id-0) (omega arith) (λ e. omega (arith, four .kind-0)) c0 is-0 f1
         (f2 ∷ f3 ∷ test-frame ∷ []) n0 number-0 some
         ∙ begun
 
     module _ (none-0 : n0 ≡ 0) (is-1 : c1 ≡ change (c0 .body) blank-body fresh-pair f1)
         (number-1 : n1 ≡ refusal-in (c1 .said)) where
-      to-1 : last-said (world-of bodies1) f1 (f2 ∷ f3 ∷ test-frame ∷ []) ≡ said-last
-      unfolding bodies0 bodies1
+      to-1 : last-said (world-of (bodies 1)) f1 (f2 ∷ f3 ∷ test-frame ∷ []) ≡ said-last
+      unfolding after-changes
       to-1 =
-          step-taken bodies0 f0 0 (four .id-0) (omega arith) (λ e. omega (arith, four .kind-0)) c0 is-0 f1
+          step-taken (bodies 0) f0 0 (four .id-0) (omega arith) (λ e. omega (arith, four .kind-0)) c0 is-0 f1
           (f2 ∷ f3 ∷ test-frame ∷ []) n0 number-0 none-0
           ∙ begun
 
       pub refused-1 : (n1 ≡ 0 → ⊥) → c1 .said ≡ last-said fresh-world f0 (f1 ∷ f2 ∷ f3 ∷ test-frame ∷ [])
-      unfolding said-last bodies0 bodies1
+      unfolding said-last after-changes
       refused-1 some =
-          step-refused bodies1 f1 0 (four .id-1) (omega arith) (λ e. omega (arith, four .kind-1)) c1 is-1 f2
+          step-refused (bodies 1) f1 0 (four .id-1) (omega arith) (λ e. omega (arith, four .kind-1)) c1 is-1 f2
           (f3 ∷ test-frame ∷ []) n1 number-1 some
           ∙ to-1
 
       module _ (none-1 : n1 ≡ 0) (is-2 : c2 ≡ change blank-body blank-body fresh-pair f2)
           (number-2 : n2 ≡ refusal-in (c2 .said)) where
-        to-2 : last-said (world-of bodies2) f2 (f3 ∷ test-frame ∷ []) ≡ said-last
-        unfolding bodies0 bodies1 bodies2
+        to-2 : last-said (world-of (bodies 2)) f2 (f3 ∷ test-frame ∷ []) ≡ said-last
+        unfolding after-changes
         to-2 =
-            step-taken bodies1 f1 0 (four .id-1) (omega arith) (λ e. omega (arith, four .kind-1)) c1 is-1 f2
+            step-taken (bodies 1) f1 0 (four .id-1) (omega arith) (λ e. omega (arith, four .kind-1)) c1 is-1 f2
             (f3 ∷ test-frame ∷ []) n1 number-1 none-1
             ∙ to-1
 
         pub refused-2 : (n2 ≡ 0 → ⊥) → c2 .said ≡ last-said fresh-world f0 (f1 ∷ f2 ∷ f3 ∷ test-frame ∷ [])
-        unfolding said-last bodies0 bodies1 bodies2
+        unfolding said-last after-changes
         refused-2 some =
-            step-refused bodies2 f2 1 (four .id-2) (omega arith) (λ e. omega (arith, four .kind-2)) c2 is-2 f3
+            step-refused (bodies 2) f2 1 (four .id-2) (omega arith) (λ e. omega (arith, four .kind-2)) c2 is-2 f3
             (test-frame ∷ []) n2 number-2 some
             ∙ to-2
 
         module _ (none-2 : n2 ≡ 0) (is-3 : c3 ≡ change (c2 .body) blank-body fresh-pair f3)
             (number-3 : n3 ≡ refusal-in (c3 .said)) where
-          to-3 : last-said (world-of bodies3) f3 (test-frame ∷ []) ≡ said-last
-          unfolding bodies0 bodies1 bodies2 bodies3
+          to-3 : last-said (world-of (bodies 3)) f3 (test-frame ∷ []) ≡ said-last
+          unfolding after-changes
           to-3 =
-              step-taken bodies2 f2 1 (four .id-2) (omega arith) (λ e. omega (arith, four .kind-2)) c2 is-2 f3
+              step-taken (bodies 2) f2 1 (four .id-2) (omega arith) (λ e. omega (arith, four .kind-2)) c2 is-2 f3
               (test-frame ∷ []) n2 number-2 none-2
               ∙ to-2
 
           pub refused-3 : (n3 ≡ 0 → ⊥) → c3 .said ≡ last-said fresh-world f0 (f1 ∷ f2 ∷ f3 ∷ test-frame ∷ [])
-          unfolding said-last bodies0 bodies1 bodies2 bodies3
+          unfolding said-last after-changes
           refused-3 some =
-              step-refused bodies3 f3 1 (four .id-3) (omega arith) (λ e. omega (arith, four .kind-3)) c3 is-3
+              step-refused (bodies 3) f3 1 (four .id-3) (omega arith) (λ e. omega (arith, four .kind-3)) c3 is-3
               test-frame [] n3 number-3 some
               ∙ to-3
 
           pub run-last : (c4 : Change) → n3 ≡ 0 → c4 ≡ change (c1 .body) (c3 .body) fresh-pair test-frame
               → c4 .said ≡ last-said fresh-world f0 (f1 ∷ f2 ∷ f3 ∷ test-frame ∷ [])
-          unfolding said-last bodies0 bodies1 bodies2 bodies3 bodies4
+          unfolding said-last after-changes
           run-last c4 none-3 is-4 =
-              step-last bodies4 c4 is-4
-              ∙ step-taken bodies3 f3 1 (four .id-3) (omega arith) (λ e. omega (arith, four .kind-3)) c3 is-3
+              step-last (bodies 4) c4 is-4
+              ∙ step-taken (bodies 3) f3 1 (four .id-3) (omega arith) (λ e. omega (arith, four .kind-3)) c3 is-3
               test-frame [] n3 number-3 none-3
               ∙ to-3

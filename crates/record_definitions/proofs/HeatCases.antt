@@ -29,7 +29,7 @@ use Rattle.record_definitions.specs.World.{blank-body, circle-body, plac
 use Rattle.record_definitions.specs.World.{pair-at, forget-below}
 use Rattle.record_definitions.specs.Touch.{meet-circle, meet, skin, world-points, touches-after, states-of}
 use Rattle.record_definitions.specs.Touch.{touch-of, tested-as, tested}
-use Rattle.record_definitions.specs.Frame.{frame-length, well-formed, circle-change, place-change}
+use Rattle.record_definitions.specs.Frame.{frame-length, well-formed, frame-refusal, circle-change, place-change}
 use Rattle.record_definitions.specs.Frame.{listed, test-refusal, test-change, change-of-kind, change}
 use Rattle.record_definitions.specs.Step.{change-in, changed, after-frame, said-of-frame}
 use Rattle.record_definitions.specs.Heat.{world-after, contact-in, contacts-after, contacts-of, touches-of}
@@ -90,8 +90,8 @@ unfolding neg add sub mul div le lt eq ofBits toBits root-digits whole-root roun
     circle-in-range farther with-local-point with-count with-one-point counted-points same-id id-among counted-ids
     ids-of ids-in point-state states-of-ids points-in-range manifold-in-range b2-world-manifold-initialize blank-body
     circle-body placed fresh-pair fresh-world forget-below meet-circle meet skin world-points touches-after states-of
-    touch-of tested-as tested frame-length well-formed circle-change place-change listed test-refusal test-change
-    change-of-kind change change-in changed after-frame said-of-frame circles-manifold b2-collide-circles
+    touch-of tested-as tested frame-length well-formed frame-refusal circle-change place-change listed test-refusal
+    test-change change-of-kind change change-in changed after-frame said-of-frame circles-manifold b2-collide-circles
     circles-normal world-of-circles contacts-after touches-of new-ids
 heat-cases =
     let law = heat-law 0 1 (omega arith) (omega arith) (lines 6) in

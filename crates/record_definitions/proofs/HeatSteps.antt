@@ -32,8 +32,7 @@ use Rattle.record_definitions.specs.Heat.{defines-shape, with-answer, co
 use Rattle.record_definitions.specs.Heat.{touches-of}
 use Rattle.record_definitions.proofs.HeatTests.{Remembers, test-remembered}
 use Rattle.record_definitions.proofs.Refusing.{after-refused}
-use Rattle.record_definitions.proofs.Changes.{NewShape, by-choice, is-of-kind}
-use Rattle.record_definitions.proofs.Sound.{both}
+use Rattle.record_definitions.proofs.Changes.{NewShape, by-choice, is-of-kind, both}
 use Rattle.record_definitions.proofs.SoundKept.{frame-keeps-sound}
 use Rattle.record_definitions.proofs.Theorem.{new-shape-forgets, new-shape-keeps-others, placing-changes-no-pair}
 use Rattle.record_definitions.proofs.Theorem.{test-changes-no-other-pair, names-printed}

@@ -1,5 +1,7 @@
 pub mod Pieces
 pub mod Feeding
+pub mod OneLine
+pub mod FrameRefusals
 pub mod Alone
 pub mod FreshPairs
 pub mod Exported
@@ -8,7 +10,7 @@ pub mod Changes
 pub mod Pairs
 pub mod States
 pub mod Counting
-pub mod Lengths
+pub mod AnswerLengths
 pub mod TwoPlaces
 pub mod MetPlaces
 pub mod Sound

@@ -14,15 +14,11 @@ use Rattle.shape_definitions.specs.Validate.{polygon-in-range}
 use Rattle.contact_definitions.specs.declared.b2_collision.B2manifold.{B2manifold}
 use Rattle.contact_definitions.specs.declared.b2_collision.B2manifoldType.the-variants.{ECircles}
 use Rattle.contact_definitions.specs.declared.b2_collision.ManifoldAnswer.{ManifoldAnswer}
-use Rattle.contact_definitions.specs.Manifold.{with-count, default-id}
-use Rattle.contact_definitions.specs.Manifold.{default-manifold, miscounted}
-use Rattle.contact_definitions.specs.Manifold.{where-in-range}
+use Rattle.contact_definitions.specs.Manifold.{with-count, default-id, default-manifold, miscounted, where-in-range}
 use Rattle.contact_definitions.specs.B2CollideCircle.{farther, circles-manifold, b2-collide-circles}
 use Rattle.contact_definitions.specs.B2CollideCircle.{b2-collide-polygon-and-circle}
-use Rattle.contact_definitions.specs.B2CollidePolygon.{polygons-axis, polygons-manifold}
-use Rattle.contact_definitions.specs.B2CollidePolygon.{b2-collide-polygons}
-use Rattle.contact_definitions.specs.B2CollideEdge.{b2-collide-edge-and-circle}
-use Rattle.contact_definitions.specs.B2CollideEdge.{b2-collide-edge-and-polygon}
+use Rattle.contact_definitions.specs.B2CollidePolygon.{polygons-axis, polygons-manifold, b2-collide-polygons}
+use Rattle.contact_definitions.specs.B2CollideEdge.{b2-collide-edge-and-circle, b2-collide-edge-and-polygon}
 use Rattle.contact_definitions.proofs.Counts.{Accepted, either, counted, in-range}
 use Rattle.record_definitions.specs.declared.world.Body.{Body}
 use Rattle.record_definitions.specs.World.{circle-kind, outline-kind}

@@ -5,14 +5,13 @@ use mathlib.Core.Path.{_≡_, refl, _∙_, ap}
 use mathlib.Core.Bool.{not}
 use mathlib.Core.List.{List}
 use native.Mathlib.Omega.{arith}
-use lib.Dec.{eqb, ltb}
+use lib.Dec.{eqb}
 use lib.Seq.{set-getD}
 use Rattle.floats.specs.Ranges.{transform-in-range}
 use Rattle.lines.specs.Fields.{byte-at, points-at, placement-at}
 use Rattle.shape_definitions.specs.Circle.{circle-in-range}
 use Rattle.shape_definitions.specs.Polygon.{b2-polygon-shape-set}
-use Rattle.shape_definitions.specs.Refusal.{accepted, shape-out-of-range, placement-out-of-range}
-use Rattle.shape_definitions.specs.Refusal.{malformed-frame, unknown-id, no-shape}
+use Rattle.shape_definitions.specs.Refusal.{accepted, shape-out-of-range, placement-out-of-range, no-shape}
 use Rattle.contact_definitions.proofs.Counts.{either}
 use Rattle.record_definitions.specs.declared.world.Body.{Body}
 use Rattle.record_definitions.specs.declared.world.Pair.{Pair}
@@ -23,9 +22,9 @@ use Rattle.record_definitions.specs.declared.frame.Change.{Change}
 use Rattle.record_definitions.specs.World.{no-body, blank-outline, blank-body, fresh-pair, body-at, pair-at}
 use Rattle.record_definitions.specs.World.{pair-place}
 use Rattle.record_definitions.specs.Touch.{tested}
-use Rattle.record_definitions.specs.Frame.{well-formed, largest-id, refused, circle-at, circle-change}
-use Rattle.record_definitions.specs.Frame.{outline-change, wall-at, wall-change, place-change, test-refusal}
-use Rattle.record_definitions.specs.Frame.{test-change, change-of-kind, change}
+use Rattle.record_definitions.specs.Frame.{frame-refusal, refused, circle-at, circle-change, outline-change}
+use Rattle.record_definitions.specs.Frame.{wall-at, wall-change, place-change, test-refusal, test-change}
+use Rattle.record_definitions.specs.Frame.{change-of-kind, change}
 use Rattle.record_definitions.specs.Step.{first-place, second-place, changed, change-in, after-frame}
 use Rattle.record_definitions.specs.Step.{said-of-frame}
 
@@ -100,9 +99,8 @@ module _ (a : Body) (pair : Pair) where
         → change a b pair bytes ≡ refused n a pair
     unfolding change Keeps
     change-refused b =
-        either (Keeps a pair) (not (well-formed bytes)) _ _ (refused-keeps malformed-frame)
-        (either (Keeps a pair) (ltb largest-id (byte-at bytes 1)) _ _ (refused-keeps unknown-id)
-        (kind-keeps (byte-at bytes 0) b))
+        either (Keeps a pair) (eqb (frame-refusal bytes) accepted) _ _ (kind-keeps (byte-at bytes 0) b)
+        (refused-keeps (frame-refusal bytes))
 
 -- so a frame that is refused leaves the world as it was
 pub after-refused : (w : World) (bytes : List ℕ) (n : ℕ) → said-of-frame w bytes .answer ≡ Refused n

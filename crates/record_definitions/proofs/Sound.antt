@@ -3,7 +3,7 @@
 -- Assumes nothing.
 use Prim.Native.Nat.{ℕ, _≤_}
 use mathlib.Core.Path.{_≡_, refl}
-use mathlib.Core.Bool.{Bool, true, false, _&&_, false≢true}
+use mathlib.Core.Bool.{Bool, true, false, _&&_}
 use mathlib.Core.List.{List}
 use native.Mathlib.Omega.{arith}
 use lib.Dec.{eqb}
@@ -19,20 +19,19 @@ use Rattle.shape_definitions.specs.Circle.{circle-in-range}
 use Rattle.shape_definitions.specs.Edge.{b2-set-one-sided, b2-set-two-sided, edge-in-range}
 use Rattle.shape_definitions.specs.Polygon.{b2-polygon-shape-set}
 use Rattle.shape_definitions.specs.Refusal.{accepted}
+use Rattle.contact_definitions.specs.declared.b2_collision.B2manifold.{B2manifold}
+use Rattle.contact_definitions.specs.Manifold.{default-manifold}
+use Rattle.contact_definitions.specs.PointStates.{ids-of}
 use Rattle.contact_definitions.proofs.Counts.{either}
 use Rattle.record_definitions.specs.declared.world.Body.{Body}
 use Rattle.record_definitions.specs.declared.world.Pair.{Pair}
 use Rattle.record_definitions.specs.declared.world.World.{World}
-use Rattle.record_definitions.specs.World.{fresh-pair}
-use Rattle.record_definitions.specs.World.{circle-kind, outline-kind, wall-kind, at-origin, blank-outline}
-use Rattle.record_definitions.specs.World.{blank-wall, blank-body, circle-body, outline-body, wall-body, placed}
-use Rattle.record_definitions.specs.World.{body-at}
-use Rattle.record_definitions.specs.Frame.{circle-at}
-use Rattle.record_definitions.specs.Frame.{wall-at}
-use Rattle.contact_definitions.specs.declared.b2_collision.B2manifold.{B2manifold}
-use Rattle.contact_definitions.specs.Manifold.{default-manifold}
-use Rattle.contact_definitions.specs.PointStates.{ids-of}
+use Rattle.record_definitions.specs.World.{fresh-pair, circle-kind, outline-kind, wall-kind, at-origin}
+use Rattle.record_definitions.specs.World.{blank-outline, blank-wall, blank-body, circle-body, outline-body}
+use Rattle.record_definitions.specs.World.{wall-body, placed, body-at}
+use Rattle.record_definitions.specs.Frame.{circle-at, wall-at}
 use Rattle.record_definitions.specs.Touch.{largest-count}
+use Rattle.record_definitions.proofs.Changes.{both}
 
 -- ---- an outline that the builder made of some points
 pub record Built (outline : B2polygonShape) : Type 0 where
@@ -123,11 +122,6 @@ placed-sound body bytes sound taken = record {
 }
 
 -- ---- walls that are accepted are in range
-pub both : (s t : Bool) → s && t ≡ true → (s ≡ true) × (t ≡ true)
-both true true e = (refl, refl)
-both true false e = absurd (false≢true e)
-both false t e = absurd (false≢true e)
-
 two-sided-in-range : (v1 v2 : B2vec2) (t : Bool) → point-in-range v1 && point-in-range v2 ≡ t
     → b2-set-two-sided blank-wall v1 v2 .refusal ≡ accepted
     → edge-in-range (b2-set-two-sided blank-wall v1 v2 .shape) ≡ true

@@ -4,21 +4,21 @@ use mathlib.Core.Path.{_≡_, refl, subst}
 use mathlib.Core.Bool.{Bool, true, false, not, _||_}
 use mathlib.Core.List.{List}
 use native.Mathlib.Omega.{arith}
-use lib.Dec.{eqb, ltb}
+use lib.Dec.{eqb}
 use borrow.Author.Tests.{eqb-true}
 use Rattle.lines.specs.Fields.{byte-at}
 use Rattle.shape_definitions.specs.Refusal.{accepted}
 use Rattle.contact_definitions.proofs.Counts.{either}
 use Rattle.record_definitions.specs.declared.world.Body.{Body}
 use Rattle.record_definitions.specs.declared.world.Pair.{Pair}
-use Rattle.record_definitions.specs.World.{no-body}
-use Rattle.record_definitions.specs.Touch.{tested}
-use Rattle.record_definitions.specs.Frame.{well-formed, largest-id, refused, listed, test-refusal, test-change}
-use Rattle.record_definitions.specs.Frame.{change-of-kind, change}
 use Rattle.record_definitions.specs.declared.touch.Touch.{Touch}
 use Rattle.record_definitions.specs.declared.frame.Change.{Change}
 use Rattle.record_definitions.specs.declared.frame.Answer.the-variants.{Refused, Tested}
-use Rattle.shape_definitions.specs.Refusal.{malformed-frame, unknown-id}
+use Rattle.record_definitions.specs.World.{no-body}
+use Rattle.record_definitions.specs.Touch.{tested}
+use Rattle.record_definitions.specs.Frame.{frame-refusal, refused, listed, test-refusal, test-change}
+use Rattle.record_definitions.specs.Frame.{change-of-kind, change}
+use Rattle.record_definitions.proofs.FrameRefusals.{of-bytes-alone}
 use Rattle.record_definitions.proofs.Changes.{by-choice}
 use Rattle.record_definitions.proofs.Sound.{SoundBody}
 use Rattle.record_definitions.proofs.SoundTests.{NotOfHost, test-fine}
@@ -26,29 +26,25 @@ use Rattle.record_definitions.proofs.SoundTests.{NotOfHost, test-fine}
 number-fine : (ida idb kinda kindb : ℕ) → NotOfHost (test-refusal ida idb kinda kindb)
 unfolding test-refusal
 number-fine ida idb kinda kindb =
-    either NotOfHost (ltb largest-id idb) _ _ (λ e. absurd (omega arith), λ e. absurd (omega arith))
-    (either NotOfHost (eqb kinda no-body || eqb kindb no-body) _ _
+    either NotOfHost (eqb kinda no-body || eqb kindb no-body) _ _
     (λ e. absurd (omega arith), λ e. absurd (omega arith))
     (either NotOfHost (eqb ida idb || not (listed kinda kindb)) _ _
-    (λ e. absurd (omega arith), λ e. absurd (omega arith)) (λ e. absurd (omega arith), λ e. absurd (omega arith))))
+    (λ e. absurd (omega arith), λ e. absurd (omega arith)) (λ e. absurd (omega arith), λ e. absurd (omega arith)))
 
 -- a pair that nothing speaks against is listed
-listed-by : (ida idb kinda kindb : ℕ) (above empty same known : Bool) → ltb largest-id idb ≡ above
+listed-by : (ida idb kinda kindb : ℕ) (empty same known : Bool)
     → eqb kinda no-body || eqb kindb no-body ≡ empty → eqb ida idb ≡ same → listed kinda kindb ≡ known
     → test-refusal ida idb kinda kindb ≡ accepted → listed kinda kindb ≡ true
 unfolding test-refusal
-listed-by ida idb kinda kindb true empty same known is-above is-empty is-same is-known none =
-    let never : _≡_ {A = ℕ} 11 0 = simp is-above at none in
+listed-by ida idb kinda kindb true same known is-empty is-same is-known none =
+    let never : _≡_ {A = ℕ} 12 0 = simp is-empty at none in
     absurd (omega arith)
-listed-by ida idb kinda kindb false true same known is-above is-empty is-same is-known none =
-    let never : _≡_ {A = ℕ} 12 0 = simp (is-above, is-empty) at none in
+listed-by ida idb kinda kindb false true known is-empty is-same is-known none =
+    let never : _≡_ {A = ℕ} 13 0 = simp (is-empty, is-same) at none in
     absurd (omega arith)
-listed-by ida idb kinda kindb false false true known is-above is-empty is-same is-known none =
-    let never : _≡_ {A = ℕ} 13 0 = simp (is-above, is-empty, is-same) at none in
-    absurd (omega arith)
-listed-by ida idb kinda kindb false false false true is-above is-empty is-same is-known none = is-known
-listed-by ida idb kinda kindb false false false false is-above is-empty is-same is-known none =
-    let never : _≡_ {A = ℕ} 13 0 = simp (is-above, is-empty, is-same, is-known) at none in
+listed-by ida idb kinda kindb false false true is-empty is-same is-known none = is-known
+listed-by ida idb kinda kindb false false false is-empty is-same is-known none =
+    let never : _≡_ {A = ℕ} 13 0 = simp (is-empty, is-same, is-known) at none in
     absurd (omega arith)
 
 module _ (a b : Body) (pair : Pair) (bytes : List ℕ) (a-sound : SoundBody a) (b-sound : SoundBody b) where
@@ -73,7 +69,7 @@ module _ (a b : Body) (pair : Pair) (bytes : List ℕ) (a-sound : SoundBody a) (
       let number = test-refusal ida idb (a .kind) (b .kind) in
       let t = tested ida idb a b pair in
       by-choice Says (eqb number accepted) _ _
-      (λ nothing-against. let is-listed = listed-by ida idb (a .kind) (b .kind) _ _ _ _ refl refl refl refl
+      (λ nothing-against. let is-listed = listed-by ida idb (a .kind) (b .kind) _ _ _ refl refl refl
       (eqb-true number accepted nothing-against) in
       either Says (eqb (t .refusal) accepted) _ _ (tested-says _ (t .touch) refl)
       (refused-says (t .refusal) (test-fine a b a-sound b-sound ida idb pair is-listed)))
@@ -82,8 +78,8 @@ module _ (a b : Body) (pair : Pair) (bytes : List ℕ) (a-sound : SoundBody a) (
   pub test-frame-fine : byte-at bytes 0 ≡ 5 → (n : ℕ) → change a b pair bytes .said .answer ≡ Refused n → NotOfHost n
   unfolding change change-of-kind Says
   test-frame-fine five =
-      either Says (not (well-formed bytes)) _ _
-      (refused-says malformed-frame (λ e. absurd (omega arith), λ e. absurd (omega arith)))
-      (either Says (ltb largest-id (byte-at bytes 1)) _ _
-      (refused-says unknown-id (λ e. absurd (omega arith), λ e. absurd (omega arith)))
-      (rw five (test-says (byte-at bytes 1) (byte-at bytes 2))))
+      either Says (eqb (frame-refusal bytes) accepted) _ _
+      (rw five (test-says (byte-at bytes 1) (byte-at bytes 2)))
+      (refused-says (frame-refusal bytes)
+      (of-bytes-alone bytes NotOfHost (λ e. absurd (omega arith), λ e. absurd (omega arith))
+      (λ e. absurd (omega arith), λ e. absurd (omega arith)) (λ e. absurd (omega arith), λ e. absurd (omega arith))))

@@ -4,7 +4,7 @@ use mathlib.Core.Path.{_≡_, refl, _∙_}
 use mathlib.Core.Bool.{Bool, true, false, not}
 use mathlib.Core.List.{List, [], _∷_}
 use native.Mathlib.Omega.{arith}
-use lib.Dec.{eqb, ltb}
+use lib.Dec.{eqb}
 use lib.ListN.{length, getD, set, replicate, length-set}
 use borrow.Author.Tests.{eqb-true, not-false}
 use Rattle.floats.specs.Ranges.{transform-in-range}
@@ -12,25 +12,21 @@ use Rattle.lines.specs.Fields.{byte-at, points-at, placement-at}
 use Rattle.shape_definitions.specs.Circle.{circle-in-range}
 use Rattle.shape_definitions.specs.Polygon.{b2-polygon-shape-set}
 use Rattle.shape_definitions.specs.Refusal.{accepted}
+use Rattle.contact_definitions.specs.declared.b2_collision.PointStates.{PointStates}
 use Rattle.contact_definitions.proofs.Counts.{either}
 use Rattle.record_definitions.specs.declared.world.Body.{Body}
 use Rattle.record_definitions.specs.declared.world.Pair.{Pair}
 use Rattle.record_definitions.specs.declared.world.World.{World}
 use Rattle.record_definitions.specs.declared.frame.Change.{Change}
-use Rattle.record_definitions.specs.World.{fresh-pair, forget-below}
-use Rattle.record_definitions.specs.World.{no-body, blank-outline}
-use Rattle.record_definitions.specs.World.{blank-body}
-use Rattle.record_definitions.specs.World.{fresh-world, body-at, pair-at}
-use Rattle.record_definitions.specs.Frame.{well-formed, largest-id, circle-at, circle-change, outline-change}
-use Rattle.record_definitions.specs.Frame.{wall-at, wall-change, place-change, test-refusal, test-change}
-use Rattle.record_definitions.specs.Frame.{change-of-kind, change}
-use Rattle.record_definitions.specs.Touch.{tested}
+use Rattle.record_definitions.specs.World.{fresh-pair, forget-below, no-body, blank-outline, blank-body}
+use Rattle.record_definitions.specs.World.{fresh-world, body-at, pair-at, pair-place, forget}
+use Rattle.record_definitions.specs.Frame.{frame-refusal, circle-at, circle-change, outline-change, wall-at}
+use Rattle.record_definitions.specs.Frame.{wall-change, place-change, test-refusal, test-change, change-of-kind}
+use Rattle.record_definitions.specs.Frame.{change}
+use Rattle.record_definitions.specs.Touch.{tested, meet, largest-count, touches-after, tested-as}
 use Rattle.record_definitions.specs.Step.{first-place, second-place, pairs-after, changed, change-in, after-frame}
 use Rattle.record_definitions.proofs.Changes.{by-choice}
-use Rattle.record_definitions.proofs.Feeding.{length-forget}
-use Rattle.contact_definitions.specs.declared.b2_collision.PointStates.{PointStates}
-use Rattle.record_definitions.specs.Touch.{meet, largest-count, touches-after, tested-as}
-use Rattle.record_definitions.specs.World.{pair-place, forget}
+use Rattle.record_definitions.proofs.OneLine.{length-forget}
 use Rattle.record_definitions.proofs.Counting.{contact-taken, met-few}
 use Rattle.record_definitions.proofs.MetPlaces.{met-two}
 use Rattle.record_definitions.proofs.Sound.{SoundBody, SoundPair, Sound, fresh-pair-sound, blank-sound}
@@ -89,8 +85,7 @@ module _ (a b : Body) (pair : Pair) (bytes : List ℕ) (sound : SoundBody a) whe
   change-kept : Kept (change a b pair bytes)
   unfolding change
   change-kept =
-      either Kept (not (well-formed bytes)) _ _ sound
-      (either Kept (ltb largest-id (byte-at bytes 1)) _ _ sound (kind-kept (byte-at bytes 0)))
+      either Kept (eqb (frame-refusal bytes) accepted) _ _ (kind-kept (byte-at bytes 0)) sound
 
 -- ---- and the pair
 module _ (a b : Body) (pair : Pair) (bytes : List ℕ) (sound : SoundPair pair) where
@@ -137,8 +132,7 @@ module _ (a b : Body) (pair : Pair) (bytes : List ℕ) (sound : SoundPair pair) 
   change-pair-kept : PairKept (change a b pair bytes)
   unfolding change
   change-pair-kept =
-      either PairKept (not (well-formed bytes)) _ _ sound
-      (either PairKept (ltb largest-id (byte-at bytes 1)) _ _ sound (kind-pair-kept (byte-at bytes 0)))
+      either PairKept (eqb (frame-refusal bytes) accepted) _ _ (kind-pair-kept (byte-at bytes 0)) sound
 
 -- ---- and the world
 module _ {A : Type 0} (Good : A → Type 0) (default : A) where

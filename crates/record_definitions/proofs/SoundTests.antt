@@ -6,11 +6,13 @@ use mathlib.Core.Bool.{Bool, true, false, not, _&&_, _||_, false≢true}
 use native.Mathlib.Omega.{arith}
 use lib.Dec.{eqb}
 use lib.Ieee.{Float, le, lt}
-use Rattle.rounding.specs.Literals.{zero32}
 use borrow.Author.Tests.{eqb-true, le-ltb}
+use Rattle.algebra.proofs.Booleans.{by-test}
+use Rattle.rounding.specs.Literals.{zero32}
 use Rattle.floats.specs.declared.b2_math.B2vec2.{B2vec2}
 use Rattle.floats.specs.declared.b2_math.B2Transform.{B2Transform}
 use Rattle.floats.specs.Ranges.{radius-in-range, transform-in-range}
+use Rattle.floats.specs.B2Math.{b2-sub, b2-dot}
 use Rattle.shape_definitions.specs.declared.b2_edge_shape.B2edgeShape.{B2edgeShape}
 use Rattle.shape_definitions.specs.declared.b2_polygon_shape.B2polygonShape.{B2polygonShape}
 use Rattle.shape_definitions.specs.Circle.{circle-in-range}
@@ -27,15 +29,12 @@ use Rattle.contact_definitions.specs.B2CollidePolygon.{b2-collide-polygons}
 use Rattle.contact_definitions.specs.B2CollideEdge.{b2-collide-edge-and-circle, b2-collide-edge-and-polygon}
 use Rattle.contact_definitions.specs.B2CollideEdge.{edge-circle-answer}
 use Rattle.contact_definitions.specs.EdgeAxis.{right-of}
-use Rattle.floats.specs.B2Math.{b2-sub, b2-dot}
-use Rattle.algebra.proofs.Booleans.{by-test}
 use Rattle.contact_definitions.specs.WorldManifold.{b2-world-manifold-initialize, manifold-in-range}
 use Rattle.contact_definitions.proofs.Counts.{either}
 use Rattle.record_definitions.specs.declared.world.Body.{Body}
 use Rattle.record_definitions.specs.declared.world.Pair.{Pair}
 use Rattle.record_definitions.specs.World.{circle-kind, outline-kind, wall-kind, blank-outline}
-use Rattle.record_definitions.specs.Touch.{meet-circle, meet-outline, meet, skin, world-points}
-use Rattle.record_definitions.specs.Touch.{tested-as, tested}
+use Rattle.record_definitions.specs.Touch.{meet-circle, meet-outline, meet, skin, world-points, tested-as, tested}
 use Rattle.record_definitions.specs.Frame.{listed}
 use Rattle.record_definitions.proofs.Changes.{by-choice}
 use Rattle.record_definitions.proofs.Counting.{met-few}

@@ -18,8 +18,8 @@ use Rattle.contact_definitions.specs.declared.b2_collision.B2pointState.the-var
 use Rattle.contact_definitions.specs.declared.b2_collision.CountedIds.{CountedIds}
 use Rattle.contact_definitions.specs.declared.b2_collision.PointStates.{PointStates}
 use Rattle.contact_definitions.specs.Manifold.{counted-points}
-use Rattle.contact_definitions.specs.PointStates.{same-id, id-among, counted-ids, ids-of, ids-in}
-use Rattle.contact_definitions.specs.PointStates.{point-state, states-of-ids, b2-get-point-states}
+use Rattle.contact_definitions.specs.PointStates.{same-id, id-among, counted-ids, ids-of, ids-in, point-state}
+use Rattle.contact_definitions.specs.PointStates.{states-of-ids, b2-get-point-states}
 use Rattle.record_definitions.specs.Touch.{added}
 
 -- ---- the ids of a manifold are those of the points that it counts

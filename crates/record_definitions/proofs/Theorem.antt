@@ -34,8 +34,8 @@ use Rattle.record_definitions.proofs.Pieces.{split-anyhow}
 use Rattle.record_definitions.proofs.Refusing.{after-refused}
 use Rattle.record_definitions.proofs.Changes.{NewShape}
 use Rattle.record_definitions.proofs.Pairs.{shape-forgets-its-pairs, shape-keeps-other-pairs}
-use Rattle.record_definitions.proofs.Pairs.{placement-keeps-pairs, test-seen, said-at}
-use Rattle.record_definitions.proofs.Pairs.{test-keeps-bodies, test-keeps-other-pairs, test-writes-its-pair}
+use Rattle.record_definitions.proofs.Pairs.{placement-keeps-pairs, test-seen, said-at, test-keeps-bodies}
+use Rattle.record_definitions.proofs.Pairs.{test-keeps-other-pairs, test-writes-its-pair}
 use Rattle.record_definitions.proofs.States.{states-are-box2ds, first-state, second-state, no-first-state}
 use Rattle.record_definitions.proofs.States.{no-second-state}
 use Rattle.record_definitions.proofs.Counting.{states-printed, touches-printed, count-printed, ids-kept}
@@ -43,7 +43,7 @@ use Rattle.record_definitions.proofs.Counting.{touches-kept, first-prin
 use Rattle.record_definitions.proofs.Counting.{met-few}
 use Rattle.record_definitions.proofs.MetPlaces.{met-two}
 use Rattle.record_definitions.proofs.Again.{change-again, counts-no-more}
-use Rattle.record_definitions.proofs.Lengths.{touch-size, said-within, line-within}
+use Rattle.record_definitions.proofs.AnswerLengths.{touch-size, said-within, line-within}
 use Rattle.record_definitions.proofs.Sound.{Sound}
 use Rattle.record_definitions.proofs.SoundKept.{fresh-sound, frame-keeps-sound}
 use Rattle.record_definitions.proofs.SoundTests.{NotOfHost}

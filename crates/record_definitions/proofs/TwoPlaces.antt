@@ -12,8 +12,7 @@ use Rattle.rounding.specs.Literals.{zero32, half32, one32}
 use Rattle.floats.specs.declared.b2_math.B2vec2.{B2vec2}
 use Rattle.floats.specs.declared.b2_math.B2Transform.{B2Transform}
 use Rattle.floats.specs.B2Common.{b2-epsilon}
-use Rattle.floats.specs.B2Math.{vec2, b2-add, b2-sub, b2-neg, b2-scale, b2-dot, b2-normalize}
-use Rattle.floats.specs.B2Math.{b2-mul-transform-by-vec2}
+use Rattle.floats.specs.B2Math.{vec2, b2-add, b2-sub, b2-neg, b2-scale, b2-dot, b2-normalize, b2-mul-transform-by-vec2}
 use Rattle.shape_definitions.specs.declared.b2_edge_shape.B2edgeShape.{B2edgeShape}
 use Rattle.shape_definitions.specs.declared.b2_polygon_shape.B2polygonShape.{B2polygonShape}
 use Rattle.shape_definitions.specs.Outline.{origin}
@@ -23,23 +22,21 @@ use Rattle.contact_definitions.specs.declared.b2_collision.B2manifold.{B2manifo
 use Rattle.contact_definitions.specs.declared.b2_collision.B2manifoldPoint.{B2manifoldPoint}
 use Rattle.contact_definitions.specs.declared.b2_collision.B2manifoldType.{B2manifoldType}
 use Rattle.contact_definitions.specs.declared.b2_collision.B2manifoldType.the-variants.{ECircles, EFaceA, EFaceB}
+use Rattle.contact_definitions.specs.declared.axis.Axis.{Axis}
+use Rattle.contact_definitions.specs.declared.axis.Axis.the-variants.{Apart, FaceA, FaceB}
 use Rattle.contact_definitions.specs.Manifold.{with-count, with-kind, with-one-point, default-id, swapped-id}
 use Rattle.contact_definitions.specs.Manifold.{with-local-point, manifold-point}
 use Rattle.contact_definitions.specs.ReferenceFace.{only, points-from, with-points, manifold-of-ends}
-use Rattle.contact_definitions.specs.declared.axis.Axis.{Axis}
-use Rattle.contact_definitions.specs.declared.axis.Axis.the-variants.{Apart, FaceA, FaceB}
 use Rattle.contact_definitions.specs.Searches.{some-below}
-use Rattle.contact_definitions.specs.B2CollideCircle.{farther, circle-separation}
-use Rattle.contact_definitions.specs.B2CollideCircle.{circle-at-corner, circle-at-face, circle-at-best}
-use Rattle.contact_definitions.specs.B2CollideCircle.{polygon-circle-manifold}
+use Rattle.contact_definitions.specs.B2CollideCircle.{farther, circle-separation, circle-at-corner, circle-at-face}
+use Rattle.contact_definitions.specs.B2CollideCircle.{circle-at-best, polygon-circle-manifold}
 use Rattle.contact_definitions.specs.B2CollidePolygon.{outline-face, b2-find-incident-edge, outline-manifold}
 use Rattle.contact_definitions.specs.B2CollidePolygon.{manifold-on}
 use Rattle.contact_definitions.specs.EdgeAxis.{right-of, edge-polygon-axis}
 use Rattle.contact_definitions.specs.EdgeReference.{face-between, most-against, outline-edge, wall-manifold, wall-edge}
 use Rattle.contact_definitions.specs.EdgeReference.{placed-face, face-manifold, edge-manifold-on}
 use Rattle.contact_definitions.specs.B2CollideEdge.{circle-at-end, circle-at-wall, over-before, over-after}
-use Rattle.contact_definitions.specs.B2CollideEdge.{edge-circle-answer}
-use Rattle.contact_definitions.specs.B2CollideEdge.{edge-polygon-manifold}
+use Rattle.contact_definitions.specs.B2CollideEdge.{edge-circle-answer, edge-polygon-manifold}
 use Rattle.contact_definitions.proofs.Counts.{Accepted, either, refused, sides-few}
 
 pub record TwoPlaces (m : B2manifold) : Type 0 where

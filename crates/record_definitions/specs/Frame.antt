@@ -1,6 +1,6 @@
 -- Document 01, "The touch record": frames. What a frame makes of the first body that it names and of the pair, and
--- what it answers. Refusals 10, 11, 12, 13 in that order, then those of the shape, the placement or the contact; each
--- kind of frame has its order in one definition. A refusal changes nothing. Definitions only.
+-- what it answers. Refusals 10 and 11 are of the bytes alone; then each kind of frame has its order in one definition:
+-- 12, 13, then those of the shape, the placement or the contact. A refusal changes nothing. Definitions only.
 use Prim.Native.Nat.{ℕ, _+_, _*_}
 use mathlib.Core.Bool.{Bool, true, false, not, cond, _&&_, _||_}
 use mathlib.Core.List.{List}
@@ -14,16 +14,15 @@ use Rattle.shape_definitions.specs.declared.b2_polygon_shape.PolygonAnswer.{Pol
 use Rattle.shape_definitions.specs.Circle.{circle-in-range}
 use Rattle.shape_definitions.specs.Edge.{b2-set-one-sided, b2-set-two-sided}
 use Rattle.shape_definitions.specs.Polygon.{b2-polygon-shape-set}
-use Rattle.shape_definitions.specs.Refusal.{accepted, shape-out-of-range, placement-out-of-range}
-use Rattle.shape_definitions.specs.Refusal.{malformed-frame, unknown-id, no-shape, pair-not-listed}
+use Rattle.shape_definitions.specs.Refusal.{accepted, shape-out-of-range, placement-out-of-range, malformed-frame}
+use Rattle.shape_definitions.specs.Refusal.{unknown-id, no-shape, pair-not-listed}
 use Rattle.record_definitions.specs.declared.world.Body.{Body}
 use Rattle.record_definitions.specs.declared.world.Pair.{Pair}
 use Rattle.record_definitions.specs.declared.touch.TestAnswer.{TestAnswer}
 use Rattle.record_definitions.specs.declared.frame.Answer.the-variants.{Accepted, Refused, Tested}
 use Rattle.record_definitions.specs.declared.frame.Change.{Change}
-use Rattle.record_definitions.specs.World.{no-body, circle-kind, outline-kind, wall-kind}
-use Rattle.record_definitions.specs.World.{blank-outline, blank-wall, circle-body, outline-body, wall-body}
-use Rattle.record_definitions.specs.World.{placed}
+use Rattle.record_definitions.specs.World.{no-body, circle-kind, outline-kind, wall-kind, blank-outline}
+use Rattle.record_definitions.specs.World.{blank-wall, circle-body, outline-body, wall-body, placed}
 use Rattle.record_definitions.specs.Touch.{tested}
 
 -- ---- the length of a frame, by its kind and its third byte: the count of an outline, the flag of a wall. 0 where a
@@ -49,8 +48,19 @@ well-formed bytes =
     let size = frame-length (byte-at bytes 0) (byte-at bytes 2) in
     not (eqb size 0) && eqb (length bytes) size
 
+-- ---- the refusals that look at no body: 10, then 11 of each id that the frame names, of which a test names two
 abbrev pub largest-id : ℕ
 largest-id = 7
+
+abbrev pub names-unknown : List ℕ → Bool
+names-unknown bytes =
+    ltb largest-id (byte-at bytes 1) || (eqb (byte-at bytes 0) 5 && ltb largest-id (byte-at bytes 2))
+
+unfoldable pub frame-refusal : List ℕ → ℕ
+frame-refusal bytes =
+    cond (not (well-formed bytes)) malformed-frame
+    (cond (names-unknown bytes) unknown-id
+    accepted)
 
 -- ---- changes: a refusal changes nothing; a new shape forgets its pairs
 abbrev pub refused : ℕ → Body → Pair → Change
@@ -117,10 +127,9 @@ listed a b =
 
 unfoldable pub test-refusal : ℕ → ℕ → ℕ → ℕ → ℕ
 test-refusal ida idb kinda kindb =
-    cond (ltb largest-id idb) unknown-id
-    (cond (eqb kinda no-body || eqb kindb no-body) no-shape
+    cond (eqb kinda no-body || eqb kindb no-body) no-shape
     (cond (eqb ida idb || not (listed kinda kindb)) pair-not-listed
-    accepted))
+    accepted)
 
 abbrev pub test-answered : Body → Pair → TestAnswer → Change
 test-answered body pair t =
@@ -144,6 +153,5 @@ change-of-kind kind a b pair bytes =
 
 unfoldable pub change : Body → Body → Pair → List ℕ → Change
 change a b pair bytes =
-    cond (not (well-formed bytes)) (refused malformed-frame a pair)
-    (cond (ltb largest-id (byte-at bytes 1)) (refused unknown-id a pair)
-    (change-of-kind (byte-at bytes 0) a b pair bytes))
+    let number = frame-refusal bytes in
+    cond (eqb number accepted) (change-of-kind (byte-at bytes 0) a b pair bytes) (refused number a pair)

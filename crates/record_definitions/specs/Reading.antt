@@ -14,7 +14,6 @@ use Rattle.record_definitions.specs.declared.frame.Said.{Said}
 use Rattle.record_definitions.specs.declared.reader.Reader.{Reader}
 use Rattle.record_definitions.specs.declared.reader.Fed.{Fed}
 use Rattle.record_definitions.specs.World.{fresh-world}
-use Rattle.record_definitions.specs.Answer.{said-line, longest-line}
 use Rattle.record_definitions.specs.Step.{after-line, said-of-line}
 
 pub record Reading : Type 0 where
@@ -66,12 +65,14 @@ joined (piece ∷ pieces) = piece ++ joined pieces
 abbrev pub reading : Reader → Reading
 reading s = record { world = s .world; line = take (s .len) (s .line) }
 
--- what feeding a piece of input leaves: its front was taken, all of it where the output had room for one more line,
--- and some of it where the output had room at all; at the front of the output stands what those characters print
-pub record FedAs (s : Reader) (chunk out : List ℕ) (r : Fed) (left : List ℕ) : Type 0 where
+-- what feeding a piece of input leaves, for any way of printing and the length of the longest line that it prints: the
+-- front of the piece was taken, all of it where the output had room for one more line, and some of it where the output
+-- had room at all; at the front of the output stands what those characters print
+pub record FedAs (print : Said → List ℕ) (longest : ℕ) (s : Reader) (chunk out : List ℕ) (r : Fed) (left : List ℕ) :
+    Type 0 where
   pub within : r .taken ≤ length chunk
-  pub all : longest-line ≤ length out - r .written → r .taken ≡ length chunk
-  pub some : longest-line ≤ length out → 0 < length chunk → 0 < r .taken
+  pub all : longest ≤ length out - r .written → r .taken ≡ length chunk
+  pub some : longest ≤ length out → 0 < length chunk → 0 < r .taken
   pub state : reading (r .reader) ≡ after (reading s) (take (r .taken) chunk)
-  pub count : r .written ≡ length (printed said-line (reading s) (take (r .taken) chunk))
-  pub output : left ≡ over (printed said-line (reading s) (take (r .taken) chunk)) out
+  pub count : r .written ≡ length (printed print (reading s) (take (r .taken) chunk))
+  pub output : left ≡ over (printed print (reading s) (take (r .taken) chunk)) out

@@ -1,38 +1,38 @@
 -- Bodies as frames make them have shapes and placements of at most 2^20 m, and skins within the range. Assumes nothing.
 use Prim.Native.Nat.{ℕ, zero, suc, _+_, _*_, _^_, _≤_}
 use mathlib.Core.Path.{_≡_, refl, sym, subst}
-use mathlib.Core.Bool.{Bool, true, false, _&&_, false≢true}
+use mathlib.Core.Bool.{Bool, true, false, _&&_}
 use native.Mathlib.Nat.{le-trans, le-of-eq}
 use mathlib.Core.List.{List}
 use lib.Dec.{T, eqb}
 use lib.Ieee.{Float, binary32}
 use lib.Ieee.Bits.{ofBits-fits}
+use native.Mathlib.Omega.{arith}
 use Rattle.rounding.specs.Literals.{one32}
 use Rattle.rounding.specs.Value.{metre}
 use Rattle.rounding.proofs.Value.{mag-abs}
 use Rattle.floats.specs.declared.b2_math.B2vec2.{B2vec2}
 use Rattle.floats.specs.Ranges.{within, point-in-range, radius-in-range, rotation-in-range, transform-in-range}
+use Rattle.floats.specs.B2Common.{b2-polygon-radius}
 use Rattle.floats.proofs.RangeValue.{Bounded, limit-value, limit-vec2, one-limit-is, shape-limit-is}
 use Rattle.lines.specs.Fields.{byte-at, number-at, float-at, vector-at, points-at, rotation-at, placement-at}
+use Rattle.shape_definitions.specs.declared.b2_edge_shape.EdgeAnswer.{EdgeAnswer}
 use Rattle.shape_definitions.specs.Circle.{circle-in-range}
 use Rattle.shape_definitions.specs.Edge.{b2-set-one-sided, b2-set-two-sided}
-use Rattle.shape_definitions.specs.declared.b2_edge_shape.EdgeAnswer.{EdgeAnswer}
 use Rattle.shape_definitions.specs.Polygon.{all-points, b2-polygon-shape-set}
 use Rattle.shape_definitions.specs.Refusal.{accepted}
 use Rattle.contact_definitions.proofs.Counts.{either}
 use Rattle.record_definitions.specs.declared.world.Body.{Body}
-use Rattle.record_definitions.specs.World.{at-origin, blank-outline, blank-wall, blank-body, circle-body}
-use Rattle.record_definitions.specs.World.{outline-body, wall-body, placed}
+use Rattle.record_definitions.specs.World.{at-origin, blank-outline, blank-wall, blank-body, circle-body, outline-body}
+use Rattle.record_definitions.specs.World.{wall-body, placed}
 use Rattle.record_definitions.specs.Touch.{skin}
 use Rattle.record_definitions.specs.Frame.{circle-at, wall-at}
-use Rattle.record_definitions.proofs.Changes.{by-choice}
+use Rattle.record_definitions.proofs.Changes.{by-choice, both}
 use Rattle.record_ranges.proofs.Caps.{Cap}
 use Rattle.record_ranges.proofs.Vectors.{Caps, Turns}
 use Rattle.record_ranges.proofs.Shapes.{zero-cap, one-cap, origin-caps, CircleCaps, WallCaps, OutlineCaps}
 use Rattle.record_ranges.proofs.Shapes.{AtPlace}
 use Rattle.record_ranges.proofs.Outlines.{Each, built-caps, blank-outline-caps, skin-taken}
-use Rattle.floats.specs.B2Common.{b2-polygon-radius}
-use native.Mathlib.Omega.{arith}
 
 pub record CappedBody (body : Body) : Type 0 where
   pub place : AtPlace (body .xf)
@@ -54,11 +54,6 @@ point-caps bytes at taken =
       x-cap = bounded-cap (float-at bytes at) 20 (2 ^ 20) (le-of-eq refl) (both .0);
       y-cap = bounded-cap (float-at bytes (at + 4)) 20 (2 ^ 20) (le-of-eq refl) (both .1);
     }
-
-both : (s t : Bool) → s && t ≡ true → (s ≡ true) × (t ≡ true)
-both true true e = (refl, refl)
-both true false e = absurd (false≢true e)
-both false t e = absurd (false≢true e)
 
 points-caps : (bytes : List ℕ) (at n : ℕ) → all-points point-in-range (points-at bytes at n) ≡ true
     → Each (points-at bytes at n) 20

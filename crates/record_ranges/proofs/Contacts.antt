@@ -21,8 +21,7 @@ use Rattle.contact_definitions.specs.declared.b2_collision.B2manifold.{B2manifo
 use Rattle.contact_definitions.specs.declared.b2_collision.ManifoldAnswer.{ManifoldAnswer}
 use Rattle.contact_definitions.specs.declared.b2_collision.WorldAnswer.{WorldAnswer}
 use Rattle.contact_definitions.specs.Manifold.{default-manifold, with-count, miscounted, unless-miscounted}
-use Rattle.contact_definitions.specs.Manifold.{where-in-range}
-use Rattle.contact_definitions.specs.Manifold.{manifold-accepted, manifold-refused}
+use Rattle.contact_definitions.specs.Manifold.{where-in-range, manifold-accepted, manifold-refused}
 use Rattle.contact_definitions.specs.B2CollideCircle.{b2-collide-circles, b2-collide-polygon-and-circle}
 use Rattle.contact_definitions.specs.B2CollidePolygon.{polygons-axis, polygons-manifold, b2-collide-polygons}
 use Rattle.contact_definitions.specs.B2CollideEdge.{edge-circle-answer, b2-collide-edge-and-circle}

@@ -1,6 +1,6 @@
 -- A coordinate whose rounded square is at most a rounded squared length: where the length is below 2^-23 m it is at
 -- most 1 m, and else, times the reciprocal of the length, at most 4 m. Assumes nothing.
-use Prim.Native.Nat.{ℕ, suc, _+_, _*_, _^_, _≤_, _<_}
+use Prim.Native.Nat.{ℕ, _+_, _*_, _^_, _≤_, _<_}
 use mathlib.Core.Path.{_≡_, sym}
 use mathlib.Core.Bool.{Bool, true, false}
 use mathlib.Core.Logic.{_⊎_, inl, inr}
@@ -12,19 +12,19 @@ use Rattle.algebra.specs.Integer.{Z, whole, signed, _⊟_, _⊠_, _⊛_, _≐_,
 use Rattle.algebra.proofs.Booleans.{less-or-not}
 use Rattle.algebra.proofs.Integer.{multiple-same}
 use Rattle.algebra.proofs.Magnitude.{abs-product}
-use Rattle.algebra.proofs.Products.{square-not-negative}
+use Rattle.algebra.proofs.Products.{root-le, square-not-negative}
 use Rattle.rounding.specs.Literals.{one32}
 use Rattle.rounding.specs.Value.{metre, F32, sign, mag, val}
 use Rattle.rounding.proofs.Value.{metre-pos, val-signed, abs-mag, least-is, mag-mono}
 use Rattle.rounding.proofs.Literals.{one-f32, one-val, one-mag}
 use Rattle.rounding.proofs.Operations.{mul-rounds, div-rounds, abs-turned}
 use Rattle.rounding.proofs.Theorem.{relative-results, ordered-results, not-negative-results, doubled-results}
+use Rattle.rounding.proofs.Comparison.{lt-val}
 use Rattle.sqrt.specs.Sqrt.{sqrt}
 use Rattle.sqrt.proofs.SqrtLaw.{sqrt-law}
 use Rattle.sqrt.proofs.SqrtOrder.{sqrt-low}
 use Rattle.floats.specs.B2Common.{b2-epsilon}
 use Rattle.floats.proofs.Constants.{epsilon-is}
-use Rattle.rounding.proofs.Comparison.{lt-val}
 use Rattle.record_ranges.proofs.Caps.{Cap, rounds-cap}
 
 -- ---- squares
@@ -49,15 +49,6 @@ half-square e q s v w v-is w-is q-low s-pos h =
     linear : (u : Z) (p m : ℕ) → u ≐ whole p → p ≤ m → metre ≤ m → Abs (2 ^ 24 ⊛ (u ⊟ w)) (e + 2 ^ 23 * metre)
         → e ≤ 2 * m
     linear u p m u-is below at-least k = omega arith
-
-root-of-square : (a b : ℕ) → a * a ≤ b * b → a ≤ b
-root-of-square a b h = go (less-or-not b a)
-  where
-    go : (b < a) ⊎ (a ≤ b) → a ≤ b
-    go (inl below) =
-        let more : suc b * suc b ≤ a * a = mul-le-mul below below in
-        absurd (omega arith)
-    go (inr within) = within
 
 -- ---- a length from its square: both are floats
 module _ (squared root : Float) (squared-f32 : F32 squared) (squared-value : val squared ≐ whole (mag squared))
@@ -123,7 +114,7 @@ module _ (squared root : Float) (squared-f32 : F32 squared) (squared-value : val
         half-square (mag c * mag c) (mag (mul binary32 c c)) (mag squared) (val (mul binary32 c c)) (val c ⊠ val c)
         (least-is (mul binary32 c c) square-not-neg) (square-is c) square-mag some
         (relative-results c-f32 c-f32 .product-mixed square-f32) in
-        root-of-square (mag c) (2 * mag root)
+        root-le (mag c) (2 * mag root)
         (rw root-is (twice (mag c * mag c) (mag squared * metre) (mag (sqrt binary32 squared)) half (law .1)))
       where
         twice : (e m l : ℕ) → e ≤ 2 * m → 2 ^ 48 * m ≤ (2 ^ 24 + 1) * (2 ^ 24 + 1) * (l * l) → e ≤ 2 * l * (2 * l)

@@ -35,7 +35,7 @@ use Rattle.record_definitions.specs.Frame.{listed}
 use Rattle.record_definitions.specs.Answer.{head-bytes, touch-bytes, answer-bytes, longest-answer}
 use Rattle.record_definitions.specs.Export.{in-order, refusal-base, left-in, export-number, export-output}
 use Rattle.record_definitions.specs.ExportLaws.{test-size, export-numbers, ExportReturns}
-use Rattle.record_definitions.proofs.Exported.{too-short, out-of-order}
+use Rattle.record_definitions.proofs.Exported.{too-short, out-of-order, was-refused}
 use Rattle.record_definitions.proofs.Sound.{Sound}
 use Rattle.record_definitions.proofs.SoundKept.{fresh-sound, frame-keeps-sound}
 use Rattle.record_definitions.proofs.SoundTests.{NotOfHost, test-fine}
@@ -210,7 +210,8 @@ export-returns input out = by-room (less-or-not (length out) longest-answer) (in
           ten = (λ same. absurd (omega arith), λ both. absurd (omega (arith, both .0)));
         }
     by-room (inr room) false is =
-        let number : refusal-base + 10 ≡ export-number input out = out-of-order input out room is .0 in
+        let number : refusal-base + 10 ≡ export-number input out =
+        was-refused input out room _ (out-of-order input is) 10 refl (λ e. absurd (omega arith)) .0 in
         record {
           listed = rw (← number) (at-place export-numbers 10 (omega arith));
           sized = λ written. absurd (omega (arith, number));

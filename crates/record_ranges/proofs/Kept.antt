@@ -2,7 +2,7 @@
 use Prim.Native.Nat.{ℕ, zero, suc}
 use mathlib.Core.Bool.{not}
 use mathlib.Core.List.{List, [], _∷_}
-use lib.Dec.{eqb, ltb}
+use lib.Dec.{eqb}
 use lib.ListN.{getD, set, replicate}
 use borrow.Author.Tests.{eqb-true, not-false}
 use Rattle.floats.specs.Ranges.{transform-in-range}
@@ -17,7 +17,7 @@ use Rattle.record_definitions.specs.declared.world.World.{World}
 use Rattle.record_definitions.specs.declared.frame.Change.{Change}
 use Rattle.record_definitions.specs.World.{no-body, blank-outline, blank-body, fresh-world, body-at, pair-at}
 use Rattle.record_definitions.specs.Touch.{tested}
-use Rattle.record_definitions.specs.Frame.{well-formed, largest-id, circle-at, circle-change, outline-change, wall-at}
+use Rattle.record_definitions.specs.Frame.{frame-refusal, circle-at, circle-change, outline-change, wall-at}
 use Rattle.record_definitions.specs.Frame.{wall-change, place-change, test-refusal, test-change, change-of-kind, change}
 use Rattle.record_definitions.specs.Step.{first-place, second-place, changed, change-in, after-frame}
 use Rattle.record_definitions.proofs.Changes.{by-choice}
@@ -68,8 +68,7 @@ module _ (a b : Body) (pair : Pair) (bytes : List ℕ) (capped : CappedBody a) w
   change-kept : Kept (change a b pair bytes)
   unfolding change
   change-kept =
-      either Kept (not (well-formed bytes)) _ _ capped
-      (either Kept (ltb largest-id (byte-at bytes 1)) _ _ capped (kind-kept (byte-at bytes 0)))
+      either Kept (eqb (frame-refusal bytes) accepted) _ _ (kind-kept (byte-at bytes 0)) capped
 
 stored : (l : List Body) (i : ℕ) (body : Body) → CappedBody body → ((k : ℕ) → CappedBody (getD l k blank-body))
     → (k : ℕ) → CappedBody (getD (set l i body) k blank-body)

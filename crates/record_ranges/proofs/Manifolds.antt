@@ -14,8 +14,7 @@ use Rattle.algebra.proofs.Magnitude.{abs-widen}
 use Rattle.rounding.specs.Value.{metre, mag, val}
 use Rattle.rounding.proofs.Value.{abs-mag}
 use Rattle.floats.specs.declared.b2_math.B2vec2.{B2vec2}
-use Rattle.floats.specs.Ranges.{vec2-within, local-normal-in-range}
-use Rattle.floats.specs.Ranges.{contact-point-in-range}
+use Rattle.floats.specs.Ranges.{vec2-within, local-normal-in-range, contact-point-in-range}
 use Rattle.floats.proofs.RangeValue.{Limit, vec2-limit, local-normal-limit-is, contact-limit-is}
 use Rattle.contact_definitions.specs.declared.b2_collision.B2clipVertex.{B2clipVertex}
 use Rattle.contact_definitions.specs.declared.b2_collision.B2contactId.{B2contactId}

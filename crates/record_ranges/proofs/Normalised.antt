@@ -13,6 +13,7 @@ use Rattle.algebra.proofs.Products.{square-not-negative}
 use Rattle.rounding.specs.Value.{metre, F32, mag, val}
 use Rattle.rounding.proofs.Value.{metre-pos, least-is}
 use Rattle.rounding.proofs.Theorem.{ordered-results, not-negative-results}
+use Rattle.rounding.proofs.Comparison.{val-lt, not-lt-val}
 use Rattle.sqrt.specs.Sqrt.{sqrt}
 use Rattle.sqrt.proofs.SqrtLaw.{sqrt-law, sqrt-zero}
 use Rattle.floats.specs.declared.b2_math.B2vec2.{B2vec2}
@@ -20,7 +21,6 @@ use Rattle.floats.specs.declared.b2_math.Normalized.{Normalized}
 use Rattle.floats.specs.B2Common.{b2-epsilon}
 use Rattle.floats.specs.B2Math.{b2-sqrt, b2-length-squared, b2-length, times-reciprocal, b2-normalize}
 use Rattle.floats.proofs.Constants.{epsilon-is}
-use Rattle.rounding.proofs.Comparison.{val-lt, not-lt-val}
 use Rattle.record_definitions.proofs.Changes.{by-choice}
 use Rattle.record_ranges.proofs.Caps.{Cap, cap-add, cap-mul}
 use Rattle.record_ranges.proofs.Vectors.{Caps}

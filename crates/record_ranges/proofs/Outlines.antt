@@ -9,19 +9,19 @@ use native.Mathlib.Omega.{arith}
 use lib.Dec.{T, ltb}
 use lib.Ieee.{binary32, ofBits, le, lt}
 use lib.Ieee.Bits.{ofBits-fits}
-use Rattle.algebra.specs.Integer.{Z, whole, _≼_, Abs}
-use Rattle.rounding.specs.Value.{metre, val}
-use Rattle.rounding.proofs.Value.{mag-abs}
-use Rattle.floats.proofs.RangeValue.{radius-value}
 use lib.ListN.{length, drop, replicate}
 use borrow.Author.Tests.{not-false}
+use Rattle.algebra.specs.Integer.{Z, whole, _≼_, Abs}
 use Rattle.algebra.specs.Buffer.{over}
 use Rattle.algebra.specs.Loops.{near-any, keep-unless, weld}
+use Rattle.rounding.specs.Value.{metre, val}
 use Rattle.rounding.specs.Literals.{one32}
+use Rattle.rounding.proofs.Value.{mag-abs}
 use Rattle.floats.specs.declared.b2_math.B2vec2.{B2vec2}
 use Rattle.floats.specs.B2Common.{b2-epsilon, b2-polygon-radius}
 use Rattle.floats.specs.B2Math.{b2-cross-vec-by-scalar}
 use Rattle.floats.specs.Ranges.{point-in-range, radius-in-range}
+use Rattle.floats.proofs.RangeValue.{radius-value}
 use Rattle.shape_definitions.specs.declared.b2_polygon_shape.B2polygonShape.{B2polygonShape}
 use Rattle.shape_definitions.specs.declared.b2_polygon_shape.PolygonAnswer.{PolygonAnswer}
 use Rattle.shape_definitions.specs.Outline.{origin, point-at, too-near, welded, row, edges-from, edges, long-enough}

@@ -1,19 +1,16 @@
 -- Shapes and placements whose numbers are at most 2^20 m, an outline's normals at most 4 m. Assumes nothing.
-use Prim.Native.Nat.{ℕ}
+use Prim.Native.Nat.{ℕ, _*_, _^_, _≤_}
+use native.Mathlib.Omega.{arith}
+use Rattle.algebra.specs.Integer.{Z, whole, _⊛_, _≐_, Abs}
 use Rattle.rounding.specs.Literals.{zero32, half32, one32}
+use Rattle.rounding.specs.Value.{metre, val}
+use Rattle.rounding.proofs.Literals.{zero-f32, half-f32, one-f32, one-mag, zero-val, half-val}
+use Rattle.rounding.proofs.Value.{mag-abs}
 use Rattle.floats.specs.declared.b2_math.B2Transform.{B2Transform}
 use Rattle.shape_definitions.specs.declared.b2_circle_shape.B2circleShape.{B2circleShape}
 use Rattle.shape_definitions.specs.declared.b2_edge_shape.B2edgeShape.{B2edgeShape}
 use Rattle.shape_definitions.specs.declared.b2_polygon_shape.B2polygonShape.{B2polygonShape}
 use Rattle.shape_definitions.specs.Outline.{origin, point-at}
-use Rattle.rounding.specs.Value.{metre}
-use Rattle.rounding.proofs.Literals.{zero-f32, half-f32, one-f32, one-mag}
-use Prim.Native.Nat.{_*_, _^_, _≤_}
-use native.Mathlib.Omega.{arith}
-use Rattle.rounding.proofs.Value.{mag-abs}
-use Rattle.algebra.specs.Integer.{Z, whole, _⊛_, _≐_, Abs}
-use Rattle.rounding.specs.Value.{val}
-use Rattle.rounding.proofs.Literals.{zero-val, half-val}
 use Rattle.record_ranges.proofs.Caps.{Cap}
 use Rattle.record_ranges.proofs.Vectors.{Caps, Placed}
 

@@ -5,10 +5,10 @@ use mathlib.Core.Path.{_≡_, refl, subst}
 use mathlib.Core.Bool.{not, _||_}
 use mathlib.Core.List.{List, [], _∷_}
 use native.Mathlib.Omega.{arith}
-use lib.Dec.{eqb, ltb}
+use lib.Dec.{eqb}
 use Rattle.lines.specs.Fields.{byte-at}
 use Rattle.lines.specs.Hex.{frame-of}
-use Rattle.shape_definitions.specs.Refusal.{accepted, contact-out-of-range, malformed-frame, unknown-id}
+use Rattle.shape_definitions.specs.Refusal.{accepted, contact-out-of-range}
 use Rattle.contact_definitions.proofs.Counts.{either}
 use Rattle.record_definitions.specs.declared.world.Body.{Body}
 use Rattle.record_definitions.specs.declared.world.Pair.{Pair}
@@ -18,9 +18,10 @@ use Rattle.record_definitions.specs.declared.frame.Answer.the-variants.{Refused
 use Rattle.record_definitions.specs.declared.frame.Change.{Change}
 use Rattle.record_definitions.specs.World.{no-body, fresh-world, body-at, pair-at}
 use Rattle.record_definitions.specs.Touch.{tested}
-use Rattle.record_definitions.specs.Frame.{well-formed, largest-id, refused, listed, test-refusal, test-change}
-use Rattle.record_definitions.specs.Frame.{change-of-kind, change}
+use Rattle.record_definitions.specs.Frame.{frame-refusal, refused, listed, test-refusal, test-change, change-of-kind}
+use Rattle.record_definitions.specs.Frame.{change}
 use Rattle.record_definitions.specs.Step.{first-place, second-place, change-in, said-of-frame, after-line, said-of-line}
+use Rattle.record_definitions.proofs.FrameRefusals.{of-bytes-alone}
 use Rattle.record_definitions.proofs.SoundTests.{NotOfHost}
 use Rattle.record_definitions.proofs.Theorem.{after-lines, reached-worlds-sound, test-not-of-host}
 use Rattle.record_ranges.proofs.Bodies.{CappedBody}
@@ -43,10 +44,9 @@ NotNine n = n ≡ contact-out-of-range → ⊥
 number-not-nine : (ida idb kinda kindb : ℕ) → NotNine (test-refusal ida idb kinda kindb)
 unfolding test-refusal NotNine
 number-not-nine ida idb kinda kindb =
-    either NotNine (ltb largest-id idb) _ _ (λ e. absurd (omega arith))
-    (either NotNine (eqb kinda no-body || eqb kindb no-body) _ _ (λ e. absurd (omega arith))
+    either NotNine (eqb kinda no-body || eqb kindb no-body) _ _ (λ e. absurd (omega arith))
     (either NotNine (eqb ida idb || not (listed kinda kindb)) _ _ (λ e. absurd (omega arith))
-    (λ e. absurd (omega arith))))
+    (λ e. absurd (omega arith)))
 
 module _ (a b : Body) (pair : Pair) (bytes : List ℕ) (a-caps : CappedBody a) (b-caps : CappedBody b) where
   Says : Change → Type 0
@@ -78,9 +78,10 @@ module _ (a b : Body) (pair : Pair) (bytes : List ℕ) (a-caps : CappedBody a) (
       → (n ≡ contact-out-of-range → ⊥)
   unfolding change change-of-kind Says NotNine
   frame-says five =
-      either Says (not (well-formed bytes)) _ _ (refused-says malformed-frame (λ e. absurd (omega arith)))
-      (either Says (ltb largest-id (byte-at bytes 1)) _ _ (refused-says unknown-id (λ e. absurd (omega arith)))
-      (rw five (test-says (byte-at bytes 1) (byte-at bytes 2))))
+      either Says (eqb (frame-refusal bytes) accepted) _ _ (rw five (test-says (byte-at bytes 1) (byte-at bytes 2)))
+      (refused-says (frame-refusal bytes)
+      (of-bytes-alone bytes NotNine (λ e. absurd (omega arith)) (λ e. absurd (omega arith))
+      (λ e. absurd (omega arith))))
 
 -- ---- after any lines, a test's refusal is neither 6 nor 7 nor 9
 pub test-refusals : (lines : List (List ℕ)) (line : List ℕ) (n : ℕ) → byte-at (frame-of line) 0 ≡ 5

@@ -6,9 +6,8 @@ use lib.Ieee.{Float}
 use Rattle.floats.specs.declared.b2_math.B2Rot.{B2Rot}
 use Rattle.floats.specs.declared.b2_math.B2Transform.{B2Transform}
 use Rattle.floats.specs.declared.b2_math.B2vec2.{B2vec2}
-use Rattle.floats.specs.B2Math.{b2-add, b2-sub, b2-neg, b2-scale, b2-dot}
-use Rattle.floats.specs.B2Math.{b2-mul-rot-by-vec2, b2-mul-t-rot-by-vec2, b2-mul-transform-by-vec2}
-use Rattle.floats.specs.B2Math.{b2-mul-t-transform-by-vec2}
+use Rattle.floats.specs.B2Math.{b2-add, b2-sub, b2-neg, b2-scale, b2-dot, b2-mul-rot-by-vec2, b2-mul-t-rot-by-vec2}
+use Rattle.floats.specs.B2Math.{b2-mul-transform-by-vec2, b2-mul-t-transform-by-vec2}
 use Rattle.contact_definitions.specs.EdgeAxis.{right-of}
 use Rattle.record_ranges.proofs.Caps.{Cap, cap-widen, cap-neg, cap-add, cap-sub, cap-mul}
 

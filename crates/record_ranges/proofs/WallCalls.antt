@@ -9,8 +9,8 @@ use Rattle.rounding.specs.Literals.{zero32}
 use Rattle.floats.specs.declared.b2_math.B2Transform.{B2Transform}
 use Rattle.floats.specs.declared.b2_math.B2vec2.{B2vec2}
 use Rattle.floats.specs.B2Common.{b2-max-float}
-use Rattle.floats.specs.B2Math.{vec2, b2-sub, b2-neg, b2-dot, b2-normalize, b2-mul-t-rot}
-use Rattle.floats.specs.B2Math.{b2-mul-transform-by-vec2, b2-mul-t-transform}
+use Rattle.floats.specs.B2Math.{vec2, b2-sub, b2-neg, b2-dot, b2-normalize, b2-mul-t-rot, b2-mul-transform-by-vec2}
+use Rattle.floats.specs.B2Math.{b2-mul-t-transform}
 use Rattle.shape_definitions.specs.declared.b2_edge_shape.B2edgeShape.{B2edgeShape}
 use Rattle.shape_definitions.specs.declared.b2_polygon_shape.B2polygonShape.{B2polygonShape}
 use Rattle.shape_definitions.specs.Outline.{point-at, place-after}
@@ -25,9 +25,8 @@ use Rattle.contact_definitions.specs.declared.b2_collision.B2manifoldType.the-v
 use Rattle.contact_definitions.specs.Axis.{keeps-farther, separation-of}
 use Rattle.contact_definitions.specs.Manifold.{with-kind, with-local-point}
 use Rattle.contact_definitions.specs.EdgeAxis.{placed-corner, placed-normal, right-of, side-axis, outline-axis}
-use Rattle.contact_definitions.specs.EdgeAxis.{b2-compute-edge-separation, b2-compute-polygon-separation}
-use Rattle.contact_definitions.specs.EdgeAxis.{clearly-above, primary-axis, gauss-region, in-region, smoothed}
-use Rattle.contact_definitions.specs.EdgeAxis.{edge-polygon-axis}
+use Rattle.contact_definitions.specs.EdgeAxis.{b2-compute-edge-separation, b2-compute-polygon-separation, clearly-above}
+use Rattle.contact_definitions.specs.EdgeAxis.{primary-axis, gauss-region, in-region, smoothed, edge-polygon-axis}
 use Rattle.contact_definitions.specs.EdgeReference.{face-between, within-radius, most-against, outline-end}
 use Rattle.contact_definitions.specs.EdgeReference.{outline-edge, point-in-frame, wall-manifold, wall-edge}
 use Rattle.contact_definitions.specs.EdgeReference.{point-as-it-is, placed-face, face-manifold, edge-manifold-on}
