@@ -1,4 +1,4 @@
-pub mod Effects
-pub mod Tests
-pub mod Lengths
+pub mod BodyFrames
+pub mod TestFrames
+pub mod FrameLengths
 pub mod ByKind

@@ -1,10 +1,9 @@
-// Any frame.
+// Any frame: its length by its kind, the refusals that look at no body, and then its kind.
 ghost use mathlib.Core.Path.{_≡_};
 ghost use Rattle.record_definitions.specs.Frame as definitions;
-ghost use Rattle.frames.specs.Refused.{frame-refusal};
-use crate::changes;
-use crate::kinds;
+use crate::body_frames;
 use crate::test_frame;
+use crate::world;
 use lines::fields;
 use record_definitions::frame::Change;
 use record_definitions::world::Body;
@@ -33,6 +32,9 @@ fn wall_length(flag: u8) -> usize
     }
 }
 
+// The bytes of frame 04.
+pub const PLACEMENT_LENGTH: usize = 18;
+
 // By the kind and the third byte: the count of an outline, the flag of a wall. 0 where there is no such frame.
 pub fn frame_length(kind: u8, third: u8) -> usize
     ensures { λ r. ⌜ r ≡ definitions.frame-length kind third ⌝ }
@@ -41,24 +43,44 @@ pub fn frame_length(kind: u8, third: u8) -> usize
         1 => 14,
         2 => outline_length(third),
         3 => wall_length(third),
-        4 => 18,
+        4 => PLACEMENT_LENGTH,
         5 => 3,
         _ => 0,
     }
 }
 
-// Its length, then its first id; or 0.
-fn frame_refusal(bytes: &[u8]) -> u8
-    ensures { λ r. ⌜ r ≡ frame-refusal (now (bytes .entry)) ⌝ }
+// Of a known kind, and just as long as such a frame is.
+fn well_formed(bytes: &[u8]) -> bool
+    ensures { λ r. ⌜ r ≡ definitions.well-formed (now (bytes .entry)) ⌝ }
 {
     let size = frame_length(fields::byte(bytes, 0), fields::byte(bytes, 2));
     if size == 0 {
-        return refusal::MALFORMED_FRAME;
+        return false;
     }
-    if bytes.len() != size {
-        return refusal::MALFORMED_FRAME;
-    }
+    bytes.len() == size
+}
+
+// Whether an id that it names is none: a test names two.
+fn names_unknown(bytes: &[u8]) -> bool
+    ensures { λ r. ⌜ r ≡ definitions.names-unknown (now (bytes .entry)) ⌝ }
+{
     if fields::byte(bytes, 1) > LARGEST_ID {
+        return true;
+    }
+    if fields::byte(bytes, 0) == 5 {
+        return fields::byte(bytes, 2) > LARGEST_ID;
+    }
+    false
+}
+
+// The refusals that look at no body; or 0.
+fn frame_refusal(bytes: &[u8]) -> u8
+    ensures { λ r. ⌜ r ≡ definitions.frame-refusal (now (bytes .entry)) ⌝ }
+{
+    if !well_formed(bytes) {
+        return refusal::MALFORMED_FRAME;
+    }
+    if names_unknown(bytes) {
         return refusal::UNKNOWN_ID;
     }
     refusal::ACCEPTED
@@ -71,14 +93,14 @@ pub fn frame(a: Body, b: Body, pair: Pair, bytes: &[u8]) -> Change
 {
     let number = frame_refusal(bytes);
     if number != refusal::ACCEPTED {
-        return changes::refused(number, a, pair);
+        return world::refused(number, a, pair);
     }
     let kind = fields::byte(bytes, 0);
     match kind {
-        1 => kinds::circle_frame(a, pair, bytes),
-        2 => kinds::outline_frame(a, pair, bytes),
-        3 => kinds::wall_frame(a, pair, bytes),
-        4 => kinds::place_frame(a, pair, bytes),
+        1 => body_frames::circle_frame(a, pair, bytes),
+        2 => body_frames::outline_frame(a, pair, bytes),
+        3 => body_frames::wall_frame(a, pair, bytes),
+        4 => body_frames::place_frame(a, pair, bytes),
         _ => { test_frame::test_frame(fields::byte(bytes, 1), fields::byte(bytes, 2), a, b, pair) }
     }
 }

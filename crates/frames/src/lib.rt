@@ -1,21 +1,15 @@
-// Any frame: what it changes, and what is said of it.
+// Frames: what any frame makes of the bodies and the pair that it names, and what is said of it.
 
 // Bodies, pairs and the world, made and changed.
-pub mod changes;
 pub mod world;
 
-// The contact of two bodies, by their kinds.
-pub mod meeting;
+// Frames 01 to 04.
+pub mod body_frames;
 
-// The parts of a test's result.
-pub mod touch;
-
-// Frames 01 to 04: they define and place shapes.
-pub mod kinds;
-
-// A test of two bodies: contact, world points, point states and touches.
-pub mod testing;
-
-// Frame 05: a test of two bodies.
-pub mod frame;
+// Frame 05: which pairs are tested, the contact of such a pair, and the result.
+pub mod listed_pairs;
 pub mod test_frame;
+pub mod test_result;
+
+// Any frame.
+pub mod frame;

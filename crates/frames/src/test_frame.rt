@@ -1,47 +1,112 @@
-// Frame 05: a test of two bodies.
+// Frame 05: a test of two bodies. Contact, world points, point states and touches.
 ghost use mathlib.Core.Path.{_≡_};
+ghost use mathlib.Core.Bool.{cond};
+ghost use lib.Dec.{eqb};
+ghost use Rattle.shape_definitions.specs.Refusal.{accepted};
+ghost use Rattle.contact_definitions.specs.WorldManifold.{default-world-manifold};
+ghost use Rattle.record_definitions.specs.Touch as results;
 ghost use Rattle.record_definitions.specs.Frame as definitions;
-use crate::changes;
-use crate::testing;
+use crate::listed_pairs;
+use crate::test_result;
+use crate::world;
+use contact_definitions::b2_collision::B2manifold;
+use contact_definitions::b2_collision::B2worldManifold;
+use contact_definitions::b2_collision::WorldAnswer;
+use contacts::b2_collision;
+use floats::b2_math::B2vec2;
 use record_definitions::frame::Answer;
 use record_definitions::frame::Change;
 use record_definitions::frame::Said;
 use record_definitions::touch::TestAnswer;
 use record_definitions::world::Body;
 use record_definitions::world::CIRCLE;
-use record_definitions::world::LARGEST_ID;
 use record_definitions::world::NO_BODY;
 use record_definitions::world::OUTLINE;
 use record_definitions::world::Pair;
-use record_definitions::world::WALL;
 use shape_definitions::refusal;
 
-// The kinds that are tested: circle-circle, outline-circle, outline-outline, wall-circle, wall-outline.
-fn listed(a: u8, b: u8) -> bool
-    ensures { λ r. ⌜ r ≡ definitions.listed a b ⌝ }
+// The world points where there is no point.
+fn default_world_manifold() -> B2worldManifold
+    ensures { λ r. ⌜ r ≡ default-world-manifold ⌝ }
 {
-    let circles = (a == CIRCLE) & (b == CIRCLE);
-    let outline_circle = (a == OUTLINE) & (b == CIRCLE);
-    let outlines = (a == OUTLINE) & (b == OUTLINE);
-    let wall_circle = (a == WALL) & (b == CIRCLE);
-    let wall_outline = (a == WALL) & (b == OUTLINE);
-    circles | outline_circle | outlines | wall_circle | wall_outline
+    let origin = B2vec2 { x: 0.0, y: 0.0 };
+    let points = [origin; 2];
+    B2worldManifold {
+        normal: origin,
+        points,
+        separations: [0.0; 2],
+    }
 }
 
-// The second id, then a body without a shape, then the pair; or 0.
+// The radius of a body's shape.
+fn skin(body: Body) -> f32
+    ensures { λ r. ⌜ r ≡ results.skin body ⌝ }
+{
+    let kind = body.kind;
+    if kind == CIRCLE {
+        let circle = body.circle;
+        return circle.m_radius;
+    }
+    if kind == OUTLINE {
+        let outline = body.outline;
+        return outline.m_radius;
+    }
+    let wall = body.wall;
+    wall.m_radius
+}
+
+// The world points of a contact, with the skins of both bodies.
+fn world_points_of(a: Body, b: Body, m: B2manifold) -> WorldAnswer
+    ensures { λ r. ⌜ r ≡ results.world-points a b m ⌝ }
+{
+    let old = default_world_manifold();
+    let xfa = a.xf;
+    let xfb = b.xf;
+    let skin_a = skin(a);
+    let skin_b = skin(b);
+    b2_collision::b2_world_manifold_initialize_core(old, m, xfa, skin_a, xfb, skin_b)
+}
+
+// The contact's refusal, or else that of the world points.
+fn first_refusal(met: u8, world: u8) -> u8
+    ensures { λ r. ⌜ r ≡ cond (eqb met accepted) world met ⌝ }
+{
+    if met == refusal::ACCEPTED {
+        return world;
+    }
+    met
+}
+
+// What the test of bodies a and b answers under the ids that the frame gives, and what their pair keeps.
+fn tested(ida: u8, idb: u8, a: Body, b: Body, pair: Pair) -> TestAnswer
+    ensures { λ r. ⌜ r ≡ results.tested ida idb a b pair ⌝ }
+{
+    let met = listed_pairs::meet(a, b);
+    let m = met.manifold;
+    let points = world_points_of(a, b, m);
+    let old = pair.ids;
+    let new = b2_collision::counted_ids(m);
+    let states = b2_collision::states_of_ids(old, new);
+    let touches = test_result::touches_after(pair.touches, states);
+    let w = points.world;
+    TestAnswer {
+        refusal: first_refusal(met.refusal, points.refusal),
+        touch: test_result::touch_of(ida, idb, m, states, touches, w),
+        pair: Pair { ids: new, touches },
+    }
+}
+
+// A body without a shape, then the pair; or 0.
 fn test_refusal(ida: u8, idb: u8, kinda: u8, kindb: u8) -> u8
     ensures { λ r. ⌜ r ≡ definitions.test-refusal ida idb kinda kindb ⌝ }
 {
-    if idb > LARGEST_ID {
-        return refusal::UNKNOWN_ID;
-    }
     let none_a = kinda == NO_BODY;
     let none_b = kindb == NO_BODY;
     if none_a | none_b {
         return refusal::NO_SHAPE;
     }
     let same = ida == idb;
-    let fits = listed(kinda, kindb);
+    let fits = listed_pairs::listed(kinda, kindb);
     if same | !fits {
         return refusal::PAIR_NOT_LISTED;
     }
@@ -54,7 +119,7 @@ fn test_answered(body: Body, pair: Pair, t: TestAnswer) -> Change
 {
     let number = t.refusal;
     if number != refusal::ACCEPTED {
-        return changes::refused(number, body, pair);
+        return world::refused(number, body, pair);
     }
     let touch = t.touch;
     let kept = t.pair;
@@ -74,7 +139,7 @@ pub fn test_frame(ida: u8, idb: u8, a: Body, b: Body, pair: Pair) -> Change
 {
     let number = test_refusal(ida, idb, a.kind, b.kind);
     if number != refusal::ACCEPTED {
-        return changes::refused(number, a, pair);
+        return world::refused(number, a, pair);
     }
-    test_answered(a, pair, testing::tested(ida, idb, a, b, pair))
+    test_answered(a, pair, tested(ida, idb, a, b, pair))
 }

@@ -1,7 +1,9 @@
-// The state of the touch record: what a new shape, a placement and a fresh program make of it.
+// Bodies, pairs and the world: what a new shape, a placement and a fresh program make of them; and what a frame
+// changes, by how it is answered.
 ghost use mathlib.Core.Path.{_≡_};
 ghost use Prim.Native.Nat.{_<_};
 ghost use Rattle.record_definitions.specs.World as worlds;
+ghost use Rattle.record_definitions.specs.Frame as definitions;
 use contact_definitions::b2_collision::B2contactFeature;
 use contact_definitions::b2_collision::B2contactId;
 use contact_definitions::b2_collision::CountedIds;
@@ -9,6 +11,9 @@ use floats::b2_common::B2_POLYGON_RADIUS;
 use floats::b2_math::B2Rot;
 use floats::b2_math::B2Transform;
 use floats::b2_math::B2vec2;
+use record_definitions::frame::Answer;
+use record_definitions::frame::Change;
+use record_definitions::frame::Said;
 use record_definitions::world::Body;
 use record_definitions::world::CIRCLE;
 use record_definitions::world::NO_BODY;
@@ -171,4 +176,46 @@ pub fn forget(pairs: [Pair; 64], id: usize) -> [Pair; 64]
         j += 1;
     }
     ps
+}
+
+// Nothing changes.
+pub fn refused(number: u8, body: Body, pair: Pair) -> Change
+    ensures { λ r. ⌜ r ≡ definitions.refused number body pair ⌝ }
+{
+    Change {
+        said: Said {
+            answer: Answer::Refused(number),
+        },
+        body,
+        pair,
+        forget: false,
+    }
+}
+
+// A new shape.
+pub fn defined(body: Body, pair: Pair) -> Change
+    ensures { λ r. ⌜ r ≡ definitions.defined body pair ⌝ }
+{
+    Change {
+        said: Said {
+            answer: Answer::Accepted,
+        },
+        body,
+        pair,
+        forget: true,
+    }
+}
+
+// A new placement.
+pub fn moved(body: Body, pair: Pair) -> Change
+    ensures { λ r. ⌜ r ≡ definitions.moved body pair ⌝ }
+{
+    Change {
+        said: Said {
+            answer: Answer::Accepted,
+        },
+        body,
+        pair,
+        forget: false,
+    }
 }

@@ -1,6 +1,7 @@
 -- Refused as any frame is, or by the kind. Assumes nothing.
 use mathlib.Core.Path.{sym, _∙_}
-use Rattle.frames.proofs.Lengths.{circle-room, outline-room, wall-room, place-room}
+use Rattle.record_definitions.specs.Frame.{test-change}
+use Rattle.frames.proofs.FrameLengths.{circle-room, outline-room, wall-room, place-room}
 use Rattle.frames.proofs.ByKind.{refused-frame, well, circle-is, outline-is, wall-is, place-is, test-is}
 use borrow.Author.Needs.{needs}
 use Rattle.frames.proofs.frame.frame.Statement.{statement}
@@ -129,11 +130,11 @@ returns-6 c =
     let if1 = c .before .before .before .before .before .if1 in
     let frame-refusal = c .before .before .before .before .before .before .frame-refusal in
     let args = c .before .before .before .before .before .before .before .before .args in
-    c .test-frame .ensures
-    ∙ test-is (args .a) (args .b) (args .pair) (args .bytes .now) _ (frame-refusal .ensures)
+    _∙_ {b = test-change (byte2 .result) (byte3 .result) (args .a) (args .b) (args .pair)} (c .test-frame .ensures)
+    (test-is (args .a) (args .b) (args .pair) (args .bytes .now) _ (frame-refusal .ensures)
     (if1 .left) _ (byte .ensures)
     _ _ (byte2 .ensures) (byte3 .ensures)
-    (match .rest .0 .0 .0 .1) (match .rest .0 .0 .1) (match .rest .0 .1) (match .rest .1)
+    (match .rest .0 .0 .0 .1) (match .rest .0 .0 .1) (match .rest .0 .1) (match .rest .1))
 
 pub frame-spec : {M : Type 1} → statement M
 frame-spec =

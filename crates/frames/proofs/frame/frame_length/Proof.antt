@@ -1,8 +1,8 @@
 -- By the kind. Assumes nothing.
 use mathlib.Core.Path.{refl, sym, _∙_}
 use Rattle.record_definitions.specs.Frame.{frame-length}
-use Rattle.frames.proofs.Lengths.{circle-length, outline-length-is, wall-length-is}
-use Rattle.frames.proofs.Lengths.{place-length, test-length, no-length}
+use Rattle.frames.proofs.FrameLengths.{circle-length, outline-length-is, wall-length-is}
+use Rattle.frames.proofs.FrameLengths.{place-length, test-length, no-length}
 use borrow.Author.Needs.{needs}
 use Rattle.frames.proofs.frame.frame_length.Statement.{statement}
 use Rattle.frames.proofs.frame.frame_length.Tie as tie

@@ -1,6 +1,6 @@
 -- Refused at once, or answered as the test answers. Assumes nothing.
 use mathlib.Core.Path.{_∙_}
-use Rattle.frames.proofs.Tests.{test-refused, test-run}
+use Rattle.frames.proofs.TestFrames.{test-refused, test-run}
 use borrow.Author.Needs.{needs}
 use Rattle.frames.proofs.test_frame.test_frame.Statement.{statement}
 use Rattle.frames.proofs.test_frame.test_frame.Tie as tie

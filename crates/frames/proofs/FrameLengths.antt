@@ -1,0 +1,81 @@
+-- The lengths of frames by their kind, and the room that a reader of each has. Assumes nothing.
+use Prim.Native.Nat.{ℕ, _+_, _*_, _≤_}
+use mathlib.Core.Path.{_≡_, refl, _∙_}
+use mathlib.Core.Bool.{Bool, true, false, not, _&&_, false≢true}
+use mathlib.Core.List.{List}
+use native.Mathlib.Omega.{arith}
+use lib.Dec.{eqb, leb}
+use lib.ListN.{length}
+use borrow.Author.Tests.{leb-true, eqb-true, eqb-false, ne-eqb}
+use Rattle.algebra.proofs.Booleans.{by-test}
+use Rattle.lines.specs.Fields.{byte-at}
+use Rattle.record_definitions.specs.Frame.{outline-length, wall-length, frame-length, well-formed}
+
+module _ (kind third : ℕ) where
+  pub circle-length : kind ≡ 1 → frame-length kind third ≡ 14
+  unfolding frame-length
+  circle-length is = rw is refl
+
+  pub outline-length-is : kind ≡ 2 → frame-length kind third ≡ outline-length third
+  unfolding frame-length
+  outline-length-is is = rw is refl
+
+  pub wall-length-is : kind ≡ 3 → frame-length kind third ≡ wall-length third
+  unfolding frame-length
+  wall-length-is is = rw is refl
+
+  pub place-length : kind ≡ 4 → frame-length kind third ≡ 18
+  unfolding frame-length
+  place-length is = rw is refl
+
+  pub test-length : kind ≡ 5 → frame-length kind third ≡ 3
+  unfolding frame-length
+  test-length is = rw is refl
+
+  pub no-length : (kind ≡ 1 → ⊥) → (kind ≡ 2 → ⊥) → (kind ≡ 3 → ⊥) → (kind ≡ 4 → ⊥) → (kind ≡ 5 → ⊥)
+      → frame-length kind third ≡ 0
+  unfolding frame-length
+  no-length no-1 no-2 no-3 no-4 no-5 =
+      simp (ne-eqb _ _ no-1, ne-eqb _ _ no-2, ne-eqb _ _ no-3, ne-eqb _ _ no-4, ne-eqb _ _ no-5)
+
+-- ---- well-formed frames: some size, and that length
+module _ (bytes : List ℕ) where
+  abbrev size : ℕ
+  size = frame-length (byte-at bytes 0) (byte-at bytes 2)
+
+  sized-by : (none right : Bool) → eqb size 0 ≡ none → eqb (length bytes) size ≡ right → not none && right ≡ true
+      → (size ≡ 0 → ⊥) × (length bytes ≡ size)
+  sized-by true right none-is right-is both = absurd (false≢true both)
+  sized-by false false none-is right-is both = absurd (false≢true both)
+  sized-by false true none-is right-is both = (eqb-false size 0 none-is, eqb-true (length bytes) size right-is)
+
+  sized : well-formed bytes ≡ true → (size ≡ 0 → ⊥) × (length bytes ≡ size)
+  unfolding well-formed
+  sized well = sized-by (eqb size 0) (eqb (length bytes) size) refl refl well
+
+  module _ (well : well-formed bytes ≡ true) where
+    pub circle-room : byte-at bytes 0 ≡ 1 → length bytes ≡ 14
+    circle-room is = sized well .1 ∙ circle-length (byte-at bytes 0) (byte-at bytes 2) is
+
+    pub outline-room : byte-at bytes 0 ≡ 2 → (byte-at bytes 2 ≤ 8) × (length bytes ≡ 3 + 8 * byte-at bytes 2)
+    outline-room is =
+        let count = byte-at bytes 2 in
+        let size-is : size ≡ outline-length count = outline-length-is (byte-at bytes 0) count is in
+        by-test (leb count 8)
+        (λ few. (leb-true count 8 few, sized well .1 ∙ size-is ∙ simp few))
+        (λ many. absurd (sized well .0 (size-is ∙ simp many)))
+
+    pub wall-room : byte-at bytes 0 ≡ 3 → (19 ≤ length bytes) × ((byte-at bytes 2 ≡ 0 → ⊥) → 35 ≤ length bytes)
+    wall-room is =
+        let flag = byte-at bytes 2 in
+        let size-is : size ≡ wall-length flag = wall-length-is (byte-at bytes 0) flag is in
+        by-test (eqb flag 0)
+        (λ two-sided. let is-19 : length bytes ≡ 19 = sized well .1 ∙ size-is ∙ simp two-sided in
+        (omega arith, λ other. absurd (other (eqb-true flag 0 two-sided))))
+        (λ not-two. by-test (eqb flag 1)
+        (λ one-sided. let is-35 : length bytes ≡ 35 = sized well .1 ∙ size-is ∙ simp (not-two, one-sided) in
+        (omega arith, λ other. omega arith))
+        (λ not-one. absurd (sized well .0 (size-is ∙ simp (not-two, not-one)))))
+
+    pub place-room : byte-at bytes 0 ≡ 4 → length bytes ≡ 18
+    place-room is = sized well .1 ∙ place-length (byte-at bytes 0) (byte-at bytes 2) is

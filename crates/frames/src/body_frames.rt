@@ -1,0 +1,93 @@
+// Frames 01 to 04: a body is defined and placed. A caller has compared the frame's length with its kind.
+ghost use mathlib.Core.Path.{_≡_};
+ghost use Prim.Native.Nat.{_+_, _*_, _≤_};
+ghost use lib.ListN.{length};
+ghost use Rattle.lines.specs.Fields.{byte-at};
+ghost use Rattle.record_definitions.specs.Frame.{wall-at, circle-change, outline-change, wall-change, place-change};
+use crate::world;
+use floats::ranges;
+use lines::fields;
+use record_definitions::frame::Change;
+use record_definitions::world::Body;
+use record_definitions::world::NO_BODY;
+use record_definitions::world::Pair;
+use shape_definitions::b2_circle_shape::B2circleShape;
+use shape_definitions::b2_edge_shape::EdgeAnswer;
+use shape_definitions::refusal;
+use shape_ranges::circle_range;
+use shapes::b2_edge_shape;
+use shapes::b2_polygon_shape;
+
+// 01 id x y radius
+pub fn circle_frame(body: Body, pair: Pair, bytes: &[u8]) -> Change
+    requires { ⌜ length (now bytes) ≡ 14 ⌝ }
+    ensures { λ r. ⌜ r ≡ circle-change body pair (now (bytes .entry)) ⌝ }
+{
+    let m_p = fields::vector(bytes, 2);
+    let m_radius = fields::float(bytes, 10);
+    let circle = B2circleShape { m_radius, m_p };
+    if circle_range::circle_in_range(circle) {
+        return world::defined(world::circle_body(circle), pair);
+    }
+    world::refused(refusal::SHAPE_OUT_OF_RANGE, body, pair)
+}
+
+// 02 id count points
+pub fn outline_frame(body: Body, pair: Pair, bytes: &[u8]) -> Change
+    requires { ⌜ (byte-at (now bytes) 2 ≤ 8) × (length (now bytes) ≡ 3 + 8 * byte-at (now bytes) 2) ⌝ }
+    ensures { λ r. ⌜ r ≡ outline-change body pair (now (bytes .entry)) ⌝ }
+{
+    let count = fields::byte(bytes, 2) as usize;
+    let points = fields::points(bytes, 3, count);
+    let built = b2_polygon_shape::b2_polygon_shape_set_core(world::blank_outline(), points, count);
+    let number = built.refusal;
+    if number == refusal::ACCEPTED {
+        let shape = built.shape;
+        return world::defined(world::outline_body(shape), pair);
+    }
+    world::refused(number, body, pair)
+}
+
+// The wall of a frame: two-sided, or with a ghost point before and after it.
+fn wall_read(bytes: &[u8]) -> EdgeAnswer
+    requires { ⌜ (19 ≤ length (now bytes)) × ((byte-at (now bytes) 2 ≡ 0 → ⊥) → 35 ≤ length (now bytes)) ⌝ }
+    ensures { λ r. ⌜ r ≡ wall-at (now (bytes .entry)) ⌝ }
+{
+    let v0 = fields::vector(bytes, 3);
+    let v1 = fields::vector(bytes, 11);
+    if fields::byte(bytes, 2) == 0 {
+        return b2_edge_shape::b2_set_two_sided(world::blank_wall(), v0, v1);
+    }
+    let v2 = fields::vector(bytes, 19);
+    let v3 = fields::vector(bytes, 27);
+    b2_edge_shape::b2_set_one_sided(world::blank_wall(), v0, v1, v2, v3)
+}
+
+// 03 id flag points
+pub fn wall_frame(body: Body, pair: Pair, bytes: &[u8]) -> Change
+    requires { ⌜ (19 ≤ length (now bytes)) × ((byte-at (now bytes) 2 ≡ 0 → ⊥) → 35 ≤ length (now bytes)) ⌝ }
+    ensures { λ r. ⌜ r ≡ wall-change body pair (now (bytes .entry)) ⌝ }
+{
+    let built = wall_read(bytes);
+    let number = built.refusal;
+    if number == refusal::ACCEPTED {
+        let shape = built.shape;
+        return world::defined(world::wall_body(shape), pair);
+    }
+    world::refused(number, body, pair)
+}
+
+// 04 id x y sine cosine
+pub fn place_frame(body: Body, pair: Pair, bytes: &[u8]) -> Change
+    requires { ⌜ length (now bytes) ≡ 18 ⌝ }
+    ensures { λ r. ⌜ r ≡ place-change body pair (now (bytes .entry)) ⌝ }
+{
+    if body.kind == NO_BODY {
+        return world::refused(refusal::NO_SHAPE, body, pair);
+    }
+    let xf = fields::placement(bytes, 2);
+    if ranges::transform_in_range(xf) {
+        return world::moved(world::placed(body, xf), pair);
+    }
+    world::refused(refusal::PLACEMENT_OUT_OF_RANGE, body, pair)
+}
