@@ -1,3 +1,3 @@
 pub mod Parts
 pub mod Turns
-pub mod Bodies
+pub mod FiveFrames

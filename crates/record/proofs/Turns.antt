@@ -1,8 +1,8 @@
--- One turn of the loop of `feed` at a line feed, from what the code calls: the line's bytes, the bodies' places, the
--- change and what is printed of it. Before the first turn the count of kept characters is held to the row. Assumes
--- nothing.
+-- One turn of the loop of `feed` at a line feed, for any way of printing, from what the code calls: the line's bytes,
+-- the bodies' places, the change and what is printed of it. Before the first turn the count of kept characters is held
+-- to the row. Assumes nothing.
 use Prim.Native.Nat.{ℕ, _+_, _*_, _-_, _%_, _≤_, _<_, min}
-use mathlib.Core.Path.{_≡_, refl, sym, _∙_, ap}
+use mathlib.Core.Path.{_≡_, refl, _∙_, ap}
 use mathlib.Core.Bool.{Bool, true, false}
 use mathlib.Core.List.{List}
 use native.Mathlib.Omega.{arith}
@@ -17,12 +17,12 @@ use Rattle.record_definitions.specs.declared.world.Body.{Body}
 use Rattle.record_definitions.specs.declared.world.Pair.{Pair}
 use Rattle.record_definitions.specs.declared.world.World.{World}
 use Rattle.record_definitions.specs.declared.frame.Change.{Change}
+use Rattle.record_definitions.specs.declared.frame.Said.{Said}
 use Rattle.record_definitions.specs.World.{forget}
 use Rattle.record_definitions.specs.Frame.{change}
-use Rattle.record_definitions.specs.Answer.{said-line}
 use Rattle.record_definitions.specs.Reading.{Reading, kept-length}
-use Rattle.record_definitions.proofs.Feeding.{SoFar, next-line, said-is, world-forgets, world-keeps, length-forget}
-use Rattle.record_definitions.proofs.Feeding.{count-held}
+use Rattle.record_definitions.proofs.Feeding.{SoFar, next-line}
+use Rattle.record_definitions.proofs.OneLine.{said-is, world-forgets, world-keeps, length-forget, count-held}
 
 pub row-held : (line : List ℕ) (len r : ℕ) → r ≡ min len kept-length → length line ≡ kept-length
     → take r line ≡ take len line
@@ -38,37 +38,38 @@ row-held line len r r-is size = go (leb kept-length len) refl
         let same : r ≡ len = omega arith in
         ap (λ (n : ℕ). take n line) same
 
-module _ (chunk old : List ℕ) (r : Reading) (out : List ℕ) (w : World) (line : List ℕ) (len at i x : ℕ)
-    (so-far : SoFar said-line chunk old r out w line len at i) (more : i < length chunk) (x-is : x ≡ getD chunk i 0)
-    (x-feed : x ≡ line-feed)
-    (frame : List ℕ) (frame-is : frame ≡ frame-of (take len line)) (a b : ℕ) (a-is : a ≡ byte-at frame 1 % 8)
-    (b-is : b ≡ byte-at frame 2 % 8) (past-a past-b : Body) (past-pair : Pair) (c : Change)
-    (c-is : c ≡ change (getD (w .bodies) a past-a) (getD (w .bodies) b past-b) (getD (w .pairs) (8 * a + b) past-pair)
-    frame)
-    (part : List ℕ) (n : ℕ) (part-size : length part ≡ length (midOf at (length out - at) out))
-    (put : Put (said-line (c .said)) (midOf at (length out - at) out) n part) where
-  -- a new shape
-  pub line-forgets : (fresh : List Pair) → c .forget ≡ true → fresh ≡ forget a (w .pairs)
-      → SoFar said-line chunk old r (putMid at (length out - at) out part)
-      (record { bodies = set (w .bodies) a (c .body); pairs = fresh }) line 0 (at + n) (i + 1)
-  line-forgets fresh forgets fresh-is =
-      next-line said-line chunk old r out w line len at i x so-far more x-is _ (c .said) part n x-feed
-      (world-forgets w (take len line) frame frame-is a b a-is b-is (so-far .bodies-size) (so-far .pairs-size) past-a
-      past-b past-pair c c-is fresh forgets fresh-is)
-      (said-is w (take len line) frame frame-is a b a-is b-is (so-far .bodies-size) (so-far .pairs-size) past-a past-b
-      past-pair c c-is)
-      (simp length-set (so-far .bodies-size))
-      (ap length fresh-is ∙ length-forget a (w .pairs) 8 ∙ so-far .pairs-size) part-size put
+module _ (print : Said → List ℕ) where
+  module _ (chunk old : List ℕ) (r : Reading) (out : List ℕ) (w : World) (line : List ℕ) (len at i x : ℕ)
+      (so-far : SoFar print chunk old r out w line len at i) (more : i < length chunk) (x-is : x ≡ getD chunk i 0)
+      (x-feed : x ≡ line-feed)
+      (frame : List ℕ) (frame-is : frame ≡ frame-of (take len line)) (a b : ℕ) (a-is : a ≡ byte-at frame 1 % 8)
+      (b-is : b ≡ byte-at frame 2 % 8) (past-a past-b : Body) (past-pair : Pair) (c : Change)
+      (c-is : c ≡ change (getD (w .bodies) a past-a) (getD (w .bodies) b past-b) (getD (w .pairs) (8 * a + b) past-pair)
+      frame)
+      (part : List ℕ) (n : ℕ) (part-size : length part ≡ length (midOf at (length out - at) out))
+      (put : Put (print (c .said)) (midOf at (length out - at) out) n part) where
+    -- a new shape
+    pub line-forgets : (fresh : List Pair) → c .forget ≡ true → fresh ≡ forget a (w .pairs)
+        → SoFar print chunk old r (putMid at (length out - at) out part)
+        (record { bodies = set (w .bodies) a (c .body); pairs = fresh }) line 0 (at + n) (i + 1)
+    line-forgets fresh forgets fresh-is =
+        next-line print chunk old r out w line len at i x so-far more x-is _ (c .said) part n x-feed
+        (world-forgets w (take len line) frame frame-is a b a-is b-is (so-far .bodies-size) (so-far .pairs-size) past-a
+        past-b past-pair c c-is fresh forgets fresh-is)
+        (said-is w (take len line) frame frame-is a b a-is b-is (so-far .bodies-size) (so-far .pairs-size) past-a past-b
+        past-pair c c-is)
+        (simp length-set (so-far .bodies-size))
+        (ap length fresh-is ∙ length-forget a (w .pairs) 8 ∙ so-far .pairs-size) part-size put
 
-  -- any other frame
-  pub line-keeps : c .forget ≡ false
-      → SoFar said-line chunk old r (putMid at (length out - at) out part)
-      (record { bodies = set (w .bodies) a (c .body); pairs = set (w .pairs) (8 * a + b) (c .pair) }) line 0 (at + n)
-      (i + 1)
-  line-keeps keeps =
-      next-line said-line chunk old r out w line len at i x so-far more x-is _ (c .said) part n x-feed
-      (world-keeps w (take len line) frame frame-is a b a-is b-is (so-far .bodies-size) (so-far .pairs-size) past-a
-      past-b past-pair c c-is keeps)
-      (said-is w (take len line) frame frame-is a b a-is b-is (so-far .bodies-size) (so-far .pairs-size) past-a past-b
-      past-pair c c-is)
-      (simp length-set (so-far .bodies-size)) (simp length-set (so-far .pairs-size)) part-size put
+    -- any other frame
+    pub line-keeps : c .forget ≡ false
+        → SoFar print chunk old r (putMid at (length out - at) out part)
+        (record { bodies = set (w .bodies) a (c .body); pairs = set (w .pairs) (8 * a + b) (c .pair) }) line 0 (at + n)
+        (i + 1)
+    line-keeps keeps =
+        next-line print chunk old r out w line len at i x so-far more x-is _ (c .said) part n x-feed
+        (world-keeps w (take len line) frame frame-is a b a-is b-is (so-far .bodies-size) (so-far .pairs-size) past-a
+        past-b past-pair c c-is keeps)
+        (said-is w (take len line) frame frame-is a b a-is b-is (so-far .bodies-size) (so-far .pairs-size) past-a past-b
+        past-pair c c-is)
+        (simp length-set (so-far .bodies-size)) (simp length-set (so-far .pairs-size)) part-size put

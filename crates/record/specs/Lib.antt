@@ -1,2 +1,2 @@
-pub mod Names
-pub mod Bodies
+pub mod Decoding
+pub mod BothChanges

@@ -4,28 +4,27 @@ ghost use mathlib.Core.List.{[], _∷_};
 ghost use Prim.Native.Nat.{_+_, _≤_};
 ghost use Rattle.lines.specs.Fields.{byte-at};
 ghost use Rattle.lines.specs.Hex.{largest-frame};
-ghost use Rattle.record.specs.Bodies.{both-changes};
+ghost use Rattle.shape_definitions.specs.Refusal.{malformed-frame};
+ghost use Rattle.record_definitions.specs.declared.frame.Answer.the-variants.{Refused};
 ghost use Rattle.record_definitions.specs.World.{fresh-world};
 ghost use Rattle.record_definitions.specs.Frame.{frame-length};
 ghost use Rattle.record_definitions.specs.Export as Export;
-use crate::said;
-use crate::touch::LONGEST_ANSWER;
+ghost use Rattle.record.specs.BothChanges.{both-changes};
+use crate::answer;
+use crate::answer::LONGEST_ANSWER;
 use frames::frame;
+use frames::frame::PLACEMENT_LENGTH;
 use frames::world;
 use lines::fields;
 use record_definitions::frame::Answer;
 use record_definitions::frame::Change;
 use record_definitions::frame::Said;
+use shape_definitions::refusal;
 
 // What is returned for a refusal: its number above this one.
 const REFUSAL_BASE: u32 = 256;
 
-const OUTPUT_TOO_SHORT: u32 = REFUSAL_BASE + 9;
-
-const MALFORMED: u32 = REFUSAL_BASE + 10;
-
-// The bytes of a placement, frame 04.
-const PLACEMENT: usize = 18;
+const OUTPUT_TOO_SHORT: u32 = REFUSAL_BASE + refusal::CONTACT_OUT_OF_RANGE as u32;
 
 // The number of a refusal, 0 for another answer.
 fn refusal_in(said: Said) -> u8
@@ -104,6 +103,36 @@ fn run<'a>(f0: &'a [u8], f1: &'a [u8], f2: &'a [u8], f3: &'a [u8]) -> Said
     c.said
 }
 
+// Refusal 10.
+fn malformed() -> Said
+    ensures { λ r. ⌜ r ≡ record { answer = Refused malformed-frame } ⌝ }
+{
+    Said {
+        answer: Answer::Refused(refusal::MALFORMED_FRAME),
+    }
+}
+
+// What is said of an input: 10 where it is not the four frames in their order, and else what they say.
+fn export_said(frames: &[u8]) -> Said
+    ensures { λ r. ⌜ r ≡ Export.export-said (now (frames .entry)) ⌝ }
+{
+    let first = outline_end(frames, 0);
+    let outline = first + PLACEMENT_LENGTH;
+    let second = outline_end(frames, outline);
+    if frames.len() != second + PLACEMENT_LENGTH {
+        return malformed();
+    }
+    if !begin_all(frames, first, outline, second) {
+        return malformed();
+    }
+    run(
+        &frames[..first],
+        &frames[first..outline],
+        &frames[outline..second],
+        &frames[second..],
+    )
+}
+
 // 13, 33 or 45, the bytes written to the front of the output; or 256 and a refusal, and the output as it was.
 #[no_mangle]
 pub extern "C" fn netxurbil_test(frames: &[u8], out: &mut [u8]) -> u32
@@ -113,24 +142,10 @@ pub extern "C" fn netxurbil_test(frames: &[u8], out: &mut [u8]) -> u32
     if out.len() < LONGEST_ANSWER {
         return OUTPUT_TOO_SHORT;
     }
-    let first = outline_end(frames, 0);
-    let outline = first + PLACEMENT;
-    let second = outline_end(frames, outline);
-    if frames.len() != second + PLACEMENT {
-        return MALFORMED;
-    }
-    if !begin_all(frames, first, outline, second) {
-        return MALFORMED;
-    }
-    let said = run(
-        &frames[..first],
-        &frames[first..outline],
-        &frames[outline..second],
-        &frames[second..],
-    );
+    let said = export_said(frames);
     let number = refusal_in(said);
     if number != 0 {
         return REFUSAL_BASE + number as u32;
     }
-    said::put_said(out, said) as u32
+    answer::put_said(out, said) as u32
 }

@@ -4,22 +4,20 @@ ghost use Prim.Native.Nat.{_≤_, _<_, _%_, min};
 ghost use lib.ListN.{length, take};
 ghost use Rattle.lines.specs.Fields.{byte-at};
 ghost use Rattle.lines.specs.Hex.{largest-frame};
-ghost use Rattle.record.specs.Names.{Named};
+ghost use Rattle.record_definitions.specs.Answer.{said-line, longest-line};
 ghost use Rattle.record_definitions.specs.Reading.{kept-length, with-character, begin, reading, FedAs};
-use crate::said;
-use crate::said::LONGEST_LINE;
+ghost use Rattle.record.specs.Decoding.{Named};
+use crate::answer;
+use crate::answer::LONGEST_LINE;
 use frames::frame;
 use frames::world;
 use lines::fields;
 use lines::hex;
 use lines::hex::LARGEST_FRAME;
 use lines::hex::LINE_FEED;
-use lines::hex::LINE_LIMIT;
 use record_definitions::reader::Fed;
+use record_definitions::reader::KEPT_LENGTH;
 use record_definitions::reader::Reader;
-
-// The characters of a line that are kept: one more than the longest line has.
-const KEPT_LENGTH: usize = LINE_LIMIT + 1;
 
 // The state before any input.
 pub fn start() -> Reader
@@ -84,7 +82,7 @@ fn keep(line: &mut [u8; KEPT_LENGTH], len: usize, x: u8) -> usize
 
 // The input in a piece, up to where the output has no room for another line.
 pub fn feed(s: Reader, chunk: &[u8], out: &mut [u8]) -> Fed
-    ensures { λ r. ⌜ FedAs s (now (chunk .entry)) (now (out .entry)) r (now (out .exit)) ⌝ }
+    ensures { λ r. ⌜ FedAs said-line longest-line s (now (chunk .entry)) (now (out .entry)) r (now (out .exit)) ⌝ }
 {
     let mut w = s.world;
     let mut line = s.line;
@@ -107,7 +105,7 @@ pub fn feed(s: Reader, chunk: &[u8], out: &mut [u8]) -> Fed
             let k = 8 * a + b;
             let c = frame::frame(w.bodies[a], w.bodies[b], w.pairs[k], &bytes[..n]);
             let said = c.said;
-            at += said::put_said_line(&mut out[at..], said);
+            at += answer::put_said_line(&mut out[at..], said);
             let body = c.body;
             w.bodies[a] = body;
             if c.forget {

@@ -1,10 +1,10 @@
-// The touch record for a C match server: one call that tests two bodies.
+// The touch record: answers written, input fed in pieces, and the export for a C match server.
 
-// What is said of a frame, written to the front of a lent buffer: as bytes, for the export, and as a line, for the
-// program. Each part is written into what the parts before it leave of the buffer.
-pub mod said;
-pub mod touch;
+// Answers as bytes and as lines.
+pub mod answer;
 
-// Input that comes in pieces: what is taken of each, what it prints, and the state that it leaves.
-pub mod export;
+// What is taken of each piece of input, what it prints, and the state that it leaves.
 pub mod feed;
+
+// One call that tests two bodies.
+pub mod export;

@@ -1,5 +1,5 @@
 -- The first frame, and where it is taken the second. Assumes nothing.
-use Rattle.record.proofs.Bodies.{refused-alone, taken-both}
+use Rattle.record.proofs.FiveFrames.{refused-alone, taken-both}
 use borrow.Author.Needs.{needs}
 use Rattle.record.proofs.export.both_changes.Statement.{statement}
 use Rattle.record.proofs.export.both_changes.Tie as tie

@@ -1,5 +1,5 @@
 -- Both bodies, and their test. Assumes nothing.
-use Rattle.record.proofs.Bodies.{first-body-refused, second-body-refused, bodies-tested}
+use Rattle.record.proofs.FiveFrames.{first-body-refused, second-body-refused, bodies-tested}
 use borrow.Author.Needs.{needs}
 use Rattle.record.proofs.export.run.Statement.{statement}
 use Rattle.record.proofs.export.run.Tie as tie

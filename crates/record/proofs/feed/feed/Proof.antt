@@ -1,37 +1,20 @@
--- The loop: after i characters, `SoFar`. Assumes nothing.
-use Prim.Native.Nat.{_-_, _≤_}
-use mathlib.Core.Path.{refl, sym, _∙_}
+-- Each turn of the loop; `Loop` has what holds before, between and after them. Assumes nothing.
+use mathlib.Core.Path.{refl, sym}
 use native.Mathlib.Omega.{arith}
-use lib.ListN.{length, take, length-map}
 use lib.Seq.{length-take-le}
 use Rattle.record_definitions.specs.Answer.{said-line}
-use Rattle.record_definitions.specs.Reading.{Reading}
-use Rattle.record_definitions.proofs.Feeding.{SoFar, nothing-yet, next-character, fed-at-end, length-lent, put-fits}
-use Rattle.record.proofs.Turns.{row-held, line-forgets, line-keeps}
+use Rattle.record_definitions.proofs.Feeding.{next-character}
+use Rattle.record.proofs.Turns.{line-forgets, line-keeps}
 use borrow.Author.Needs.{needs}
 use Rattle.record.proofs.feed.feed.Statement.{statement}
 use Rattle.record.proofs.feed.feed.Tie as tie
-
-abbrev Inv-loop : tie.InvT-loop
-Inv-loop chunk out₀ w₀ line₀ len₀ at₀ i₀ out w line len at i =
-    SoFar said-line chunk out₀ (record { world = w₀; line = take len₀ line₀ }) out w line len at i
-
-abbrev μ-loop : tie.MeasureT-loop
-μ-loop chunk out₀ w₀ line₀ len₀ at₀ i₀ out w line len at i = length chunk - i
+use Rattle.record.proofs.feed.feed.Proof.Loop.{Inv-loop, μ-loop, loop-holds, sub-put-said-line, add-at}
+use Rattle.record.proofs.feed.feed.Proof.Loop.{part-put-said-line-start, put-said-line-requires}
+use Rattle.record.proofs.feed.feed.Proof.Loop.{returns, returns-2}
+mod Loop
 
 held-requires : tie.Need-held-requires Inv-loop μ-loop
 held-requires c κs = search needs
-
-loop-holds : tie.Need-loop-holds Inv-loop μ-loop
-loop-holds c =
-    let args′ = c .before .before .before .before .before .args in
-    let good′ = c .before .before .before .before .before .good in
-    let s = args′ .s in
-    let kept = good′ .0 .1 .1 in
-    nothing-yet said-line _ _ (s .world) (s .line) (c .held .result) (omega (arith, c .held .ensures))
-    (sym (length-map (s .line) _) ∙ kept .1 .0 .1 .0 .1)
-    (sym (length-map (s .world .bodies) _) ∙ kept .0 .1 .1 .0 .1 .0 .1)
-    (sym (length-map (s .world .pairs) _) ∙ kept .0 .1 .1 .1 .0 .1 .0 .1)
 
 sub-if1 : tie.Need-sub-if1 Inv-loop μ-loop
 sub-if1 c = search needs
@@ -87,42 +70,8 @@ slice-aggregate-frame c = sym (length-take-le _ _ (omega arith))
 frame-requires : tie.Need-frame-requires Inv-loop μ-loop
 frame-requires c κs = search needs
 
-sub-put-said-line : tie.Need-sub-put-said-line Inv-loop μ-loop
-sub-put-said-line c =
-    let before-loop = c .before .before .before .before .before .before .before .before .before in
-    let loop′ = before-loop .before .before .before .before .before .loop in
-    omega (arith, loop′ .inv .at-within, loop′ .inv .out-size)
-
-part-put-said-line-start : tie.Need-part-put-said-line-start Inv-loop μ-loop
-part-put-said-line-start c =
-    let before-loop = c .before .before .before .before .before .before .before .before .before in
-    let loop′ = before-loop .before .before .before .before .before .loop in
-    omega (arith, loop′ .inv .at-within, loop′ .inv .out-size)
-
 part-put-said-line-end : tie.Need-part-put-said-line-end Inv-loop μ-loop
 part-put-said-line-end c = search needs
-
-put-said-line-requires : tie.Need-put-said-line-requires Inv-loop μ-loop
-put-said-line-requires c κs =
-    let before-if1 = c .before .before .before .before .before .before .before .before .before in
-    let if1′ = before-if1 .before .before .before .before .if1 in
-    let loop′ = before-if1 .before .before .before .before .before .before .loop in
-    let within : loop′ .at ≤ length (loop′ .out) =
-    omega (arith, loop′ .inv .at-within, loop′ .inv .out-size) in
-    omega (arith, if1′ .left, length-lent (loop′ .at) (loop′ .out) within)
-
-add-at : tie.Need-add-at Inv-loop μ-loop
-add-at c =
-    let put-said-line′ = c .before .before .put-said-line in
-    let before-loop = c .before .before .before .before .before .before .before .before .before in
-    let at-loop = before-loop .before .before .before .before .before .before .before .before .before in
-    let loop′ = at-loop .loop in
-    let good′ = at-loop .before .before .before .before .before .before .good in
-    let within : loop′ .at ≤ length (loop′ .out) =
-    omega (arith, loop′ .inv .at-within, loop′ .inv .out-size) in
-    let fits = put-fits (loop′ .at) (put-said-line′ .result) (loop′ .out) _ _ within (put-said-line′ .kept .0)
-    (put-said-line′ .ensures) in
-    omega (arith, fits, loop′ .inv .out-size, good′ .1 .1 .0 .0)
 
 mul-body : tie.Need-mul-body Inv-loop μ-loop
 mul-body c = search needs
@@ -153,7 +102,7 @@ loop-again c =
     let loop′ = at-if2 .before .before .before .before .loop in
     let before-args = at-if2 .before .before .before .before .before .before .before .before .before in
     let args′ = before-args .before .args in
-    line-forgets (args′ .chunk .now) (args′ .out .now) _ (loop′ .out) (loop′ .w) (loop′ .line)
+    line-forgets said-line (args′ .chunk .now) (args′ .out .now) _ (loop′ .out) (loop′ .w) (loop′ .line)
     (loop′ .len) (loop′ .at) (loop′ .i) _ (loop′ .inv) (loop-test′ .taken) refl (if2′ .taken) _
     (decode′ .ensures .decoded .bytes) (decode′ .result .first) (decode′ .result .second)
     (decode′ .ensures .first-is) (decode′ .ensures .second-is) _ _ _ (frame′ .result) (frame′ .ensures) _
@@ -186,7 +135,7 @@ loop-again-2 c =
     let loop′ = at-if2 .before .before .before .before .loop in
     let before-args = at-if2 .before .before .before .before .before .before .before .before .before in
     let args′ = before-args .before .args in
-    line-keeps (args′ .chunk .now) (args′ .out .now) _ (loop′ .out) (loop′ .w) (loop′ .line)
+    line-keeps said-line (args′ .chunk .now) (args′ .out .now) _ (loop′ .out) (loop′ .w) (loop′ .line)
     (loop′ .len) (loop′ .at) (loop′ .i) _ (loop′ .inv) (loop-test′ .taken) refl (if2′ .taken) _
     (decode′ .ensures .decoded .bytes) (decode′ .result .first) (decode′ .result .second)
     (decode′ .ensures .first-is) (decode′ .ensures .second-is) _ _ _ (frame′ .result) (frame′ .ensures) _
@@ -212,36 +161,8 @@ loop-again-3 c =
 same-length : tie.Need-same-length Inv-loop μ-loop
 same-length c = search needs
 
-returns : tie.Need-returns Inv-loop μ-loop
-returns c =
-    let loop′ = c .before .loop in
-    let held′ = c .before .before .held in
-    let at-args = c .before .before .before .before .before .before .before in
-    let args′ = at-args .args in
-    let good′ = at-args .good in
-    let s = args′ .s in
-    let size = sym (length-map (s .line) _) ∙ good′ .0 .1 .1 .1 .0 .1 .0 .1 in
-    let row = row-held (s .line) (s .len) (held′ .result) (held′ .ensures) size in
-    let so-far = rw row at (loop′ .inv) in
-    fed-at-end s _ (args′ .out .now) _ _ _ _ _ _ so-far
-    (λ room. omega arith)
-
 same-length-2 : tie.Need-same-length-2 Inv-loop μ-loop
 same-length-2 c = search needs
-
-returns-2 : tie.Need-returns-2 Inv-loop μ-loop
-returns-2 c =
-    let loop′ = c .before .before .loop in
-    let held′ = c .before .before .before .held in
-    let at-args = c .before .before .before .before .before .before .before .before in
-    let args′ = at-args .args in
-    let good′ = at-args .good in
-    let s = args′ .s in
-    let size = sym (length-map (s .line) _) ∙ good′ .0 .1 .1 .1 .0 .1 .0 .1 in
-    let row = row-held (s .line) (s .len) (held′ .result) (held′ .ensures) size in
-    let so-far = rw row at (loop′ .inv) in
-    fed-at-end s _ (args′ .out .now) _ _ _ _ _ _ so-far
-    (λ room. absurd (omega (arith, c .if1 .taken, loop′ .inv .out-size)))
 
 pub feed-spec : {M : Type 1} → statement M
 feed-spec =

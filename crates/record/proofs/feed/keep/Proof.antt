@@ -1,7 +1,7 @@
 -- Below the row's length the character is stored; else nothing changes. Assumes nothing.
 use native.Mathlib.Omega.{arith}
 use lib.ListN.{length-set}
-use Rattle.record_definitions.proofs.Feeding.{character-kept, character-dropped}
+use Rattle.record_definitions.proofs.OneLine.{character-kept, character-dropped}
 use borrow.Author.Needs.{needs}
 use Rattle.record.proofs.feed.keep.Statement.{statement}
 use Rattle.record.proofs.feed.keep.Tie as tie

@@ -4,8 +4,8 @@ use native.Mathlib.Omega.{arith}
 use lib.ListN.{length-set}
 use Rattle.algebra.proofs.Buffer.{over-stores}
 use borrow.Author.Needs.{needs}
-use Rattle.record.proofs.touch.put_states.Statement.{statement}
-use Rattle.record.proofs.touch.put_states.Tie as tie
+use Rattle.record.proofs.answer.put_states.Statement.{statement}
+use Rattle.record.proofs.answer.put_states.Tie as tie
 
 state-number-requires : tie.Need-state-number-requires
 state-number-requires c κs = search needs

@@ -4,8 +4,8 @@ use Rattle.algebra.proofs.Buffer.{over-next}
 use Rattle.lines.specs.Fields.{vector-bytes, float-bytes}
 use Rattle.record_definitions.specs.Answer.{point-bytes}
 use borrow.Author.Needs.{needs}
-use Rattle.record.proofs.touch.put_point.Statement.{statement}
-use Rattle.record.proofs.touch.put_point.Tie as tie
+use Rattle.record.proofs.answer.put_point.Statement.{statement}
+use Rattle.record.proofs.answer.put_point.Tie as tie
 
 put-vector-requires : tie.Need-put-vector-requires
 put-vector-requires c κs = search needs

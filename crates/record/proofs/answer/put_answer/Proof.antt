@@ -3,8 +3,8 @@ use native.Mathlib.Omega.{arith}
 use lib.ListN.{length-set}
 use Rattle.record.proofs.Parts.{accepted-put, refused-put, tested-put}
 use borrow.Author.Needs.{needs}
-use Rattle.record.proofs.said.put_answer.Statement.{statement}
-use Rattle.record.proofs.said.put_answer.Tie as tie
+use Rattle.record.proofs.answer.put_answer.Statement.{statement}
+use Rattle.record.proofs.answer.put_answer.Tie as tie
 
 enum-told : tie.Need-enum-told
 enum-told c = search needs

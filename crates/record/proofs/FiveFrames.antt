@@ -12,7 +12,7 @@ use Rattle.record_definitions.specs.World.{blank-body, fresh-pair, fresh-world}
 use Rattle.record_definitions.specs.Frame.{change}
 use Rattle.record_definitions.specs.Export.{refusal-in, last-said, test-frame, FourFrames}
 use Rattle.record_definitions.proofs.FreshPairs.{refused-0, refused-1, refused-2, refused-3, run-last}
-use Rattle.record.specs.Bodies.{first-change, both-changes}
+use Rattle.record.specs.BothChanges.{first-change, both-changes}
 
 -- ---- the two frames of one body: the first was refused, and the second did not run; or it was taken, and it did
 module _ (shape placement : List ℕ) where

@@ -1,4 +1,5 @@
-// The result of a test as bytes.
+// Answers, written to the front of a lent buffer: as bytes, for the export, and as a line, for the program. Each part
+// of a test's result is written into what the parts before it leave of the buffer.
 ghost use mathlib.Core.Path.{_≡_};
 ghost use Prim.Native.Nat.{_≤_};
 ghost use lib.ListN.{length};
@@ -6,20 +7,29 @@ ghost use Rattle.algebra.specs.Buffer.{over};
 ghost use Rattle.lines.specs.Buffers.{Put};
 ghost use Rattle.contact_definitions.specs.PointStates.{state-number};
 ghost use Rattle.record_definitions.specs.Answer.{names-bytes, states-bytes, head-bytes, point-bytes, touch-bytes};
-ghost use Rattle.record_definitions.specs.Answer.{longest-answer};
+ghost use Rattle.record_definitions.specs.Answer.{answer-bytes, said-bytes, said-line, longest-answer, longest-line};
 use contact_definitions::b2_collision::B2pointState;
 use contact_definitions::b2_collision::PointStates;
 use lines::fields;
+use lines::hex;
+use record_definitions::frame::Answer;
+use record_definitions::frame::Said;
 use record_definitions::touch::Touch;
 use record_definitions::touch::TouchPoint;
 
-// The bytes of a result without points, with one, and with two: the longest answer.
-const NO_POINTS: usize = 13;
+// Where each part of a test's result ends: its head, the normal, the first point, and the second.
+const HEAD: usize = 13;
 
-const ONE_POINT: usize = 33;
+const NORMAL: usize = HEAD + 8;
 
-pub const LONGEST_ANSWER: usize = 45;
+const FIRST_POINT: usize = NORMAL + 12;
 
+pub const LONGEST_ANSWER: usize = FIRST_POINT + 12;
+
+// The characters of the longest line: its digits and the line feed.
+pub const LONGEST_LINE: usize = 2 * LONGEST_ANSWER + 1;
+
+// Null 0, add 1, persist 2, remove 3.
 fn state_number(state: B2pointState) -> u8
     ensures { λ r. ⌜ r ≡ state-number state ⌝ }
 {
@@ -43,6 +53,7 @@ fn put_names(out: &mut [u8], t: Touch)
     out[4] = t.kind;
 }
 
+// The two old states, then the two new ones.
 fn put_states(out: &mut [u8], s: PointStates)
     requires { ⌜ 4 ≤ length (now out) ⌝ }
     ensures { λ _. ⌜ now (out .exit) ≡ over (states-bytes s) (now (out .entry)) ⌝ }
@@ -57,6 +68,7 @@ fn put_states(out: &mut [u8], s: PointStates)
     out[3] = state_number(new1);
 }
 
+// What every result has.
 fn put_head(out: &mut [u8], t: Touch)
     requires { ⌜ 13 ≤ length (now out) ⌝ }
     ensures { λ _. ⌜ now (out .exit) ≡ over (head-bytes t) (now (out .entry)) ⌝ }
@@ -66,6 +78,7 @@ fn put_head(out: &mut [u8], t: Touch)
     fields::put_number(&mut out[9..], t.touches);
 }
 
+// Its place, then its separation.
 fn put_point(out: &mut [u8], p: TouchPoint)
     requires { ⌜ 12 ≤ length (now out) ⌝ }
     ensures { λ _. ⌜ now (out .exit) ≡ over (point-bytes p) (now (out .entry)) ⌝ }
@@ -75,20 +88,60 @@ fn put_point(out: &mut [u8], p: TouchPoint)
 }
 
 // How many bytes the result has.
-pub fn put_touch(out: &mut [u8], t: Touch) -> usize
+fn put_touch(out: &mut [u8], t: Touch) -> usize
     requires { ⌜ longest-answer ≤ length (now out) ⌝ }
     ensures { λ r. ⌜ Put (touch-bytes t) (now (out .entry)) r (now (out .exit)) ⌝ }
     ensures { λ r. ⌜ r ≤ longest-answer ⌝ }
 {
     put_head(out, t);
     if t.count == 0 {
-        return NO_POINTS;
+        return HEAD;
     }
-    fields::put_vector(&mut out[13..], t.normal);
-    put_point(&mut out[21..], t.first);
+    fields::put_vector(&mut out[HEAD..], t.normal);
+    put_point(&mut out[NORMAL..], t.first);
     if t.count == 1 {
-        return ONE_POINT;
+        return FIRST_POINT;
     }
-    put_point(&mut out[33..], t.second);
+    put_point(&mut out[FIRST_POINT..], t.second);
     LONGEST_ANSWER
+}
+
+// `00`; `ff` and the refusal; or the result of a test.
+fn put_answer(out: &mut [u8], answer: Answer) -> usize
+    requires { ⌜ longest-answer ≤ length (now out) ⌝ }
+    ensures { λ r. ⌜ Put (answer-bytes answer) (now (out .entry)) r (now (out .exit)) ⌝ }
+    ensures { λ r. ⌜ r ≤ longest-answer ⌝ }
+{
+    match answer {
+        Answer::Accepted => {
+            out[0] = 0;
+            1
+        }
+        Answer::Refused(number) => {
+            out[0] = 255;
+            out[1] = number;
+            2
+        }
+        Answer::Tested(t) => put_touch(out, t),
+    }
+}
+
+// How many bytes.
+pub fn put_said(out: &mut [u8], said: Said) -> usize
+    requires { ⌜ longest-answer ≤ length (now out) ⌝ }
+    ensures { λ r. ⌜ Put (said-bytes said) (now (out .entry)) r (now (out .exit)) ⌝ }
+    ensures { λ r. ⌜ r ≤ longest-answer ⌝ }
+{
+    let answer = said.answer;
+    put_answer(out, answer)
+}
+
+// How many characters.
+pub fn put_said_line(out: &mut [u8], said: Said) -> usize
+    requires { ⌜ longest-line ≤ length (now out) ⌝ }
+    ensures { λ r. ⌜ Put (said-line said) (now (out .entry)) r (now (out .exit)) ⌝ }
+{
+    let mut bytes = [0u8; LONGEST_ANSWER];
+    let n = put_said(&mut bytes, said);
+    hex::put_line(out, &bytes[..n])
 }

@@ -5,8 +5,8 @@ use Rattle.algebra.proofs.Buffer.{over-next}
 use Rattle.lines.specs.Fields.{number-bytes}
 use Rattle.record_definitions.specs.Answer.{names-bytes, states-bytes, head-bytes}
 use borrow.Author.Needs.{needs}
-use Rattle.record.proofs.touch.put_head.Statement.{statement}
-use Rattle.record.proofs.touch.put_head.Tie as tie
+use Rattle.record.proofs.answer.put_head.Statement.{statement}
+use Rattle.record.proofs.answer.put_head.Tie as tie
 
 put-names-requires : tie.Need-put-names-requires
 put-names-requires c κs = search needs

@@ -6,8 +6,8 @@ use Rattle.record_definitions.specs.Answer.{point-bytes, head-bytes}
 use Rattle.record.proofs.Parts.{with-normal, with-first, head-length, with-normal-length, with-first-length}
 use Rattle.record.proofs.Parts.{no-point-put, one-point-put, two-points-put}
 use borrow.Author.Needs.{needs}
-use Rattle.record.proofs.touch.put_touch.Statement.{statement}
-use Rattle.record.proofs.touch.put_touch.Tie as tie
+use Rattle.record.proofs.answer.put_touch.Statement.{statement}
+use Rattle.record.proofs.answer.put_touch.Tie as tie
 
 put-head-requires : tie.Need-put-head-requires
 put-head-requires c κs = search needs

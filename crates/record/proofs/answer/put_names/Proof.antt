@@ -4,8 +4,8 @@ use native.Mathlib.Omega.{arith}
 use lib.ListN.{length-set}
 use Rattle.algebra.proofs.Buffer.{over-stores}
 use borrow.Author.Needs.{needs}
-use Rattle.record.proofs.touch.put_names.Statement.{statement}
-use Rattle.record.proofs.touch.put_names.Tie as tie
+use Rattle.record.proofs.answer.put_names.Statement.{statement}
+use Rattle.record.proofs.answer.put_names.Tie as tie
 
 slice-write-out : tie.Need-slice-write-out
 slice-write-out c = search needs

@@ -5,8 +5,8 @@ use lib.ListN.{length, take}
 use lib.Seq.{length-take-le}
 use Rattle.record.proofs.Parts.{line-put}
 use borrow.Author.Needs.{needs}
-use Rattle.record.proofs.said.put_said_line.Statement.{statement}
-use Rattle.record.proofs.said.put_said_line.Tie as tie
+use Rattle.record.proofs.answer.put_said_line.Statement.{statement}
+use Rattle.record.proofs.answer.put_said_line.Tie as tie
 
 slice-aggregate-put-said : tie.Need-slice-aggregate-put-said
 slice-aggregate-put-said c = search needs

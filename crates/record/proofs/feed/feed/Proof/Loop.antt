@@ -1,0 +1,93 @@
+-- The loop of `feed`: what it knows (`SoFar`), that this holds before the first turn and gives the contract at the end,
+-- and that each line finds its room in the output. Assumes nothing.
+use Prim.Native.Nat.{_-_, _≤_}
+use mathlib.Core.Path.{sym, _∙_}
+use native.Mathlib.Omega.{arith}
+use lib.ListN.{length, take, length-map}
+use Rattle.record_definitions.specs.Answer.{said-line, longest-line}
+use Rattle.record_definitions.specs.Reading.{Reading}
+use Rattle.record_definitions.proofs.Feeding.{SoFar, nothing-yet, fed-at-end, length-lent, put-fits}
+use Rattle.record.proofs.Turns.{row-held}
+use Rattle.record.proofs.feed.feed.Tie as tie
+
+abbrev pub Inv-loop : tie.InvT-loop
+Inv-loop chunk out₀ w₀ line₀ len₀ at₀ i₀ out w line len at i =
+    SoFar said-line chunk out₀ (record { world = w₀; line = take len₀ line₀ }) out w line len at i
+
+abbrev pub μ-loop : tie.MeasureT-loop
+μ-loop chunk out₀ w₀ line₀ len₀ at₀ i₀ out w line len at i = length chunk - i
+
+-- ---- the first turn, and the end
+pub loop-holds : tie.Need-loop-holds Inv-loop μ-loop
+loop-holds c =
+    let args′ = c .before .before .before .before .before .args in
+    let good′ = c .before .before .before .before .before .good in
+    let s = args′ .s in
+    let kept = good′ .0 .1 .1 in
+    nothing-yet said-line _ _ (s .world) (s .line) (c .held .result) (omega (arith, c .held .ensures))
+    (sym (length-map (s .line) _) ∙ kept .1 .0 .1 .0 .1)
+    (sym (length-map (s .world .bodies) _) ∙ kept .0 .1 .1 .0 .1 .0 .1)
+    (sym (length-map (s .world .pairs) _) ∙ kept .0 .1 .1 .1 .0 .1 .0 .1)
+
+pub returns : tie.Need-returns Inv-loop μ-loop
+returns c =
+    let loop′ = c .before .loop in
+    let held′ = c .before .before .held in
+    let at-args = c .before .before .before .before .before .before .before in
+    let args′ = at-args .args in
+    let good′ = at-args .good in
+    let s = args′ .s in
+    let size = sym (length-map (s .line) _) ∙ good′ .0 .1 .1 .1 .0 .1 .0 .1 in
+    let row = row-held (s .line) (s .len) (held′ .result) (held′ .ensures) size in
+    let so-far = rw row at (loop′ .inv) in
+    fed-at-end said-line longest-line s _ (args′ .out .now) _ _ _ _ _ _ so-far
+    (λ room. omega arith)
+
+pub returns-2 : tie.Need-returns-2 Inv-loop μ-loop
+returns-2 c =
+    let loop′ = c .before .before .loop in
+    let held′ = c .before .before .before .held in
+    let at-args = c .before .before .before .before .before .before .before .before in
+    let args′ = at-args .args in
+    let good′ = at-args .good in
+    let s = args′ .s in
+    let size = sym (length-map (s .line) _) ∙ good′ .0 .1 .1 .1 .0 .1 .0 .1 in
+    let row = row-held (s .line) (s .len) (held′ .result) (held′ .ensures) size in
+    let so-far = rw row at (loop′ .inv) in
+    fed-at-end said-line longest-line s _ (args′ .out .now) _ _ _ _ _ _ so-far
+    (λ room. absurd (omega (arith, c .if1 .taken, loop′ .inv .out-size)))
+
+-- ---- room for a line
+pub sub-put-said-line : tie.Need-sub-put-said-line Inv-loop μ-loop
+sub-put-said-line c =
+    let before-loop = c .before .before .before .before .before .before .before .before .before in
+    let loop′ = before-loop .before .before .before .before .before .loop in
+    omega (arith, loop′ .inv .at-within, loop′ .inv .out-size)
+
+pub part-put-said-line-start : tie.Need-part-put-said-line-start Inv-loop μ-loop
+part-put-said-line-start c =
+    let before-loop = c .before .before .before .before .before .before .before .before .before in
+    let loop′ = before-loop .before .before .before .before .before .loop in
+    omega (arith, loop′ .inv .at-within, loop′ .inv .out-size)
+
+pub put-said-line-requires : tie.Need-put-said-line-requires Inv-loop μ-loop
+put-said-line-requires c κs =
+    let before-if1 = c .before .before .before .before .before .before .before .before .before in
+    let if1′ = before-if1 .before .before .before .before .if1 in
+    let loop′ = before-if1 .before .before .before .before .before .before .loop in
+    let within : loop′ .at ≤ length (loop′ .out) =
+    omega (arith, loop′ .inv .at-within, loop′ .inv .out-size) in
+    omega (arith, if1′ .left, length-lent (loop′ .at) (loop′ .out) within)
+
+pub add-at : tie.Need-add-at Inv-loop μ-loop
+add-at c =
+    let put-said-line′ = c .before .before .put-said-line in
+    let before-loop = c .before .before .before .before .before .before .before .before .before in
+    let at-loop = before-loop .before .before .before .before .before .before .before .before .before in
+    let loop′ = at-loop .loop in
+    let good′ = at-loop .before .before .before .before .before .before .good in
+    let within : loop′ .at ≤ length (loop′ .out) =
+    omega (arith, loop′ .inv .at-within, loop′ .inv .out-size) in
+    let fits = put-fits (loop′ .at) (put-said-line′ .result) (loop′ .out) _ _ within (put-said-line′ .kept .0)
+    (put-said-line′ .ensures) in
+    omega (arith, fits, loop′ .inv .out-size, good′ .1 .1 .0 .0)
