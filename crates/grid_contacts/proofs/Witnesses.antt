@@ -119,7 +119,8 @@ triangle = (two, 0) ∷ (two, two) ∷ (0, two) ∷ []
 
 abbrev pub triangle-outline : B2polygonShape
 triangle-outline =
-    outline-by triangle ((one, minus-zero) ∷ (0, one) ∷ (0xbf35_04f3, 0xbf35_04f3) ∷ []) (vector 0x3faa_aaaa 0x3faa_aaab)
+    outline-by triangle ((one, minus-zero) ∷ (0, one) ∷ (0xbf35_04f3, 0xbf35_04f3) ∷ [])
+    (vector 0x3faa_aaaa 0x3faa_aaab)
 
 pub record Built : Type 0 where
   pub triangle-accepted : refusal-of skinned (points triangle) ≡ 0

@@ -1,5 +1,5 @@
--- What the entries of clipping, world points and point states answer: the refusal (0 for accepted), and then the complete
--- record after the call; to a malformed request, no word at all. Definitions only.
+-- What the entries of clipping, world points and point states answer: the refusal (0 for accepted), and then the
+-- complete record after the call; to a malformed request, no word at all. Definitions only.
 use Prim.Native.Nat.{ℕ}
 use mathlib.Core.Bool.{true, _&&_}
 use mathlib.Core.List.{List}

@@ -1,5 +1,5 @@
--- Answers of the calls that make shapes, as words: floats by their bits, and records laid out as in requests. Definitions
--- only.
+-- Answers of the calls that make shapes, as words: floats by their bits, and records laid out as in requests.
+-- Definitions only.
 use Prim.Native.Nat.{ℕ, _%_}
 use mathlib.Core.Bool.{Bool, cond}
 use mathlib.Core.List.{List, [], _∷_, _++_}

@@ -1,7 +1,8 @@
--- What contact requests hold, at word i: CIRCLE is radius and centre (3 words); XF is a position, sine and cosine (4);
--- MAN is kind, count, local normal, local point and two points, each a local point, two impulses and an id (16); CLIPV
--- is a point and an id (3); WMAN is normal, two points, two separations (8); a point state is a word. An id is four
--- bytes of a word. Each is total: what no kind, flag or state is, another test turns away. Definitions only.
+-- What contact requests hold, at word i, with the names of docs/TEST_CALLS.md: a circle (CIRCLE) is radius and centre,
+-- 3 words; a placement (XF) position, sine and cosine, 4; a manifold (MAN) kind, count, local normal, local point and
+-- two points, each a local point, two impulses and an id, 16; a clip vertex (CLIPV) a point and an id, 3; a world
+-- manifold (WMAN) normal, two points and two separations, 8; a point state is a word. An id is four bytes of a word.
+-- Each is total: what no kind or state is, another test turns away. Definitions only.
 use Prim.Native.Nat.{ℕ, _+_, _*_}
 use mathlib.Core.Bool.{Bool, cond, _&&_}
 use mathlib.Core.List.{List, [], _∷_}

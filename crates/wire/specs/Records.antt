@@ -1,5 +1,6 @@
--- What requests hold, at word i: floats are their bits, a point is x then y; an outline is radius, centroid, count,
--- eight vertices and eight normals (36 words), a wall is radius, flag and four vertices (10 words). Definitions only.
+-- What requests hold, at word i: floats are their bits, a point is x then y; an outline (POLY in docs/TEST_CALLS.md) is
+-- radius, centroid, count, eight vertices and eight normals, 36 words; a wall (EDGE) is radius, flag and four vertices,
+-- 10 words. Definitions only.
 use Prim.Native.Nat.{ℕ, _+_, _*_}
 use mathlib.Core.Bool.{Bool}
 use mathlib.Core.List.{List}

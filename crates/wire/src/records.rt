@@ -2,7 +2,8 @@
 ghost use mathlib.Core.Path.{_≡_};
 ghost use Prim.Native.Nat.{_+_, _*_, _≤_};
 ghost use lib.ListN.{length, take};
-ghost use Rattle.wire.specs.Records.{float-at, vector-at, points-at, rotation-at, polygon-at, edge-at, edge-known};
+ghost use Rattle.wire.specs.Records.{float-at, vector-at, points-at, rotation-at};
+ghost use Rattle.wire.specs.Records.{polygon-at, edge-at, edge-known};
 use crate::words;
 use floats::b2_math::B2Rot;
 use floats::b2_math::B2vec2;

@@ -64,7 +64,8 @@ returns-3 c =
     let flag = known .before in
     let kind = flag .before in
     let size = kind .before in
-    answered 38 _ _ _ _ _ (size .if1 .left) (ap₂ _&&_ (kind .kind-known .ensures) (flag .edge-known .ensures)) _ _ _ (known .if2 .left)
+    answered 38 _ _ _ _ _ (size .if1 .left) (ap₂ _&&_ (kind .kind-known .ensures) (flag .edge-known .ensures))
+    _ _ _ (known .if2 .left)
     (simp (
       found .b2-collide-edge-and-circle .ensures,
       old .manifold .ensures,
