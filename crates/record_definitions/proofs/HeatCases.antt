@@ -32,7 +32,7 @@ use Rattle.record_definitions.specs.Touch.{touch-of, tested-as, tested}
 use Rattle.record_definitions.specs.Frame.{frame-length, well-formed, frame-refusal, circle-change, place-change}
 use Rattle.record_definitions.specs.Frame.{listed, test-refusal, test-change, change-of-kind, change}
 use Rattle.record_definitions.specs.Step.{change-in, changed, after-frame, said-of-frame}
-use Rattle.record_definitions.specs.Heat.{world-after, contact-in, contacts-after, contacts-of, touches-of}
+use Rattle.record_definitions.specs.Heat.{after-lines, contact-in, contacts-after, contacts-of, touches-of}
 use Rattle.record_definitions.specs.Heat.{new-ids, NextTest}
 use Rattle.record_definitions.proofs.HeatLaw.{heat-law}
 
@@ -61,7 +61,7 @@ abbrev lines : ℕ → List (List ℕ)
 lines n = take n heat
 
 abbrev world : ℕ → World
-world n = world-after fresh-world (lines n)
+world n = after-lines fresh-world (lines n)
 
 -- the contacts of the pair 0 1 that count there, and its touches
 abbrev counted : ℕ → ℕ × ℕ

@@ -13,7 +13,7 @@ use Rattle.record_definitions.specs.declared.world.World.{World}
 use Rattle.record_definitions.specs.World.{fresh-pair, fresh-world, pair-at, pair-place}
 use Rattle.record_definitions.specs.Frame.{largest-id}
 use Rattle.record_definitions.specs.Step.{after-line, said-of-line}
-use Rattle.record_definitions.specs.Heat.{world-after, with-line, contacts-after, contacts-of, touches-of}
+use Rattle.record_definitions.specs.Heat.{after-lines, with-line, contacts-after, contacts-of, touches-of}
 use Rattle.record_definitions.specs.Heat.{HeatLaw}
 use Rattle.record_definitions.proofs.FreshPairs.{get-same}
 use Rattle.record_definitions.proofs.SoundKept.{fresh-sound}
@@ -24,7 +24,7 @@ use Rattle.record_definitions.proofs.HeatSteps.{frame-remembered}
 module _ (a b : ℕ) (a-small : a ≤ largest-id) (b-small : b ≤ largest-id) where
   -- ---- the whole heat
   lines-remembered : (lines : List (List ℕ)) (w : World) (contacts : List B2manifold) → Remembers a b w contacts
-      → Remembers a b (world-after w lines) (contacts-after a b w contacts lines)
+      → Remembers a b (after-lines w lines) (contacts-after a b w contacts lines)
   unfolding contacts-after
   lines-remembered [] w contacts before = before
   lines-remembered (line ∷ lines) w contacts before =
@@ -46,7 +46,7 @@ module _ (a b : ℕ) (a-small : a ≤ largest-id) (b-small : b ≤ largest-id) w
 
   pub heat-law : (lines : List (List ℕ)) → HeatLaw a b lines
   heat-law lines =
-      let w = world-after fresh-world lines in
+      let w = after-lines fresh-world lines in
       let heat : Remembers a b w (contacts-of a b lines) = lines-remembered lines fresh-world [] fresh-remembered in
       record {
         remembered = heat .ids;

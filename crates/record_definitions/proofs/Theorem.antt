@@ -28,6 +28,7 @@ use Rattle.record_definitions.specs.Frame.{largest-id, change}
 use Rattle.record_definitions.specs.Answer.{touch-bytes, said-bytes, said-line, longest-answer, longest-line}
 use Rattle.record_definitions.specs.Step.{first-place, second-place, change-in, after-frame, said-of-frame}
 use Rattle.record_definitions.specs.Step.{after-line, said-of-line}
+use Rattle.record_definitions.specs.Heat.{after-lines}
 use Rattle.record_definitions.specs.Touches.{touches}
 use Rattle.record_definitions.specs.Reading.{begin, fed-pieces, joined}
 use Rattle.record_definitions.proofs.Pieces.{split-anyhow}
@@ -60,10 +61,6 @@ pub refused-changes-nothing : (w : World) (line : List ℕ) (n : ℕ) → said-o
 refused-changes-nothing w line n is = after-refused w (frame-of line) n is
 
 -- ---- every world that lines reach is sound: eight bodies and 64 pairs, each as accepted frames left it
-abbrev pub after-lines : World → List (List ℕ) → World
-after-lines w [] = w
-after-lines w (line ∷ lines) = after-lines (after-line w line) lines
-
 lines-keep-sound : (w : World) (lines : List (List ℕ)) → Sound w → Sound (after-lines w lines)
 lines-keep-sound w [] sound = sound
 lines-keep-sound w (line ∷ lines) sound =

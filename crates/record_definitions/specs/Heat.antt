@@ -24,9 +24,9 @@ use Rattle.record_definitions.specs.Touch.{meet, touches-after}
 use Rattle.record_definitions.specs.Step.{after-line, said-of-line}
 
 -- the world after some lines
-abbrev pub world-after : World → List (List ℕ) → World
-world-after w [] = w
-world-after w (line ∷ lines) = world-after (after-line w line) lines
+abbrev pub after-lines : World → List (List ℕ) → World
+after-lines w [] = w
+after-lines w (line ∷ lines) = after-lines (after-line w line) lines
 
 -- ---- the contacts of a pair that count: of its accepted tests since a new shape under either id, the latest first
 abbrev pub defines-shape : List ℕ → Bool
@@ -101,9 +101,9 @@ pub record NextTest (earlier : List B2manifold) (contact : B2manifold) (t : Touc
 -- ---- the law of a heat, for an ordered pair of ids and any lines from a fresh start
 pub record HeatLaw (a b : ℕ) (lines : List (List ℕ)) : Type 0 where
   -- the pair remembers the last of these contacts, and their count
-  pub remembered : pair-at (world-after fresh-world lines) a b .ids ≡ ids-of (last-contact (contacts-of a b lines))
-  pub counted : pair-at (world-after fresh-world lines) a b .touches ≡ touches-of (contacts-of a b lines)
+  pub remembered : pair-at (after-lines fresh-world lines) a b .ids ≡ ids-of (last-contact (contacts-of a b lines))
+  pub counted : pair-at (after-lines fresh-world lines) a b .touches ≡ touches-of (contacts-of a b lines)
   -- and so it prints, whatever line comes next
   pub next-test : (line : List ℕ) (t : Touch)
-      → said-of-line (world-after fresh-world lines) line .answer ≡ Tested t → t .a ≡ a → t .b ≡ b
-      → NextTest (contacts-of a b lines) (contact-in a b (world-after fresh-world lines)) t
+      → said-of-line (after-lines fresh-world lines) line .answer ≡ Tested t → t .a ≡ a → t .b ≡ b
+      → NextTest (contacts-of a b lines) (contact-in a b (after-lines fresh-world lines)) t

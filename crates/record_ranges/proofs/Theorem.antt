@@ -23,7 +23,8 @@ use Rattle.record_definitions.specs.Frame.{change}
 use Rattle.record_definitions.specs.Step.{first-place, second-place, change-in, said-of-frame, after-line, said-of-line}
 use Rattle.record_definitions.proofs.FrameRefusals.{of-bytes-alone}
 use Rattle.record_definitions.proofs.SoundTests.{NotOfHost}
-use Rattle.record_definitions.proofs.Theorem.{after-lines, reached-worlds-sound, test-not-of-host}
+use Rattle.record_definitions.specs.Heat.{after-lines}
+use Rattle.record_definitions.proofs.Theorem.{reached-worlds-sound, test-not-of-host}
 use Rattle.record_ranges.proofs.Bodies.{CappedBody}
 use Rattle.record_ranges.proofs.Kept.{CappedWorld, fresh-capped, frame-keeps-capped}
 use Rattle.record_ranges.proofs.Contacts.{test-not-nine}
