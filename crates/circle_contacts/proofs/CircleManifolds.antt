@@ -1,6 +1,6 @@
 -- The manifolds of two circles, and of an outline and a circle, from what the code found; and what a manifold without
 -- points keeps. Assumes nothing.
-use mathlib.Core.Path.{_≡_, refl, sym, _∙_, ap, ap₂}
+use mathlib.Core.Path.{_≡_, sym, _∙_, ap, ap₂}
 use mathlib.Core.Bool.{Bool, true, false}
 use lib.Ieee.{Float, binary32, add}
 use Rattle.floats.specs.declared.b2_math.B2vec2.{B2vec2}

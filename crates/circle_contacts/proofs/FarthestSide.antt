@@ -18,7 +18,7 @@ use Rattle.contact_definitions.specs.declared.axis.Best.{Best}
 use Rattle.contact_definitions.specs.Searches.{some-below, valued, is-greater, first-greatest}
 use Rattle.contact_definitions.proofs.Searches.{scanned, scanned-all, some-here, none-next}
 use Rattle.circle_contacts.specs.declared.outline_meeting.Side.{Side}
-use Rattle.circle_contacts.specs.Meetings.{out-of-face, FaceAt, SideOf}
+use Rattle.circle_contacts.specs.Meetings.{out-of-face, SideOf}
 
 abbrev best-at : ℕ → Float → Best
 best-at index separation = record { place = index; value = separation }

@@ -30,6 +30,16 @@ pub last-below-eight : (count last : ℕ) → count ≤ 8 → LastOfFour count l
 last-below-eight count last few (inl three) = let is = three .0 in let more = three .1 in omega arith
 last-below-eight count last few (inr two) = let is = two .0 in omega arith
 
+-- the first four faces: how far c is out of each, the last of them being the third where there are three
+pub record FourFaces (vs ns : List B2vec2) (count : ℕ) (c : B2vec2) (last : ℕ) (s0 s1 s2 s3 : Float) : Type 0 where
+  pub some : 2 < count
+  pub few : count ≤ 8
+  pub last-is : LastOfFour count last
+  pub s0-is : s0 ≡ out-of-face vs ns c 0
+  pub s1-is : s1 ≡ out-of-face vs ns c 1
+  pub s2-is : s2 ≡ out-of-face vs ns c 2
+  pub s3-is : s3 ≡ out-of-face vs ns c last
+
 module _ (vs ns : List B2vec2) (count : ℕ) (c : B2vec2) (radius : Float) where
   abbrev Known : Best → ℕ → Type 0
   Known best i = SoFar vs ns count c radius (best .place) (best .value) i
@@ -42,37 +52,35 @@ module _ (vs ns : List B2vec2) (count : ℕ) (c : B2vec2) (radius : Float) where
       go true more = side-taken vs ns count c radius (best .place) (best .value) i known within s s-is near more
       go false less = side-left vs ns count c radius (best .place) (best .value) i known within s s-is near less
 
-  module _ (some : 2 < count) (few : count ≤ 8) (last : ℕ) (last-is : LastOfFour count last) (s0 s1 s2 s3 : Float)
-      (s0-is : s0 ≡ out-of-face vs ns c 0) (s1-is : s1 ≡ out-of-face vs ns c 1) (s2-is : s2 ≡ out-of-face vs ns c 2)
-      (s3-is : s3 ≡ out-of-face vs ns c last) where
+  module _ {last : ℕ} {s0 s1 s2 s3 : Float} (four : FourFaces vs ns count c last s0 s1 s2 s3) where
     last-within : last < count
-    last-within = go last-is
+    last-within = go (four .last-is)
       where
         go : LastOfFour count last → last < count
         go (inl three) = let is = three .0 in let more = three .1 in omega arith
         go (inr two) = let is = two .0 in let all = two .1 in omega arith
 
     -- c is out of one of them
-    pub one-outside : (r : Side) → some-above radius s0 s1 s2 s3 ≡ true → r .outside ≡ true
-        → SideOf vs ns count c radius r
-    one-outside r above out = fourth (or-holds _ _ above)
+    pub one-outside : (r : Side) (above : Bool) → above ≡ some-above radius s0 s1 s2 s3 → above ≡ true
+        → r .outside ≡ true → SideOf vs ns count c radius r
+    one-outside r above above-is holds out = fourth (or-holds _ _ (sym above-is ∙ holds))
       where
         at-place : (i : ℕ) (s : Float) → i < count → s ≡ out-of-face vs ns c i → lt radius s ≡ true
             → SideOf vs ns count c radius r
         at-place i s within s-is far = outside-at vs ns count c radius i s r within s-is far out
 
         second : (lt radius s0 ≡ true) ⊎ (lt radius s1 ≡ true) → SideOf vs ns count c radius r
-        second (inl far) = at-place 0 s0 (omega arith) s0-is far
-        second (inr far) = at-place 1 s1 (omega arith) s1-is far
+        second (inl far) = at-place 0 s0 (omega (arith, four .some)) (four .s0-is) far
+        second (inr far) = at-place 1 s1 (omega (arith, four .some)) (four .s1-is) far
 
         third : ((lt radius s0 || lt radius s1) ≡ true) ⊎ (lt radius s2 ≡ true) → SideOf vs ns count c radius r
         third (inl far) = second (or-holds _ _ far)
-        third (inr far) = at-place 2 s2 (omega arith) s2-is far
+        third (inr far) = at-place 2 s2 (omega (arith, four .some)) (four .s2-is) far
 
         fourth : (((lt radius s0 || lt radius s1) || lt radius s2) ≡ true) ⊎ (lt radius s3 ≡ true)
             → SideOf vs ns count c radius r
         fourth (inl far) = third (or-holds _ _ far)
-        fourth (inr far) = at-place last s3 last-within s3-is far
+        fourth (inr far) = at-place last s3 last-within (four .s3-is) far
 
     abbrev b1 : Best
     b1 = taken (taken no-best 0 s0) 1 s1
@@ -81,30 +89,34 @@ module _ (vs ns : List B2vec2) (count : ℕ) (c : B2vec2) (radius : Float) where
     b2 = taken b1 2 s2
 
     -- c is out of none
-    pub four-known : length vs ≡ 8 → length ns ≡ 8 → some-above radius s0 s1 s2 s3 ≡ false
-        → Known (best-of-four s0 s1 s2 s3) (last + 1)
-    four-known vs-eight ns-eight above = go last-is
+    pub four-known : length vs ≡ 8 → length ns ≡ 8 → (above : Bool) → above ≡ some-above radius s0 s1 s2 s3
+        → above ≡ false → Known (best-of-four s0 s1 s2 s3) (last + 1)
+    four-known vs-eight ns-eight above above-is fails = go (four .last-is)
       where
+        near : some-above radius s0 s1 s2 s3 ≡ false
+        near = sym above-is ∙ fails
+
         three : Known b2 3
         three =
-            let fourth = or-fails ((lt radius s0 || lt radius s1) || lt radius s2) (lt radius s3) above in
+            let fourth = or-fails ((lt radius s0 || lt radius s1) || lt radius s2) (lt radius s3) near in
             let third = or-fails (lt radius s0 || lt radius s1) (lt radius s2) (fourth .0) in
             let both = or-fails (lt radius s0) (lt radius s1) (third .0) in
             next-known b1 2 s2
             (next-known (taken no-best 0 s0) 1 s1
-            (next-known no-best 0 s0 (sides-begin vs ns count c radius vs-eight ns-eight (omega arith) few)
-            (omega arith) s0-is (both .0))
-            (omega arith) s1-is (both .1))
-            (omega arith) s2-is (third .1)
+            (next-known no-best 0 s0
+            (sides-begin vs ns count c radius vs-eight ns-eight (omega (arith, four .some)) (four .few))
+            (omega (arith, four .some)) (four .s0-is) (both .0))
+            (omega (arith, four .some)) (four .s1-is) (both .1))
+            (omega (arith, four .some)) (four .s2-is) (third .1)
 
         last-near : lt radius s3 ≡ false
-        last-near = or-fails ((lt radius s0 || lt radius s1) || lt radius s2) (lt radius s3) above .1
+        last-near = or-fails ((lt radius s0 || lt radius s1) || lt radius s2) (lt radius s3) near .1
 
         go : LastOfFour count last → Known (taken b2 3 s3) (last + 1)
         go (inl at-three) =
             rw (at-three .0)
-            (next-known b2 3 s3 three (at-three .1) (s3-is ∙ ap (out-of-face vs ns c) (at-three .0)) last-near)
+            (next-known b2 3 s3 three (at-three .1) (four .s3-is ∙ ap (out-of-face vs ns c) (at-three .0)) last-near)
         go (inr at-two) =
-            let same : s3 ≡ s2 = s3-is ∙ ap (out-of-face vs ns c) (at-two .0) ∙ sym s2-is in
+            let same : s3 ≡ s2 = four .s3-is ∙ ap (out-of-face vs ns c) (at-two .0) ∙ sym (four .s2-is) in
             let kept : lt (b2 .value) s3 ≡ false = ap (lt (b2 .value)) same ∙ taken-once b1 2 s2 in
             rw (at-two .0, kept) three

@@ -10,12 +10,11 @@ use Rattle.rounding.specs.Literals.{zero32, half32}
 use Rattle.floats.specs.declared.b2_math.B2vec2.{B2vec2}
 use Rattle.floats.specs.B2Common.{b2-epsilon}
 use Rattle.floats.specs.B2Math.{b2-add, b2-sub, b2-scale, b2-dot, b2-normalize}
-use Rattle.contact_definitions.specs.declared.b2_collision.B2manifold.{B2manifold}
 use Rattle.contact_definitions.specs.B2CollideCircle.{farther, circle-at-corner, circle-at-face}
 use Rattle.circle_contacts.specs.declared.outline_meeting.Meeting.{Meeting}
 use Rattle.circle_contacts.specs.declared.outline_meeting.Meeting.the-variants.{Nothing, Point}
 use Rattle.circle_contacts.specs.declared.outline_meeting.Side.{Side}
-use Rattle.circle_contacts.specs.Meetings.{AtCorner, AtFace, AtOutline, SideOf, FaceAt}
+use Rattle.circle_contacts.specs.Meetings.{AtCorner, AtFace, AtOutline, SideOf}
 
 -- ---- a corner
 module _ (v c : B2vec2) (radius : Float) (far : Bool) (far-is : far ≡ farther radius c v) where

@@ -1,7 +1,7 @@
 -- What the parts of outline against circle hand to each other: the face that the circle's centre is farthest out of,
 -- where the circle meets the outline, and the manifold of that. Definitions only.
 use mathlib.Core.Path.{_≡_}
-use mathlib.Core.Bool.{Bool, false, cond}
+use mathlib.Core.Bool.{false, cond}
 use mathlib.Core.List.{List}
 use Prim.Native.Nat.{ℕ}
 use lib.Ieee.{Float, lt, binary32, add}

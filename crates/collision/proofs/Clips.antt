@@ -15,43 +15,40 @@ use Rattle.contact_definitions.specs.declared.b2_collision.B2clipVertex.{B2clip
 use Rattle.contact_definitions.specs.Clip.{clip-distance, clipped-by, clipped, clip-in-range}
 use Rattle.contact_definitions.proofs.Clipping.{never-three}
 use Rattle.collision.specs.declared.clip.Clip.{Clip}
-use Rattle.collision.specs.ClipPlaces.{left-over}
+use Rattle.collision.specs.ClipPlaces.{left-over, two-ends}
 
-module _ (vs : List B2clipVertex) (d : B2clipVertex) (vs-two : length vs ≡ 2) (normal : B2vec2) (offset : Float)
-    (index : ℕ) (distance0 distance1 : Float) (first-is : distance0 ≡ clip-distance normal offset (getD vs 0 d))
-    (second-is : distance1 ≡ clip-distance normal offset (getD vs 1 d)) where
-  clipped-of : clipped vs normal offset index ≡ clipped-by (getD vs 0 d) (getD vs 1 d) distance0 distance1 index
-  unfolding clipped
-  clipped-of = go (two-of vs vs-two)
-      ∙ ap₂ (λ (p q : Float). clipped-by (getD vs 0 d) (getD vs 1 d) p q index) (sym first-is) (sym second-is)
-    where
-      go : {l : List B2clipVertex} → Two l → clipped l normal offset index
-          ≡ clipped-by (getD l 0 d) (getD l 1 d) (clip-distance normal offset (getD l 0 d))
-          (clip-distance normal offset (getD l 1 d)) index
-      go (two a b) = refl
+-- ---- what is left, over two places
+module _ (left out : List B2clipVertex) (r : Clip) where
+  pub two-left : (a b new : B2clipVertex) → length out ≡ 2 → left ≡ a ∷ b ∷ [] → r ≡ two-ends a new → new ≡ b
+      → r ≡ left-over left out
+  two-left a b new out-two left-is r-is new-is =
+      r-is ∙ ap (two-ends a) new-is
+      ∙ ap (λ (l : List B2clipVertex). record { out = l; count = 2 }) (two-over out a b out-two)
+      ∙ ap (λ (l : List B2clipVertex). left-over l out) (sym left-is)
 
-  left-is : (out new left : List B2clipVertex)
-      → clipped-by (getD vs 0 d) (getD vs 1 d) distance0 distance1 index ≡ left → new ≡ over left out
-      → _≡_ {A = Clip} (record { out = new; count = length left }) (left-over (clipped vs normal offset index) out)
-  left-is out new left clipped-is new-is =
-      ap (λ (l : List B2clipVertex). record { out = l; count = length left }) new-is
-      ∙ ap (λ (l : List B2clipVertex). left-over l out) (sym (clipped-of ∙ clipped-is))
+  pub one-left : (a : B2clipVertex) → left ≡ a ∷ [] → r ≡ left-over (a ∷ []) out → r ≡ left-over left out
+  one-left a left-is r-is = r-is ∙ ap (λ (l : List B2clipVertex). left-over l out) (sym left-is)
 
-  module _ (out : List B2clipVertex) (out-two : length out ≡ 2) where
-    pub two-left : (a b new : B2clipVertex) → new ≡ b
-        → clipped-by (getD vs 0 d) (getD vs 1 d) distance0 distance1 index ≡ a ∷ b ∷ []
-        → _≡_ {A = Clip} (record { out = a ∷ new ∷ []; count = 2 }) (left-over (clipped vs normal offset index) out)
-    two-left a b new new-is clipped-is =
-        left-is out (a ∷ new ∷ []) (a ∷ b ∷ []) clipped-is
-        (ap (λ (e : B2clipVertex). a ∷ e ∷ []) new-is ∙ two-over out a b out-two)
+pub nothing-left : (left out : List B2clipVertex) → left ≡ []
+    → _≡_ {A = Clip} (record { out = out; count = 0 }) (left-over left out)
+nothing-left left out left-is = ap (λ (l : List B2clipVertex). left-over l out) (sym left-is)
 
-    pub one-left : (a : B2clipVertex) → clipped-by (getD vs 0 d) (getD vs 1 d) distance0 distance1 index ≡ a ∷ []
-        → left-over (a ∷ []) out ≡ left-over (clipped vs normal offset index) out
-    one-left a clipped-is = left-is out (over (a ∷ []) out) (a ∷ []) clipped-is refl
-
-    pub nothing-left : clipped-by (getD vs 0 d) (getD vs 1 d) distance0 distance1 index ≡ []
-        → _≡_ {A = Clip} (record { out = out; count = 0 }) (left-over (clipped vs normal offset index) out)
-    nothing-left clipped-is = left-is out out [] clipped-is refl
+-- ---- from the distances that the code has of the two ends
+pub clipped-of : (vs : List B2clipVertex) (d : B2clipVertex) (normal : B2vec2) (offset : Float) (index : ℕ)
+    (distance0 distance1 : Float) → length vs ≡ 2
+    → distance0 ≡ clip-distance normal offset (getD vs 0 d) → distance1 ≡ clip-distance normal offset (getD vs 1 d)
+    → (r : Clip) (out : List B2clipVertex)
+    → r ≡ left-over (clipped-by (getD vs 0 d) (getD vs 1 d) distance0 distance1 index) out
+    → r ≡ left-over (clipped vs normal offset index) out
+unfolding clipped
+clipped-of vs d normal offset index distance0 distance1 vs-two first-is second-is r out r-is =
+    r-is ∙ ap (λ (l : List B2clipVertex). left-over l out) (sym (go (two-of vs vs-two)
+    ∙ ap₂ (λ (p q : Float). clipped-by (getD vs 0 d) (getD vs 1 d) p q index) (sym first-is) (sym second-is)))
+  where
+    go : {l : List B2clipVertex} → Two l → clipped l normal offset index
+        ≡ clipped-by (getD l 0 d) (getD l 1 d) (clip-distance normal offset (getD l 0 d))
+        (clip-distance normal offset (getD l 1 d)) index
+    go (two a b) = refl
 
 -- ---- two ends over two places are themselves
 pub over-both : {A : Type 0} (left old : List A) → length old ≡ 2 → 2 ≤ length left → length left ≤ 2
@@ -62,7 +59,7 @@ over-both left old old-two enough few = go (two-of left (omega arith))
     go (two a b) = sym (two-over old a b old-two)
 
 -- ---- fewer than two ends are clipped to nothing
-pub none-of-few : (left : List B2clipVertex) (normal : B2vec2) (offset : Float) (index : ℕ) → length left < 2
+none-of-few : (left : List B2clipVertex) (normal : B2vec2) (offset : Float) (index : ℕ) → length left < 2
     → clipped left normal offset index ≡ []
 unfolding clipped
 none-of-few [] normal offset index few = refl

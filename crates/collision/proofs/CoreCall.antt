@@ -12,7 +12,7 @@ use prog.Routine.{Routine}
 use prog.Wp.{Heap}
 use ghost.Atoms.{Atoms, sem}
 use contract.Monad.{Fun, fact}
-use types.Kit.{Given, ‵, _$_, _∵_, !, qed, by, move, join}
+use types.Kit.{Given, ‵, _$_, _∵_, !, qed, move, join}
 use types.Kit.{frame, done}
 use denote.Builtin.{f32}
 use denote.Floats.{float-makes}

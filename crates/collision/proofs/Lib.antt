@@ -9,3 +9,4 @@ pub mod WorldOfFaces
 pub mod KeptEnds
 pub mod WorldRanges
 pub mod CoreCall
+pub mod LentWorld

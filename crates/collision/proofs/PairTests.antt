@@ -35,23 +35,23 @@ module _ (vs ns : List B2vec2) (n : ℕ)
       ap₂ _&&_ (both-fours point-in-range vs n eight-vs (each .0) (rest .0))
       (both-fours normal-in-range ns n eight-ns (each .1) (rest .1))
 
-pub by-shape : (x y z w : Bool) → (x && y) && (z && w) ≡ (x && z) && (y && w)
+by-shape : (x y z w : Bool) → (x && y) && (z && w) ≡ (x && z) && (y && w)
 by-shape true true z w = refl
 by-shape true false z w = sym (and-false z)
 by-shape false y z w = refl
 
 -- the last of two is done before the points of the first
-pub last-before : (a b v n : Bool) → (a && b) && (v && n) ≡ a && v && n && b
+last-before : (a b v n : Bool) → (a && b) && (v && n) ≡ a && v && n && b
 last-before true b v n = and-comm b (v && n)
 last-before false b v n = refl
 
 -- both are done before the points of both
-pub both-before : (a b v n w m : Bool) → (a && b) && ((v && n) && (w && m)) ≡ (a && v && n) && (b && w && m)
+both-before : (a b v n w m : Bool) → (a && b) && ((v && n) && (w && m)) ≡ (a && v && n) && (b && w && m)
 both-before a b v n w m =
     by-shape a b (v && n) (w && m) ∙ ap₂ _&&_ (sym (and-assoc a v n)) (sym (and-assoc b w m))
 
 -- radii, the ends of a wall and a centre are done before the wall's ghost points
-pub ghosts-last : (ra rb v1 v2 p g : Bool)
+ghosts-last : (ra rb v1 v2 p g : Bool)
     → ((ra && rb) && (v1 && v2)) && p && g ≡ (ra && v1 && v2 && g) && (rb && p)
 ghosts-last true true v1 v2 p g =
     and-assoc (v1 && v2) p g ∙ ap (λ (t : Bool). v1 && v2 && t) (and-comm p g) ∙ sym (and-assoc (v1 && v2) g p)
@@ -59,7 +59,7 @@ ghosts-last true false v1 v2 p g = sym (and-false (v1 && v2 && g))
 ghosts-last false rb v1 v2 p g = refl
 
 -- a wall and what heads an outline are done before the outline's points
-pub points-last : (e h v n : Bool) → (e && h) && (v && n) ≡ e && (h && v && n)
+points-last : (e h v n : Bool) → (e && h) && (v && n) ≡ e && (h && v && n)
 points-last true h v n = sym (and-assoc h v n)
 points-last false h v n = refl
 
@@ -68,10 +68,10 @@ abbrev head : Float → B2vec2 → Bool
 head r p = radius-in-range r && point-in-range p
 
 -- both radii, and the four coordinates of both places
-abbrev pub Radii : Float → Float → Bool → Type 0
+abbrev Radii : Float → Float → Bool → Type 0
 Radii ra rb radii = radii ≡ (radius-in-range ra && radius-in-range rb)
 
-abbrev pub Four : B2vec2 → B2vec2 → Bool → Type 0
+abbrev Four : B2vec2 → B2vec2 → Bool → Type 0
 Four p q four = four ≡ (coordinate-in-range (p .x) && coordinate-in-range (p .y) && coordinate-in-range (q .x)
     && coordinate-in-range (q .y))
 

@@ -1,6 +1,6 @@
 -- The contact calls by their ranges: 7 before them, then accepted where shapes and placements are in range, else 2
 -- where a shape is not, and else 6. Assumes nothing.
-use mathlib.Core.Path.{_≡_, refl, sym, _∙_, ap₂}
+use mathlib.Core.Path.{_≡_, refl, sym, _∙_, ap, ap₂}
 use mathlib.Core.Bool.{Bool, true, false, not, cond, _&&_, _||_}
 use Prim.Native.Nat.{ℕ, _≤_, _<_}
 use native.Mathlib.Omega.{arith}
@@ -11,7 +11,8 @@ use Rattle.floats.specs.Ranges.{transform-in-range}
 use Rattle.shape_definitions.specs.Refusal.{shape-out-of-range, placement-out-of-range, count-out-of-range}
 use Rattle.contact_definitions.specs.declared.b2_collision.B2manifold.{B2manifold}
 use Rattle.contact_definitions.specs.declared.b2_collision.ManifoldAnswer.{ManifoldAnswer}
-use Rattle.contact_definitions.specs.Manifold.{manifold-refused, where-in-range, miscounted, unless-miscounted}
+use Rattle.contact_definitions.specs.Manifold.{manifold-refused, manifold-accepted, where-in-range, miscounted}
+use Rattle.contact_definitions.specs.Manifold.{unless-miscounted}
 
 never : {P : Type 0} → true ≡ false → P
 never h = let z : _≡_ {A = ℕ} 0 1 = cc in absurd (omega arith)
@@ -38,8 +39,15 @@ module _ (old : B2manifold) (shapes : Bool) (xfA xfB : B2Transform) (answer : Ma
     as-found : by s p ≡ where-in-range shapes xfA xfB old answer
     as-found = ap₂ by s-is p-is
 
-    pub all-in-range : (s && p) ≡ true → answer ≡ where-in-range shapes xfA xfB old answer
-    all-in-range both = in-range s p both ∙ as-found
+    pub all-in-range : (r : ManifoldAnswer) → (s && p) ≡ true → r ≡ answer
+        → r ≡ where-in-range shapes xfA xfB old answer
+    all-in-range r both r-is = r-is ∙ in-range s p both ∙ as-found
+
+    -- the manifold that was made, where it is that of the answer
+    pub made-in-range : (made m : B2manifold) (r : ManifoldAnswer) → answer ≡ manifold-accepted m → (s && p) ≡ true
+        → r ≡ manifold-accepted made → made ≡ m → r ≡ where-in-range shapes xfA xfB old answer
+    made-in-range made m r answer-is both r-is made-is =
+        all-in-range r both (r-is ∙ ap manifold-accepted made-is ∙ sym answer-is)
 
     pub not-in-range : (r : ManifoldAnswer) → (s && p) ≡ false
         → r ≡ cond s (manifold-refused placement-out-of-range old) (manifold-refused shape-out-of-range old)

@@ -21,15 +21,15 @@ use Rattle.contact_definitions.specs.PointStates.{same-id, id-among, counted-id
 
 -- ---- the ids by their count
 module _ (ids : CountedIds) where
-  pub no-ids : ids .count ≡ 0 → ids-in ids ≡ []
+  no-ids : ids .count ≡ 0 → ids-in ids ≡ []
   unfolding ids-in
   no-ids none = simp (eq-eqb (ids .count) 0 none)
 
-  pub one-id : (ids .count ≡ 0 → ⊥) → ids .count ≡ 1 → ids-in ids ≡ ids .first ∷ []
+  one-id : (ids .count ≡ 0 → ⊥) → ids .count ≡ 1 → ids-in ids ≡ ids .first ∷ []
   unfolding ids-in
   one-id some one = simp (ne-eqb (ids .count) 0 some, eq-eqb (ids .count) 1 one)
 
-  pub two-ids : (ids .count ≡ 0 → ⊥) → (ids .count ≡ 1 → ⊥) → ids-in ids ≡ ids .first ∷ ids .second ∷ []
+  two-ids : (ids .count ≡ 0 → ⊥) → (ids .count ≡ 1 → ⊥) → ids-in ids ≡ ids .first ∷ ids .second ∷ []
   unfolding ids-in
   two-ids some more = simp (ne-eqb (ids .count) 0 some, ne-eqb (ids .count) 1 more)
 

@@ -25,7 +25,7 @@ use Rattle.collision.specs.declared.world_points.WorldPoint.{WorldPoint}
 use Rattle.collision.specs.FacePoints.{at-plane, second-kept, second-of}
 
 -- ---- the middle from either side
-pub sums-commute : (a b : B2vec2) → b2-add a b ≡ b2-add b a
+sums-commute : (a b : B2vec2) → b2-add a b ≡ b2-add b a
 unfolding b2-add
 sums-commute a b = ap₂ vec2 (add-commutes (a .x) (b .x)) (add-commutes (a .y) (b .y))
 

@@ -1,7 +1,7 @@
 // A segment clipped to a line, by cases, with stores at constant places (the core of Box2D's b2_clip_segment_to_line).
 ghost use mathlib.Core.Path.{_≡_};
 ghost use mathlib.Core.List.{[], _∷_};
-ghost use Rattle.contact_definitions.specs.Clip.{clip-distance, crossing, clipped};
+ghost use Rattle.contact_definitions.specs.Clip.{clip-distance, crossing, clipped-by, clipped};
 ghost use Rattle.collision.specs.ClipPlaces.{two-ends, left-over};
 use crate::manifolds::contact_id;
 use contact_definitions::b2_collision::B2clipVertex;
@@ -64,21 +64,18 @@ fn one_left(out: [B2clipVertex; 2], a: B2clipVertex) -> Clip
     }
 }
 
-// What is left of the segment vs, over the places of out. An end that is left on the one side and a crossing are two,
-// never three, and where no end is left there is no crossing.
-pub fn clip_ends(
+// What is left of the segment from a to b, whose ends lie d0 and d1 from the line, over the places of out. An end that
+// is left on the one side and a crossing are two, never three, and where no end is left there is no crossing.
+fn clip_by(
     out: [B2clipVertex; 2],
-    vs: [B2clipVertex; 2],
-    n: B2vec2,
-    offset: f32,
+    a: B2clipVertex,
+    b: B2clipVertex,
+    d0: f32,
+    d1: f32,
     index: usize,
 ) -> Clip
-    ensures { λ r. ⌜ r ≡ left-over (clipped vs n offset index) out ⌝ }
+    ensures { λ r. ⌜ r ≡ left-over (clipped-by a b d0 d1 index) out ⌝ }
 {
-    let a = vs[0];
-    let b = vs[1];
-    let d0 = clip_distance(n, offset, a);
-    let d1 = clip_distance(n, offset, b);
     if d0 <= 0.0 {
         if d1 <= 0.0 {
             return both_left(a, b);
@@ -95,6 +92,23 @@ pub fn clip_ends(
         return one_left(out, b);
     }
     Clip { out, count: 0 }
+}
+
+// What is left of the segment vs, over the places of out.
+pub fn clip_ends(
+    out: [B2clipVertex; 2],
+    vs: [B2clipVertex; 2],
+    n: B2vec2,
+    offset: f32,
+    index: usize,
+) -> Clip
+    ensures { λ r. ⌜ r ≡ left-over (clipped vs n offset index) out ⌝ }
+{
+    let a = vs[0];
+    let b = vs[1];
+    let d0 = clip_distance(n, offset, a);
+    let d1 = clip_distance(n, offset, b);
+    clip_by(out, a, b, d0, d1, index)
 }
 
 // What is left of a segment clipped to side 1 and then to side 2, over its own ends: of fewer than two ends after the

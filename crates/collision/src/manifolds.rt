@@ -3,8 +3,7 @@
 ghost use mathlib.Core.Path.{_≡_};
 ghost use mathlib.Core.Bool.{cond};
 ghost use Rattle.contact_definitions.specs.Manifold.{feature-number, vertex-feature, contact-id, swapped-id};
-ghost use Rattle.contact_definitions.specs.Manifold.{with-local-point, with-count, with-kind};
-ghost use Rattle.contact_definitions.specs.Manifold.{with-one-point};
+ghost use Rattle.contact_definitions.specs.Manifold.{with-local-point, with-count, with-kind, with-one-point};
 ghost use Rattle.contact_definitions.specs.declared.b2_collision.B2manifoldType.the-variants.{EFaceA, EFaceB};
 ghost use Rattle.collision.specs.KeptPoints.{point-at-end, kept-ends, points-kept};
 use contact_definitions::b2_collision::B2clipVertex;

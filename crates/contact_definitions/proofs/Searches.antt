@@ -10,7 +10,7 @@ use native.Mathlib.Omega.{arith}
 use lib.Ieee.{Float}
 use Rattle.algebra.specs.Loops.{places, scan}
 use Rattle.algebra.proofs.Booleans.{less-or-not}
-use Rattle.contact_definitions.specs.Searches.{some-below, least, valued, first-greatest, first-least}
+use Rattle.contact_definitions.specs.Searches.{some-below, valued, first-greatest}
 
 one-place : (j n : ℕ) → j < n → places j (n - j) ≡ j ∷ places (j + 1) (n - (j + 1))
 one-place j n within = ap (places j) count ∙ ap (λ (k : ℕ). j ∷ places k (n - (j + 1))) (sym (add-one j))
@@ -61,7 +61,7 @@ module _ {A : Type 0} (f g : ℕ → A) where
   values-same i (suc n) same =
       ap₂ _∷_ (same i (omega arith)) (values-same (suc i) n (λ (k : ℕ) (h : k < suc i + n). same k (omega arith)))
 
-  pub mapped-same : (n : ℕ) → ((k : ℕ) → k < n → f k ≡ g k) → map f (places 0 n) ≡ map g (places 0 n)
+  mapped-same : (n : ℕ) → ((k : ℕ) → k < n → f k ≡ g k) → map f (places 0 n) ≡ map g (places 0 n)
   mapped-same n same = values-same 0 n (λ (k : ℕ) (h : k < 0 + n). same k (omega arith))
 
 module _ (f g : ℕ → Float) (count : ℕ) (same : (k : ℕ) → k < count → f k ≡ g k) where
@@ -69,17 +69,9 @@ module _ (f g : ℕ → Float) (count : ℕ) (same : (k : ℕ) → k < count →
   valued-same = mapped-same (valued f) (valued g) count
       (λ (k : ℕ) (h : k < count). ap (λ (x : Float). record { place = k; value = x }) (same k h))
 
-  pub least-same : least f count ≡ least g count
-  unfolding least
-  least-same = ap (scan _ _) (mapped-same f g count same)
-
   pub first-greatest-same : first-greatest f count ≡ first-greatest g count
   unfolding first-greatest
   first-greatest-same = ap (scan _ _) valued-same
-
-  pub first-least-same : first-least f count ≡ first-least g count
-  unfolding first-least
-  first-least-same = ap (scan _ _) valued-same
 
 -- ---- some place below a count passes a test
 module _ (test : ℕ → Bool) where

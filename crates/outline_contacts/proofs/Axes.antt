@@ -23,11 +23,11 @@ use Rattle.outline_contacts.specs.Faces.{face-of}
 use Rattle.outline_contacts.specs.OnFace.{named-by, manifold-on-face}
 
 -- an outline by its corners, normals and count, as the search takes it
-abbrev pub bare : B2polygonShape → B2polygonShape
+abbrev bare : B2polygonShape → B2polygonShape
 bare poly = outlined (poly .«m_vertices») (poly .«m_normals») (poly .«m_count»)
 
 -- the data of its face, and of the incident edge of another
-abbrev pub face-between : B2polygonShape → B2Transform → B2polygonShape → B2Transform → ℕ → B2vec2 → Bool → Face
+abbrev face-between : B2polygonShape → B2Transform → B2polygonShape → B2Transform → ℕ → B2vec2 → Bool → Face
 face-between poly1 xf1 poly2 xf2 edge normal flip =
     face-of (poly1 .«m_vertices») edge normal (poly1 .«m_count») xf1 (poly2 .«m_vertices») (poly2 .«m_normals»)
     (poly2 .«m_count») xf2 flip

@@ -21,7 +21,7 @@ use Rattle.outline_contacts.specs.FaceRows.{faced}
 use Rattle.outline_contacts.specs.Outlines.{outlined}
 
 -- ---- what one search finds: the face and its separation, and the normal there
-abbrev pub best-of : FarthestFace → Best
+abbrev best-of : FarthestFace → Best
 best-of r = record { place = r .place; value = r .value }
 
 pub record Found (v1s n1s : List B2vec2) (count1 : ℕ) (xf1 : B2Transform) (v2s n2s : List B2vec2) (count2 : ℕ)

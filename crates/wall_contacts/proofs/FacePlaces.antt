@@ -1,4 +1,5 @@
 -- Where the axis search names a face of the outline, it is one of its faces. Assumes nothing.
+use mathlib.Core.Path.{_≡_, sym, subst}
 use mathlib.Core.Bool.{Bool, true, false, cond}
 use mathlib.Core.List.{map}
 use Prim.Native.Nat.{ℕ, zero, suc, _+_, _<_}
@@ -82,7 +83,7 @@ module _ (xf : B2Transform) (poly : B2polygonShape) where
   smoothed-place edge edge1 wall (FaceB s x y i) wall-below axis-below =
       region-place (gauss-region edge edge1 (vec2 x y)) wall (FaceB s x y i) wall-below axis-below
 
-  pub axis-place : (radius : Float) (edge : B2edgeShape) (edge1 : B2vec2) → 0 < poly .«m_count»
+  axis-place : (radius : Float) (edge : B2edgeShape) (edge1 : B2vec2) → 0 < poly .«m_count»
       → place-below (poly .«m_count») (edge-polygon-axis radius edge edge1 xf poly)
   unfolding below edge-polygon-axis
   axis-place radius edge edge1 some =
@@ -94,3 +95,8 @@ module _ (xf : B2Transform) (poly : B2polygonShape) where
       primary-place radius wall face wall-below (polygon-place (edge .«m_vertex1») (edge .«m_vertex2») some) in
       picked below (edge .«m_one_sided») (smoothed edge edge1 wall primary) primary
       (smoothed-place edge edge1 wall primary wall-below primary-below) primary-below
+
+  pub found-place : (radius : Float) (edge : B2edgeShape) (edge1 : B2vec2) (axis : Axis) → 0 < poly .«m_count»
+      → axis ≡ edge-polygon-axis radius edge edge1 xf poly → place-below (poly .«m_count») axis
+  found-place radius edge edge1 axis some axis-is =
+      subst (place-below (poly .«m_count»)) (sym axis-is) (axis-place radius edge edge1 some)

@@ -36,7 +36,7 @@ module _ (xf : B2Transform) (poly : B2polygonShape) (v1 v2 : B2vec2) where
 
   module _ (i : ℕ) (s separation kept-x kept-y : Float) (kept-place : ℕ)
       (s-is : s ≡ face-distance (placed-normal xf poly i) (placed-corner xf poly i) v1 v2) where
-    abbrev pub kept-face : Axis
+    abbrev kept-face : Axis
     kept-face = FaceB separation kept-x kept-y kept-place
 
     face-here : (x y : Float) → x ≡ placed-normal xf poly i .x → y ≡ placed-normal xf poly i .y

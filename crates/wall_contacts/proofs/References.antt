@@ -23,7 +23,7 @@ use Rattle.wall_contacts.specs.declared.edge_reference.Reference.{Refere
 use Rattle.wall_contacts.specs.Reference.{wall-reference, face-reference, reference-manifold}
 use Rattle.wall_contacts.proofs.RowsFilled.{at-place}
 
-abbrev pub vertex : B2vec2 → ℕ → ℕ → ℕ → ℕ → B2clipVertex
+abbrev vertex : B2vec2 → ℕ → ℕ → ℕ → ℕ → B2clipVertex
 vertex v index-a index-b type-a type-b =
     record { v = v; id = contact-id (as-byte index-a) (as-byte index-b) type-a type-b }
 

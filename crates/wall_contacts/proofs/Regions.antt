@@ -18,8 +18,9 @@ use Rattle.contact_definitions.specs.EdgeAxis.{right-of}
 use Rattle.contact_definitions.specs.B2CollideCircle.{farther}
 use Rattle.contact_definitions.specs.B2CollideEdge.{circle-at-end, circle-at-wall, over-before, over-after}
 use Rattle.contact_definitions.specs.B2CollideEdge.{edge-circle-answer}
+use Rattle.contact_definitions.proofs.Counts.{one-point-anew}
 use Rattle.wall_contacts.specs.declared.edge_circle.Touch.{Touch}
-use Rattle.wall_contacts.specs.declared.edge_circle.Touch.the-variants.{Nothing, End, Flat}
+use Rattle.wall_contacts.specs.declared.edge_circle.Touch.the-variants.{Nothing, End, Face, Flat}
 use Rattle.wall_contacts.specs.EdgeCircle.{end-touch, face-of, face-touch, touch-answer}
 
 -- the point of the wall nearest to the circle's centre
@@ -136,3 +137,22 @@ pub answered : (m : B2manifold) (edge : B2edgeShape) (centre : B2vec2) (t way : 
     → a ≡ touch-answer way m edge centre → touch-answer t m edge centre ≡ answer → a ≡ answer
 answered m edge centre t way a answer t-is a-is answer-is =
     a-is ∙ ap (λ (w : Touch). touch-answer w m edge centre) (sym t-is) ∙ answer-is
+
+-- ---- a point at an end, and one along the wall
+pub end-answered : (m : B2manifold) (edge : B2edgeShape) (centre : B2vec2) (t : Touch) (i : ℕ) (x y : Float)
+    (made : B2manifold) (answer : ManifoldAnswer) → t ≡ End i x y
+    → made ≡ with-one-point m ECircles origin (vec2 x y) centre (contact-id i 0 vertex-feature vertex-feature)
+    → touch-answer t m edge centre ≡ answer → manifold-accepted made ≡ answer
+unfolding touch-answer
+end-answered m edge centre t i x y made answer t-is made-is =
+    answered m edge centre t (End i x y) _ answer t-is
+    (ap manifold-accepted (made-is ∙ one-point-anew m ECircles origin (vec2 x y) centre _))
+
+pub face-answered : (m : B2manifold) (edge : B2edgeShape) (centre : B2vec2) (t : Touch) (x y : Float)
+    (made : B2manifold) (answer : ManifoldAnswer) → t ≡ Face x y
+    → made ≡ with-one-point m EFaceA (vec2 x y) (edge .«m_vertex1») centre (contact-id 0 0 face-feature vertex-feature)
+    → touch-answer t m edge centre ≡ answer → manifold-accepted made ≡ answer
+unfolding touch-answer
+face-answered m edge centre t x y made answer t-is made-is =
+    answered m edge centre t (Face x y) _ answer t-is
+    (ap manifold-accepted (made-is ∙ one-point-anew m EFaceA (vec2 x y) (edge .«m_vertex1») centre _))

@@ -1,8 +1,8 @@
 -- Accepted, or by the ranges. Assumes nothing.
-use mathlib.Core.Path.{_∙_, ap}
-use Rattle.contact_definitions.specs.Manifold.{manifold-accepted}
-use Rattle.contact_definitions.specs.B2CollideCircle.{b2-collide-circles}
-use Rattle.collision.proofs.Refused.{all-in-range, not-in-range}
+use mathlib.Core.Path.{refl}
+use Rattle.contact_definitions.specs.Manifold.{with-count}
+use Rattle.contact_definitions.specs.B2CollideCircle.{circles-manifold, b2-collide-circles}
+use Rattle.collision.proofs.Refused.{made-in-range, not-in-range}
 use borrow.Author.Needs.{needs}
 use Rattle.circle_contacts.proofs.b2_collide_circle.b2_collide_circles.Statement.{statement}
 use Rattle.circle_contacts.proofs.b2_collide_circle.b2_collide_circles.Tie as tie
@@ -24,9 +24,11 @@ unfolding b2-collide-circles
 returns c =
     let made = c .before in
     let both = made .before in
-    c .accepted .ensures ∙ ap manifold-accepted (made .circles-manifold .ensures)
-    ∙ all-in-range _ _ _ _ _ _ _ (both .before .before .circles-in-range .ensures)
-    (both .before .placements-in-range .ensures) (both .if1 .taken)
+    let shapes = both .before .before in
+    let args = shapes .before .args in
+    made-in-range _ _ _ _ _ _ _ (shapes .circles-in-range .ensures) (both .before .placements-in-range .ensures) _
+    (circles-manifold (with-count (args .m) 0) (args .a) (args .xfa) (args .b) (args .xfb)) _ refl (both .if1 .taken)
+    (c .accepted .ensures) (made .circles-manifold .ensures)
 
 out-of-range-requires : tie.Need-out-of-range-requires
 out-of-range-requires c κs = search needs

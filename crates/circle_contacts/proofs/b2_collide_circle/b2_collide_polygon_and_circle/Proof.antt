@@ -1,8 +1,8 @@
 -- 7, then by the ranges, or accepted. Assumes nothing.
-use mathlib.Core.Path.{sym, _∙_, ap}
-use Rattle.contact_definitions.specs.Manifold.{manifold-accepted}
+use mathlib.Core.Path.{refl, sym, _∙_}
 use Rattle.contact_definitions.specs.B2CollideCircle.{b2-collide-polygon-and-circle}
-use Rattle.collision.proofs.Refused.{all-in-range, not-in-range, count-refused, count-taken, counted-well}
+use Rattle.circle_contacts.specs.Meetings.{outline-circle}
+use Rattle.collision.proofs.Refused.{made-in-range, not-in-range, count-refused, count-taken, counted-well}
 use borrow.Author.Needs.{needs}
 use Rattle.circle_contacts.proofs.b2_collide_circle.b2_collide_polygon_and_circle.Statement.{
   statement,
@@ -43,10 +43,11 @@ returns-2 c =
     let placed = both .before in
     let shapes = placed .before in
     let right = shapes .before in
+    let args = right .before .before .args in
     count-taken _ _ _ _ (sym (right .before .miscounted .ensures) ∙ right .if1 .left)
-    (c .accepted .ensures ∙ ap manifold-accepted (made .polygon-circle-manifold .ensures)
-    ∙ all-in-range _ _ _ _ _ _ _ (shapes .polygon-circle-in-range .ensures) (placed .placements-in-range .ensures)
-    (both .if2 .taken))
+    (made-in-range _ _ _ _ _ _ _ (shapes .polygon-circle-in-range .ensures) (placed .placements-in-range .ensures) _
+    (outline-circle (args .m) (args .a) (args .xfa) (args .b) (args .xfb)) _ refl (both .if2 .taken)
+    (c .accepted .ensures) (made .polygon-circle-manifold .ensures))
 
 out-of-range-requires : tie.Need-out-of-range-requires
 out-of-range-requires c κs = search needs

@@ -1,11 +1,11 @@
--- The first four faces side by side (proofs/FirstFour), then a face at a time (proofs/Sides). Assumes nothing.
-use mathlib.Core.Path.{refl, sym, subst, _∙_}
+-- The first four faces side by side (proofs/FirstFour), then a face at a time (proofs/FarthestSide). Assumes nothing.
+use mathlib.Core.Path.{refl, sym, subst}
 use mathlib.Core.Logic.{⊎-elim}
 use Prim.Native.Nat.{_+_, _-_}
 use borrow.Author.Needs.{needs}
 use Rattle.contact_definitions.specs.declared.axis.Best.{Best}
 use Rattle.circle_contacts.proofs.FarthestSide.{SoFar, outside-at, side-taken, side-left, side-found}
-use Rattle.circle_contacts.proofs.FirstFour.{last-below-eight, one-outside, four-known}
+use Rattle.circle_contacts.proofs.FirstFour.{FourFaces, last-below-eight, one-outside, four-known}
 use Rattle.circle_contacts.proofs.outline_meeting.circle_side.Statement.{statement}
 use Rattle.circle_contacts.proofs.outline_meeting.circle_side.Tie as tie
 
@@ -39,19 +39,32 @@ some-above-requires c κs = search needs
 beyond-requires : tie.Need-beyond-requires Inv-loop μ-loop
 beyond-requires c κs = search needs
 
+abbrev named-of : tie.After-some-above Inv-loop μ-loop → tie.After-last-of-four Inv-loop μ-loop
+named-of w = w .before .before .before .before .before
+
+abbrev start-of : tie.After-some-above Inv-loop μ-loop → tie.Start Inv-loop μ-loop
+start-of w = named-of w .before
+
+four-faces : (w : tie.After-some-above Inv-loop μ-loop)
+    → FourFaces (start-of w .args .t1) (start-of w .args .t2) (start-of w .args .count) (start-of w .args .c)
+    (named-of w .last-of-four .result) (w .before .before .before .before .out-of-face .result)
+    (w .before .before .before .out-of-face2 .result) (w .before .before .out-of-face3 .result)
+    (w .before .out-of-face4 .result)
+four-faces w = record {
+  some = start-of w .pre .0;
+  few = start-of w .pre .1;
+  last-is = named-of w .last-of-four .ensures;
+  s0-is = w .before .before .before .before .out-of-face .ensures;
+  s1-is = w .before .before .before .out-of-face2 .ensures;
+  s2-is = w .before .before .out-of-face3 .ensures;
+  s3-is = w .before .out-of-face4 .ensures;
+}
+
 returns : tie.Need-returns Inv-loop μ-loop
 returns c =
     let asked = c .before .before in
-    let fourth = asked .before in
-    let third = fourth .before in
-    let second = third .before in
-    let first = second .before in
-    let named = first .before in
-    let start = named .before in
-    one-outside (start .args .t1) (start .args .t2) _ _ _ (start .pre .0) (start .pre .1) _
-    (named .last-of-four .ensures) _ _ _ _ (first .out-of-face .ensures) (second .out-of-face2 .ensures)
-    (third .out-of-face3 .ensures) (fourth .out-of-face4 .ensures) _
-    (sym (asked .some-above .ensures) ∙ c .before .if1 .taken) (c .beyond .ensures)
+    one-outside _ _ _ _ _ (four-faces asked) _ _ (asked .some-above .ensures) (c .before .if1 .taken)
+    (c .beyond .ensures)
 
 best-of-four-requires : tie.Need-best-of-four-requires Inv-loop μ-loop
 best-of-four-requires c κs = search needs
@@ -65,18 +78,12 @@ add-i c =
 loop-holds : tie.Need-loop-holds Inv-loop μ-loop
 loop-holds c =
     let asked = c .before .before in
-    let fourth = asked .before in
-    let third = fourth .before in
-    let second = third .before in
-    let first = second .before in
-    let named = first .before in
-    let start = named .before in
+    let start = start-of asked in
     subst (λ (b : Best). SoFar (start .args .t1) (start .args .t2) (start .args .count) (start .args .c)
-    (start .args .radius) (b .place) (b .value) (named .last-of-four .result + 1)) (sym (c .best-of-four .ensures))
-    (four-known (start .args .t1) (start .args .t2) _ _ _ (start .pre .0) (start .pre .1) _
-    (named .last-of-four .ensures) _ _ _ _ (first .out-of-face .ensures) (second .out-of-face2 .ensures)
-    (third .out-of-face3 .ensures) (fourth .out-of-face4 .ensures) (start .good .0 .1 .0 .1)
-    (start .good .1 .0 .1 .0 .1) (sym (asked .some-above .ensures) ∙ c .before .if1 .left))
+    (start .args .radius) (b .place) (b .value) (named-of asked .last-of-four .result + 1))
+    (sym (c .best-of-four .ensures))
+    (four-known _ _ _ _ _ (four-faces asked) (start .good .0 .1 .0 .1) (start .good .1 .0 .1 .0 .1) _
+    (asked .some-above .ensures) (c .before .if1 .left))
 
 out-of-face-requires-5 : tie.Need-out-of-face-requires-5 Inv-loop μ-loop
 out-of-face-requires-5 c κs = search needs

@@ -2,7 +2,6 @@
 use mathlib.Core.Path.{ap}
 use mathlib.Core.List.{List}
 use Rattle.contact_definitions.specs.declared.b2_collision.B2clipVertex.{B2clipVertex}
-use Rattle.collision.specs.declared.clip.Clip.{Clip}
 use Rattle.algebra.proofs.Two.{one-over}
 use borrow.Author.Needs.{needs}
 use Rattle.collision.proofs.clip.one_left.Statement.{statement}

@@ -1,9 +1,10 @@
 -- 7 of either, then by the ranges, or accepted. Assumes nothing.
-use mathlib.Core.Path.{sym, _∙_, ap, ap₂}
+use mathlib.Core.Path.{refl, sym, _∙_, ap₂}
 use mathlib.Core.Bool.{_||_}
-use Rattle.contact_definitions.specs.Manifold.{manifold-accepted}
-use Rattle.contact_definitions.specs.B2CollidePolygon.{b2-collide-polygons}
-use Rattle.collision.proofs.Refused.{all-in-range, not-in-range, count-refused, count-taken, both-counted-well}
+use lib.Ieee.{binary32, add}
+use Rattle.contact_definitions.specs.Manifold.{with-count}
+use Rattle.contact_definitions.specs.B2CollidePolygon.{polygons-manifold, b2-collide-polygons}
+use Rattle.collision.proofs.Refused.{made-in-range, not-in-range, count-refused, count-taken, both-counted-well}
 use borrow.Author.Needs.{needs}
 use Rattle.outline_contacts.proofs.b2_collide_polygon.b2_collide_polygons.Statement.{statement}
 use Rattle.outline_contacts.proofs.b2_collide_polygon.b2_collide_polygons.Tie as tie
@@ -51,11 +52,13 @@ returns-2 c =
     let shapes = placed .before in
     let right = shapes .before in
     let counts = right .before in
+    let args = counts .before .before .args in
     count-taken _ _ _ _ (sym (ap₂ _||_ (counts .before .miscounted .ensures) (counts .miscounted2 .ensures))
     ∙ right .if1 .left)
-    (c .accepted .ensures ∙ ap manifold-accepted (made .polygons-manifold .ensures)
-    ∙ all-in-range _ _ _ _ _ _ _ (shapes .polygons-in-range .ensures) (placed .placements-in-range .ensures)
-    (both .if2 .taken))
+    (made-in-range _ _ _ _ _ _ _ (shapes .polygons-in-range .ensures) (placed .placements-in-range .ensures) _
+    (polygons-manifold (with-count (args .m) 0) (add binary32 (args .a .«m_radius») (args .b .«m_radius»)) (args .a)
+    (args .xfa) (args .b) (args .xfb)) _ refl (both .if2 .taken) (c .accepted .ensures)
+    (made .polygons-manifold .ensures))
 
 out-of-range-requires : tie.Need-out-of-range-requires
 out-of-range-requires c κs = search needs

@@ -1,7 +1,7 @@
 -- Answered, or by the ranges. Assumes nothing.
-use mathlib.Core.Path.{_∙_}
 use Rattle.contact_definitions.specs.B2CollideEdge.{b2-collide-edge-and-circle}
 use Rattle.collision.proofs.Refused.{all-in-range, not-in-range}
+use Rattle.wall_contacts.specs.EdgeCircle.{wall-circle}
 use borrow.Author.Needs.{needs}
 use Rattle.wall_contacts.proofs.b2_collide_edge.b2_collide_edge_and_circle.Statement.{statement}
 use Rattle.wall_contacts.proofs.b2_collide_edge.b2_collide_edge_and_circle.Tie as tie
@@ -20,9 +20,10 @@ unfolding b2-collide-edge-and-circle
 returns c =
     let both = c .before in
     let placed = both .before in
-    c .wall-circle-answer .ensures
-    ∙ all-in-range _ _ _ _ _ _ _ (placed .before .edge-circle-in-range .ensures)
-    (placed .placements-in-range .ensures) (both .if1 .taken)
+    let args = placed .before .before .args in
+    all-in-range _ _ _ _ (wall-circle (args .m) (args .a) (args .xfa) (args .b) (args .xfb)) _ _
+    (placed .before .edge-circle-in-range .ensures) (placed .placements-in-range .ensures) _ (both .if1 .taken)
+    (c .wall-circle-answer .ensures)
 
 out-of-range-requires : tie.Need-out-of-range-requires
 out-of-range-requires c κs = search needs

@@ -1,11 +1,10 @@
 -- 7, then by the ranges, or accepted. Assumes nothing.
-use mathlib.Core.Path.{sym, _∙_, ap}
-use Rattle.floats.specs.declared.b2_math.B2Transform.{B2Transform}
+use mathlib.Core.Path.{refl, sym, _∙_, ap}
 use Rattle.floats.specs.Unit.{unit-scale}
-use Rattle.contact_definitions.specs.Manifold.{with-count, manifold-accepted}
-use Rattle.contact_definitions.specs.B2CollideEdge.{edge-polygon-manifold, b2-collide-edge-and-polygon}
-use Rattle.collision.proofs.Refused.{all-in-range, not-in-range, count-refused, count-taken, counted-well}
+use Rattle.contact_definitions.specs.B2CollideEdge.{b2-collide-edge-and-polygon}
+use Rattle.collision.proofs.Refused.{made-in-range, not-in-range, count-refused, count-taken, counted-well}
 use Rattle.collision.proofs.Refused.{more-than-none}
+use Rattle.wall_contacts.proofs.Manifolds.{at-placement}
 use borrow.Author.Needs.{needs}
 use Rattle.wall_contacts.proofs.b2_collide_edge.b2_collide_edge_and_polygon.Statement.{
   statement,
@@ -61,11 +60,10 @@ returns-2 c =
     let right = shapes .before in
     let given = right .before .before .before .before .before .before .args in
     count-taken _ _ _ _ (sym (right .before .miscounted .ensures) ∙ right .if1 .left)
-    (c .accepted .ensures ∙ ap manifold-accepted (made .edge-polygon-manifold .ensures
-    ∙ ap (λ (t : B2Transform). edge-polygon-manifold (with-count (given .m) 0) (given .a) t (given .b))
-    (xf .b2-mul-t-transform .ensures))
-    ∙ all-in-range _ _ _ _ _ _ _ (shapes .edge-polygon-in-range .ensures) (placed .placements-in-range .ensures)
-    (both .if2 .taken))
+    (made-in-range _ _ _ _ _ _ _ (shapes .edge-polygon-in-range .ensures) (placed .placements-in-range .ensures) _ _ _
+    refl (both .if2 .taken) (c .accepted .ensures)
+    (at-placement (given .m) (given .a) _ _ (given .b) _ (xf .b2-mul-t-transform .ensures)
+    (made .edge-polygon-manifold .ensures)))
 
 out-of-range-requires : tie.Need-out-of-range-requires
 out-of-range-requires c κs = search needs

@@ -1,12 +1,8 @@
 -- Behind the wall, or by the axis found. Assumes nothing.
-use mathlib.Core.Path.{_≡_, sym, _∙_, ap, subst}
-use lib.Ieee.{binary32, add}
+use mathlib.Core.Path.{_≡_, sym, _∙_, ap}
 use Rattle.floats.specs.B2Math.{b2-sub, b2-normalize}
 use Rattle.floats.specs.Unit.{unit-scale}
-use Rattle.contact_definitions.specs.Manifold.{with-count}
-use Rattle.contact_definitions.specs.EdgeReference.{edge-manifold-on}
-use Rattle.wall_contacts.specs.AxisParts.{place-below}
-use Rattle.wall_contacts.proofs.FacePlaces.{axis-place}
+use Rattle.wall_contacts.proofs.FacePlaces.{found-place}
 use Rattle.wall_contacts.proofs.Manifolds.{none-behind, in-front}
 use borrow.Author.Needs.{needs}
 use Rattle.wall_contacts.proofs.b2_collide_edge.edge_polygon_manifold.Statement.{statement}
@@ -56,8 +52,7 @@ edge-manifold-on-requires c κs =
     let args = start .args in (
       start .pre .0,
       start .pre .1,
-      subst (place-below (args .polygon .«m_count»)) (sym (found .0))
-          (axis-place (args .xf) (args .polygon) _ (args .edge) _ (start .pre .0)),
+      found-place (args .xf) (args .polygon) _ (args .edge) _ _ (start .pre .0) (found .0),
       found .1,
       found .2,
     )
@@ -68,12 +63,9 @@ returns-2 c =
     let front = in-front-of axis in
     let scaled = scaled-of (front .before) in
     let args = start-of scaled .args in
-    let total = add binary32 (args .polygon .«m_radius») (args .edge .«m_radius») in
     in-front (args .m) (args .edge) _ (args .xf) (args .polygon) _ (edge1-is scaled)
-    (front .before .centroid-behind .ensures) _ (front .if1 .left)
-    (c .edge-manifold-on .ensures
-    ∙ ap (λ found. edge-manifold-on found (with-count (args .m) 0) (args .edge) (scaled .scaled .result) (args .xf)
-    (args .polygon) total) (axis .edge-polygon-axis .ensures .0))
+    (front .before .centroid-behind .ensures) _ _ (front .if1 .left) (axis .edge-polygon-axis .ensures .0)
+    (c .edge-manifold-on .ensures)
 
 pub edge-polygon-manifold-spec : {M : Type 1} → statement M
 edge-polygon-manifold-spec =

@@ -2,7 +2,7 @@
 use mathlib.Core.Path.{_≡_, refl, sym, _∙_, ap}
 use mathlib.Core.Bool.{true≢false}
 use lib.Ieee.{lt}
-use Rattle.contact_definitions.specs.EdgeAxis.{right-of, placed-corner, b2-compute-edge-separation}
+use Rattle.contact_definitions.specs.EdgeAxis.{right-of, b2-compute-edge-separation}
 use Rattle.wall_contacts.proofs.RowsFilled.{row-fewer, points-fewer}
 use Rattle.wall_contacts.proofs.AxisFound.{corners-placed, normals-placed, faces-placed, axis-found, apart-found}
 use borrow.Author.Needs.{needs}

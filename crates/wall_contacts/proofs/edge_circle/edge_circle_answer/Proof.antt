@@ -1,9 +1,8 @@
 -- By the way that they touch. Assumes nothing.
-use mathlib.Core.Path.{refl, _∙_, ap}
+use mathlib.Core.Path.{refl, ap}
 use Rattle.contact_definitions.specs.Manifold.{manifold-accepted}
-use Rattle.contact_definitions.proofs.Counts.{one-point-anew}
 use Rattle.wall_contacts.specs.EdgeCircle.{touch-answer}
-use Rattle.wall_contacts.proofs.Regions.{answered}
+use Rattle.wall_contacts.proofs.Regions.{answered, end-answered, face-answered}
 use borrow.Author.Needs.{needs}
 use Rattle.wall_contacts.proofs.edge_circle.edge_circle_answer.Statement.{statement}
 use Rattle.wall_contacts.proofs.edge_circle.edge_circle_answer.Tie as tie
@@ -42,23 +41,19 @@ returns c =
     (ap manifold-accepted (c .no-points .ensures)) (wall-touch′ .ensures (args′ .m) (args′ .centre))
 
 returns-2 : tie.Need-returns-2
-unfolding touch-answer
 returns-2 c =
     let t′ = c .before .before .t in
     let wall-touch′ = c .before .before .before .before .wall-touch in
     let args′ = c .before .before .before .before .before .args in
-    answered (args′ .m) (args′ .edge) (args′ .centre) _ _ _ _ (t′ .given .1)
-    (ap manifold-accepted (c .circle-point .ensures ∙ one-point-anew (args′ .m) _ _ _ _ _))
+    end-answered (args′ .m) (args′ .edge) (args′ .centre) _ _ _ _ _ _ (t′ .given .1) (c .circle-point .ensures)
     (wall-touch′ .ensures (args′ .m) (args′ .centre))
 
 returns-3 : tie.Need-returns-3
-unfolding touch-answer
 returns-3 c =
     let t2′ = c .before .before .t2 in
     let wall-touch′ = c .before .before .before .before .wall-touch in
     let args′ = c .before .before .before .before .before .args in
-    answered (args′ .m) (args′ .edge) (args′ .centre) _ _ _ _ (t2′ .given .1)
-    (ap manifold-accepted (c .circle-point2 .ensures ∙ one-point-anew (args′ .m) _ _ _ _ _))
+    face-answered (args′ .m) (args′ .edge) (args′ .centre) _ _ _ _ _ (t2′ .given .1) (c .circle-point2 .ensures)
     (wall-touch′ .ensures (args′ .m) (args′ .centre))
 
 returns-4 : tie.Need-returns-4
