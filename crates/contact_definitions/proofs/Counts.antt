@@ -80,7 +80,7 @@ unfolding with-kind
 kind-on-face m kind h is-face = record { at-most-two = h .at-most-two; is-face = λ some. is-face }
 
 -- ---- a reference face
-only-fewer : (test : B2clipVertex → Bool) (ends : List B2clipVertex) → length (only test ends) ≤ length ends
+pub only-fewer : (test : B2clipVertex → Bool) (ends : List B2clipVertex) → length (only test ends) ≤ length ends
 unfolding only
 only-fewer test [] = omega arith
 only-fewer test (end ∷ ends) = by-test (test end) (only-fewer test ends)
@@ -90,7 +90,7 @@ only-fewer test (end ∷ ends) = by-test (test end) (only-fewer test ends)
     by-test true h = omega arith
     by-test false h = omega arith
 
-as-many : (made : B2manifoldPoint → B2clipVertex → B2manifoldPoint) (m : B2manifold) (i : ℕ) (ends : List B2clipVertex)
+pub as-many : (made : B2manifoldPoint → B2clipVertex → B2manifoldPoint) (m : B2manifold) (i : ℕ) (ends : List B2clipVertex)
     → length (points-from made m i ends) ≡ length ends
 unfolding points-from
 as-many made m i [] = refl

@@ -16,5 +16,6 @@ pub mod WorldPoints
 pub mod Counts
 pub mod CircleCounts
 pub mod FaceCounts
+pub mod TwoPlaces
 pub mod Theorem
 pub mod WorldRefusals

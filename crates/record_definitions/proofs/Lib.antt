@@ -11,7 +11,6 @@ pub mod Pairs
 pub mod States
 pub mod Counting
 pub mod AnswerLengths
-pub mod TwoPlaces
 pub mod MetPlaces
 pub mod Sound
 pub mod SoundKept

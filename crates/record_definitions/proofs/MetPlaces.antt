@@ -20,11 +20,11 @@ use Rattle.contact_definitions.specs.B2CollideCircle.{b2-collide-polygon-and-ci
 use Rattle.contact_definitions.specs.B2CollidePolygon.{polygons-axis, polygons-manifold, b2-collide-polygons}
 use Rattle.contact_definitions.specs.B2CollideEdge.{b2-collide-edge-and-circle, b2-collide-edge-and-polygon}
 use Rattle.contact_definitions.proofs.Counts.{Accepted, either, counted, in-range}
+use Rattle.contact_definitions.proofs.TwoPlaces.{TwoPlaces, count-written, one-written, at-outline, edge-circle-two}
+use Rattle.contact_definitions.proofs.TwoPlaces.{axis-two, edge-polygon-two}
 use Rattle.record_definitions.specs.declared.world.Body.{Body}
 use Rattle.record_definitions.specs.World.{circle-kind, outline-kind}
 use Rattle.record_definitions.specs.Touch.{meet-circle, meet-outline, meet}
-use Rattle.record_definitions.proofs.TwoPlaces.{TwoPlaces, count-written, one-written, at-outline}
-use Rattle.record_definitions.proofs.TwoPlaces.{edge-circle-two, axis-two, edge-polygon-two}
 
 default-two : TwoPlaces (with-count default-manifold 0)
 default-two = count-written default-manifold 0 (record { two = refl })

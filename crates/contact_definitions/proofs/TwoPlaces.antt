@@ -1,6 +1,6 @@
 -- Two places for points, and what the parts of each contact write to them: they stay two. Assumes nothing.
-use Prim.Native.Nat.{ℕ, suc, _≤_}
-use mathlib.Core.Path.{_≡_, refl, _∙_, ap}
+use Prim.Native.Nat.{ℕ, _≤_}
+use mathlib.Core.Path.{_≡_, _∙_}
 use mathlib.Core.Bool.{Bool, _&&_}
 use mathlib.Core.List.{List, [], _∷_}
 use native.Mathlib.Omega.{arith}
@@ -16,28 +16,28 @@ use Rattle.floats.specs.B2Math.{vec2, b2-add, b2-sub, b2-neg, b2-scale, b2-dot,
 use Rattle.shape_definitions.specs.declared.b2_edge_shape.B2edgeShape.{B2edgeShape}
 use Rattle.shape_definitions.specs.declared.b2_polygon_shape.B2polygonShape.{B2polygonShape}
 use Rattle.shape_definitions.specs.Outline.{origin}
 use Rattle.contact_definitions.specs.declared.b2_collision.B2clipVertex.{B2clipVertex}
 use Rattle.contact_definitions.specs.declared.b2_collision.B2contactId.{B2contactId}
 use Rattle.contact_definitions.specs.declared.b2_collision.B2manifold.{B2manifold}
 use Rattle.contact_definitions.specs.declared.b2_collision.B2manifoldPoint.{B2manifoldPoint}
 use Rattle.contact_definitions.specs.declared.b2_collision.B2manifoldType.{B2manifoldType}
 use Rattle.contact_definitions.specs.declared.b2_collision.B2manifoldType.the-variants.{ECircles, EFaceA, EFaceB}
 use Rattle.contact_definitions.specs.declared.axis.Axis.{Axis}
 use Rattle.contact_definitions.specs.declared.axis.Axis.the-variants.{Apart, FaceA, FaceB}
 use Rattle.contact_definitions.specs.Manifold.{with-count, with-kind, with-one-point, default-id, swapped-id}
 use Rattle.contact_definitions.specs.Manifold.{with-local-point, manifold-point}
 use Rattle.contact_definitions.specs.ReferenceFace.{only, points-from, with-points, manifold-of-ends}
 use Rattle.contact_definitions.specs.Searches.{some-below}
-use Rattle.contact_definitions.specs.B2CollideCircle.{farther, circle-separation, circle-at-corner, circle-at-face}
-use Rattle.contact_definitions.specs.B2CollideCircle.{circle-at-best, polygon-circle-manifold}
+use Rattle.contact_definitions.specs.B2CollideCircle.{farther, circle-separation, circle-at-corner}
+use Rattle.contact_definitions.specs.B2CollideCircle.{circle-at-face, circle-at-best, polygon-circle-manifold}
 use Rattle.contact_definitions.specs.B2CollidePolygon.{outline-face, b2-find-incident-edge, outline-manifold}
 use Rattle.contact_definitions.specs.B2CollidePolygon.{manifold-on}
 use Rattle.contact_definitions.specs.EdgeAxis.{right-of, edge-polygon-axis}
-use Rattle.contact_definitions.specs.EdgeReference.{face-between, most-against, outline-edge, wall-manifold, wall-edge}
-use Rattle.contact_definitions.specs.EdgeReference.{placed-face, face-manifold, edge-manifold-on}
+use Rattle.contact_definitions.specs.EdgeReference.{face-between, most-against, outline-edge, wall-manifold}
+use Rattle.contact_definitions.specs.EdgeReference.{wall-edge, placed-face, face-manifold, edge-manifold-on}
 use Rattle.contact_definitions.specs.B2CollideEdge.{circle-at-end, circle-at-wall, over-before, over-after}
 use Rattle.contact_definitions.specs.B2CollideEdge.{edge-circle-answer, edge-polygon-manifold}
-use Rattle.contact_definitions.proofs.Counts.{Accepted, either, refused, sides-few}
+use Rattle.contact_definitions.proofs.Counts.{Accepted, either, refused, only-fewer, as-many, sides-few}
 
 pub record TwoPlaces (m : B2manifold) : Type 0 where
   pub two : length (m .points) ≡ 2
@@ -61,20 +61,6 @@ one-written m kind normal point centre id h =
         → length (over (p ∷ []) points) ≡ 2
     first-written points p size = length-over (p ∷ []) points (omega arith) ∙ size
 
--- no more points than ends
-points-few : (made : B2manifoldPoint → B2clipVertex → B2manifoldPoint) (m : B2manifold) (i : ℕ)
-    (ends : List B2clipVertex) → length (points-from made m i ends) ≡ length ends
-unfolding points-from
-points-few made m i [] = refl
-points-few made m i (end ∷ ends) = ap suc (points-few made m (suc i) ends)
-
-only-few : (near : B2clipVertex → Bool) (ends : List B2clipVertex) → length (only near ends) ≤ length ends
-unfolding only
-only-few near [] = omega arith
-only-few near (end ∷ ends) =
-    either (λ (l : List B2clipVertex). length l ≤ suc (length ends)) (near end) (end ∷ only near ends) (only near ends)
-    (omega (arith, only-few near ends)) (omega (arith, only-few near ends))
-
 pub ends-written : (m : B2manifold) (normal point : B2vec2) (near : B2clipVertex → Bool)
     (made : B2manifoldPoint → B2clipVertex → B2manifoldPoint) (ends : List B2clipVertex) → TwoPlaces m
     → length ends ≤ 2 → TwoPlaces (manifold-of-ends m normal point near made ends)
@@ -85,7 +71,7 @@ ends-written m normal point near made (end0 ∷ end1 ∷ ends) h few =
     let kept = only near (end0 ∷ end1 ∷ ends) in
     let new = points-from made m 0 kept in
     let fits : length new ≤ length (m .points) =
-    omega (arith, h .two, points-few made m 0 kept, only-few near (end0 ∷ end1 ∷ ends)) in
+    omega (arith, h .two, as-many made m 0 kept, only-fewer near (end0 ∷ end1 ∷ ends)) in
     record { two = length-over new (m .points) fits ∙ h .two }
 
 -- ---- a circle against an outline, and against a wall
