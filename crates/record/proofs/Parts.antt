@@ -25,7 +25,7 @@ module _ (t : Touch) where
   abbrev pub with-first : List ℕ
   with-first = head-bytes t ++ vector-bytes (t .normal) ++ point-bytes (t .first)
 
-  abbrev pub with-second : List ℕ
+  abbrev with-second : List ℕ
   with-second = head-bytes t ++ vector-bytes (t .normal) ++ point-bytes (t .first) ++ point-bytes (t .second)
 
   pub head-length : length (head-bytes t) ≡ 13

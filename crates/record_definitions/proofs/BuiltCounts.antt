@@ -46,7 +46,7 @@ module _ {A : Type 0} (same : A → A → Bool) (turn : A → A) (first : A) whe
       stopped (same (turn p) first) fuel p (walk same turn first fuel (turn p)) (walk-short fuel (turn p))
 
   -- the walk's own list
-  pub at-most-fuel : (fuel : ℕ) (p : A) (l : List A) → walk same turn first fuel p ≡ some l → length l ≤ fuel
+  at-most-fuel : (fuel : ℕ) (p : A) (l : List A) → walk same turn first fuel p ≡ some l → length l ≤ fuel
   unfolding Short
   at-most-fuel fuel p l is = subst (Short fuel) is (walk-short fuel p)
 

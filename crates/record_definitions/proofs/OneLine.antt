@@ -28,7 +28,7 @@ module _ (w : World) (line frame : List ℕ) (frame-is : frame ≡ frame-of line
     (past-a past-b : Body) (past-pair : Pair) (c : Change)
     (c-is : c ≡ change (getD (w .bodies) a past-a) (getD (w .bodies) b past-b) (getD (w .pairs) (8 * a + b) past-pair)
     frame) where
-  pub change-is : c ≡ change-in w (frame-of line)
+  change-is : c ≡ change-in w (frame-of line)
   unfolding change-in
   change-is =
       c-is

@@ -128,7 +128,7 @@ module _ (w : World) (bytes : List ℕ) where
     abbrev idb : ℕ
     idb = byte-at bytes 2
 
-    pub first-tested : id ≤ largest-id
+    first-tested : id ≤ largest-id
     unfolding said-of-frame change-in
     first-tested = first-id (body-at w (first-place bytes)) _ _ bytes (ap answer-refusal is)
 
@@ -139,7 +139,7 @@ module _ (w : World) (bytes : List ℕ) where
         was-tested (body-at w (first-place bytes)) (body-at w (second-place bytes))
         (pair-at w (first-place bytes) (second-place bytes)) bytes t is
 
-    pub second-tested : idb ≤ largest-id
+    second-tested : idb ≤ largest-id
     second-tested = at-places .second-id
 
     pub test-seen : WasTested id idb (body-at w id) (body-at w idb) (pair-at w id idb) t (change-in w bytes)

@@ -33,7 +33,7 @@ kept-step k line x =
     rw (le-ltb (length (take k line)) k (omega arith)) (sym (take-append-le k line (x ∷ []) long)))
     (less-or-not (length line) k)
 
-pub frame-kept : (line : List ℕ) → frame-of (take kept-length line) ≡ frame-of line
+frame-kept : (line : List ℕ) → frame-of (take kept-length line) ≡ frame-of line
 unfolding frame-of
 frame-kept line =
     ⊎-elim
@@ -137,7 +137,7 @@ module _ (print : Said → List ℕ) where
       (by-characters w (line ++ (x ∷ [])) input)
 
   -- a program that keeps so many characters of a line prints what the lines print
-  pub whole : (input : List ℕ)
+  whole : (input : List ℕ)
       → printed print begin input ++ last-line print (after begin input)
       ≡ printed-lines print fresh-world (lines-from [] input)
   unfolding of-lines to-print as-reading

@@ -95,7 +95,7 @@ module _ (a : Body) (pair : Pair) where
         (either (Keeps a pair) (eqb kind 3) _ _ wall-keeps
         (either (Keeps a pair) (eqb kind 4) _ _ place-keeps (test-keeps (byte-at bytes 1) (byte-at bytes 2) b))))
 
-    pub change-refused : (b : Body) (n : ℕ) → change a b pair bytes .said .answer ≡ Refused n
+    change-refused : (b : Body) (n : ℕ) → change a b pair bytes .said .answer ≡ Refused n
         → change a b pair bytes ≡ refused n a pair
     unfolding change Keeps
     change-refused b =

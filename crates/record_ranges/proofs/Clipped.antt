@@ -126,7 +126,7 @@ module _ (normal : B2vec2) (offset : Float) (index k : ℕ) (side : Side normal 
       (cap-widen 33 40 tt (cap-dot normal (end .v) 5 27 tt tt (side .normal-caps) (caps-widen k 27 within h)))
       (side .offset-cap)
 
-  pub clipped-caps : (ends : List B2clipVertex) → EndsCap ends k
+  clipped-caps : (ends : List B2clipVertex) → EndsCap ends k
       → EndsCap (clipped ends normal offset index) (suc (suc k))
   unfolding EndsCap clipped clipped-by
   clipped-caps [] h = tt
