@@ -1,12 +1,12 @@
 -- Bodies as frames make them have shapes and placements of at most 2^20 m, and skins within the range. Assumes nothing.
 use Prim.Native.Nat.{ℕ, zero, suc, _+_, _*_, _^_, _≤_}
 use mathlib.Core.Path.{_≡_, refl, sym, subst}
-use mathlib.Core.Bool.{Bool, true, false, _&&_}
+use mathlib.Core.Bool.{true, _&&_}
 use native.Mathlib.Nat.{le-trans, le-of-eq}
 use mathlib.Core.List.{List}
 use lib.Dec.{T, eqb}
 use lib.Ieee.{Float, binary32}
-use lib.Ieee.Bits.{ofBits-fits}
+use lib.Ieee.Bits.{is-true, ofBits-fits}
 use native.Mathlib.Omega.{arith}
 use Rattle.rounding.specs.Literals.{one32}
 use Rattle.rounding.specs.Value.{metre}
@@ -91,12 +91,8 @@ at-origin-caps =
 blank-wall-caps : WallCaps blank-wall
 blank-wall-caps = record { from = origin-caps 20; to = origin-caps 20 }
 
-holds : (t : Bool) → T t → t ≡ true
-holds true h = refl
-holds false h = absurd h
-
 skin-is-taken : radius-in-range b2-polygon-radius ≡ true
-skin-is-taken = holds (radius-in-range b2-polygon-radius) skin-taken
+skin-is-taken = is-true (radius-in-range b2-polygon-radius) skin-taken
 
 pub blank-capped : CappedBody blank-body
 unfolding blank-body skin

@@ -7,6 +7,7 @@ use mathlib.Core.List.{List, [], _∷_, _++_}
 use native.Mathlib.Nat.{le-trans, le-of-eq}
 use lib.Dec.{T}
 use lib.Ieee.{Float}
+use lib.Ieee.Bits.{is-true}
 use lib.Ieee.Fits.{and-i}
 use lib.ListN.{length, take, drop}
 use Rattle.algebra.specs.Buffer.{over}
@@ -105,10 +106,6 @@ module _ (near : B2clipVertex → Bool) (made : B2manifoldPoint → B2clipVertex
     }
 
 -- ---- so the world points take it
-holds : (t : Bool) → T t → t ≡ true
-holds true h = refl
-holds false h = absurd h
-
 within-limit : {limit : Float} (v : B2vec2) (k h : ℕ) → Limit limit h → 2 ^ k * metre ≤ h * metre → Caps v k
     → T (vec2-within limit v)
 within-limit v k h l fits caps =
@@ -133,7 +130,7 @@ unfolding manifold-in-range counted-points local-normal-in-range
 ranged-taken m h =
     let first = local-normal-in-range (m .«local_normal») && contact-point-in-range (m .«local_point») in
     let rest = points-in-range (take (m .«point_count») (m .points)) in
-    holds (first && rest) (and-i first rest
+    is-true (first && rest) (and-i first rest
     (and-i (local-normal-in-range (m .«local_normal»)) (contact-point-in-range (m .«local_point»))
     (within-limit (m .«local_normal») 3 8 local-normal-limit-is (le-of-eq refl) (h .normal))
     (point-taken (m .«local_point») (h .point)))
