@@ -17,7 +17,7 @@ use Rattle.contact_definitions.specs.Clip.{b2-clip-segment-to-line}
 use Rattle.contact_definitions.specs.Manifold.{contact-id}
 use Rattle.contact_definitions.proofs.Numbers.{+1, +10, +11, +12, +2, +3, +9, -1, -1¼, -2, -¼, -½, -¾, ¼, ½}
 use Rattle.floats.proofs.BitPatterns.{float}
-use Rattle.contact_definitions.proofs.Given.{eight-tenths, given, six-tenths}
+use Rattle.contact_definitions.proofs.Given.{eight-tenths, six-tenths}
 
 -- the output places given
 abbrev pub end-at : B2vec2 → B2contactId → B2clipVertex

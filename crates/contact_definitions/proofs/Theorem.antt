@@ -18,7 +18,7 @@ use Rattle.contact_definitions.specs.B2CollideCircle.{b2-collide-polygon
 use Rattle.contact_definitions.specs.B2CollidePolygon.{b2-collide-polygons}
 use Rattle.contact_definitions.specs.B2CollideEdge.{b2-collide-edge-and-circle}
 use Rattle.contact_definitions.specs.B2CollideEdge.{b2-collide-edge-and-polygon}
-use Rattle.contact_definitions.proofs.Counts.{Few, OnFace, Accepted, either, refused, counted}
+use Rattle.contact_definitions.proofs.Counts.{Few, OnFace, Accepted, either}
 use Rattle.contact_definitions.proofs.Clipping.{never-three}
 use native.Mathlib.Omega.{arith}
 use mathlib.Core.Bool.{not}

@@ -9,7 +9,6 @@ use Rattle.rounding.specs.Literals.{zero32, half32}
 use Rattle.floats.specs.B2Common.{b2-epsilon}
 use Rattle.floats.specs.B2Math.{b2-add, b2-sub, b2-scale, b2-dot, b2-distance-vec2-squared, b2-normalize}
 use Rattle.floats.specs.B2Math.{b2-mul-transform-by-vec2, b2-mul-t-transform-by-vec2}
-use Rattle.floats.specs.Ranges.{point-in-range, radius-in-range}
 use Rattle.shape_definitions.specs.declared.b2_circle_shape.B2circleShape.{B2circleShape}
 use Rattle.shape_definitions.specs.declared.b2_polygon_shape.B2polygonShape.{B2polygonShape}
 use Rattle.shape_definitions.specs.Outline.{origin, point-at, place-after}

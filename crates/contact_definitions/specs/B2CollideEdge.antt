@@ -1,7 +1,7 @@
 -- Wall against circle and wall against outline, b2_collide_edge_and_circle and b2_collide_edge_and_polygon. Refusals:
 -- 7 for an outline's count, 2 for a number of a shape, 6 for a placement, 8 for a circle over the middle of a wall
 -- whose squared length is not above 0. A two-sided wall's ghost points are not tested. Definitions only.
-use mathlib.Core.Bool.{Bool, not, cond, _&&_, _||_}
+use mathlib.Core.Bool.{Bool, cond, _&&_}
 use Prim.Native.Nat.{ℕ}
 use lib.Ieee.{Float, binary32, add, div, le, lt}
 use Rattle.floats.specs.declared.b2_math.B2vec2.{B2vec2}
@@ -9,7 +9,6 @@ use Rattle.floats.specs.declared.b2_math.B2Transform.{B2Transform}
 use Rattle.rounding.specs.Literals.{zero32, one32}
 use Rattle.floats.specs.B2Math.{b2-add, b2-sub, b2-neg, b2-scale, b2-dot, b2-normalize}
 use Rattle.floats.specs.B2Math.{b2-mul-transform-by-vec2, b2-mul-t-transform-by-vec2, b2-mul-t-transform}
-use Rattle.floats.specs.Ranges.{point-in-range, radius-in-range}
 use Rattle.shape_definitions.specs.declared.b2_circle_shape.B2circleShape.{B2circleShape}
 use Rattle.shape_definitions.specs.declared.b2_polygon_shape.B2polygonShape.{B2polygonShape}
 use Rattle.shape_definitions.specs.declared.b2_edge_shape.B2edgeShape.{B2edgeShape}

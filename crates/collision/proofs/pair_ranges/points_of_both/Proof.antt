@@ -1,5 +1,5 @@
 -- Four places of both at a time, or one. Assumes nothing.
-use mathlib.Core.Path.{_≡_, sym, _∙_, ap₂}
+use mathlib.Core.Path.{sym, _∙_, ap₂}
 use mathlib.Core.Bool.{_&&_, and-eq-true-iff}
 use native.Mathlib.Omega.{arith}
 use Rattle.floats.specs.Ranges.{point-in-range, normal-in-range}

@@ -90,13 +90,10 @@ reference-manifold-requires c κs = search needs
 
 returns-2 : tie.Need-returns-2
 returns-2 c =
-    let match′ = c .before .match in
-    let args′ = c .before .before .before .before .args in
-    let pre′ = c .before .before .before .before .pre in
-    let start′ = c .before .before .before .before in
-    let args = args′ in
-    let pre = pre′ in
-    let two = eight-places start′ in
+    let start = c .before .before .before .before in
+    let args = start .args in
+    let pre = start .pre in
+    let two = eight-places start in
     let made : Reference → B2manifold = λ f. reference-manifold f (args .m) (args .xf) (args .radius) in
     let on : Axis → B2manifold = λ axis. edge-manifold-on axis (with-count (args .m) 0) (args .edge) (args .edge1)
     (args .xf) (args .polygon) (args .radius) in
@@ -113,7 +110,7 @@ returns-2 c =
     ∙ on-face-read (args .m) (args .edge) (args .xf) (args .polygon) (args .radius) _ _ _ (omega arith) (two .1)
     (two .0)
     ∙ ap on (sym (w .1 .given .1)))
-    (match′ .came)
+    (c .before .match .came)
 
 pub edge-manifold-on-spec : {M : Type 1} → statement M
 edge-manifold-on-spec =
