@@ -41,8 +41,8 @@ start e js = scan starts-before e js
 abbrev pub wrap : ℕ → Point → List Point → Option (List Point)
 wrap fuel e js = walk same-point (next-corner e js) (start e js) fuel (start e js)
 
--- ---- the answer why a list is turned down: fewer than three points after welding; the walk not back, or back with
--- fewer than three corners
+-- ---- why a list is turned down: fewer than three points after welding; the walk not back, or back with fewer than
+-- three corners
 pub data Reason : Type 0 where
   too-few : Reason
   not-closed : Reason

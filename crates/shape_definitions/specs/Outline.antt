@@ -88,8 +88,9 @@ long-enough (e ∷ es) = lt epsilon-squared (b2-length-squared e) && long-enough
 abbrev pub normal-of-edge : B2vec2 → B2vec2
 normal-of-edge e = b2-normalize (b2-cross-vec-by-scalar e one32) .v
 
--- ---- area and centroid: triangles from the first corner, summed in corner order; a sum has the area and the moment so
--- far 1/3, rounded: 11184811/2^25
+-- ---- area and centroid: triangles from the first corner, summed in corner order; a sum has the area and the moment
+
+-- 1/3, rounded: 11184811/2^25
 abbrev pub third : Float
 third = ofBits binary32 0x3eaa_aaab
 
