@@ -3,8 +3,7 @@ ghost use mathlib.Core.Path.{_≡_};
 ghost use Rattle.contact_definitions.specs.Manifold as manifolds;
 ghost use Rattle.record_definitions.specs.Touch as results;
 ghost use Rattle.record_definitions.specs.Frame as definitions;
-use contact_definitions::b2_collision::B2contactFeature;
-use contact_definitions::b2_collision::B2contactId;
+use crate::world;
 use contact_definitions::b2_collision::B2manifold;
 use contact_definitions::b2_collision::B2manifoldPoint;
 use contact_definitions::b2_collision::B2manifoldType;
@@ -39,14 +38,7 @@ fn default_manifold() -> B2manifold
         local_point: origin,
         normal_impulse: 0.0,
         tangent_impulse: 0.0,
-        id: B2contactId {
-            cf: B2contactFeature {
-                index_a: 0,
-                index_b: 0,
-                type_a: 0,
-                type_b: 0,
-            },
-        },
+        id: world::default_id(),
     };
     let points = [point; 2];
     B2manifold {

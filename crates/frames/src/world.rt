@@ -2,6 +2,7 @@
 // changes, by how it is answered.
 ghost use mathlib.Core.Path.{_≡_};
 ghost use Prim.Native.Nat.{_<_};
+ghost use Rattle.contact_definitions.specs.Manifold.{default-id};
 ghost use Rattle.record_definitions.specs.World as worlds;
 ghost use Rattle.record_definitions.specs.Frame as definitions;
 use contact_definitions::b2_collision::B2contactFeature;
@@ -130,18 +131,25 @@ pub fn placed(body: Body, xf: B2Transform) -> Body
     moved
 }
 
-// No test yet.
-pub fn fresh_pair() -> Pair
-    ensures { λ r. ⌜ r ≡ worlds.fresh-pair ⌝ }
+// The id of a point that is none.
+pub fn default_id() -> B2contactId
+    ensures { λ r. ⌜ r ≡ default-id ⌝ }
 {
-    let none = B2contactId {
+    B2contactId {
         cf: B2contactFeature {
             index_a: 0,
             index_b: 0,
             type_a: 0,
             type_b: 0,
         },
-    };
+    }
+}
+
+// No test yet.
+pub fn fresh_pair() -> Pair
+    ensures { λ r. ⌜ r ≡ worlds.fresh-pair ⌝ }
+{
+    let none = default_id();
     Pair {
         ids: CountedIds {
             count: 0,
