@@ -10,11 +10,11 @@ use Rattle.touches.proofs.all.Statement.{statement}
 use Rattle.touches.proofs.all.Tie as tie
 
 abbrev Inv-loop : tie.InvT-loop
-Inv-loop chunk₀ out₀ turns₀ reader₀ chunk out turns reader =
+Inv-loop chunk₀ out₀ turns₀ reader₀ answers₀ chunk out turns reader answers =
     (length chunk ≡ length chunk₀) × (length out ≡ length out₀) × (0 < length chunk₀) × (longest-line ≤ length out₀)
 
 abbrev μ-loop : tie.MeasureT-loop
-μ-loop chunk₀ out₀ turns₀ reader₀ chunk out turns reader = turns
+μ-loop chunk₀ out₀ turns₀ reader₀ answers₀ chunk out turns reader answers = turns
 
 start-requires : tie.Need-start-requires Inv-loop μ-loop
 start-requires c κs = search needs

@@ -32,11 +32,26 @@ same-length-3 c = search needs
 returns-3 : tie.Need-returns-3
 returns-3 c = search needs
 
+later-requires : tie.Need-later-requires
+later-requires c κs = search needs
+
+slice-aggregate-failed : tie.Need-slice-aggregate-failed
+slice-aggregate-failed c = search needs
+
+failed-requires : tie.Need-failed-requires
+failed-requires c κs = search needs
+
 same-length-4 : tie.Need-same-length-4
 same-length-4 c = search needs
 
 returns-4 : tie.Need-returns-4
 returns-4 c = search needs
+
+same-length-5 : tie.Need-same-length-5
+same-length-5 c = search needs
+
+returns-5 : tie.Need-returns-5
+returns-5 c = search needs
 
 pub input-spec : {M : Type 1} → statement M
 input-spec =
@@ -51,5 +66,10 @@ input-spec =
     returns-2
     same-length-3
     returns-3
+    later-requires
+    slice-aggregate-failed
+    failed-requires
     same-length-4
-    returns-4)
+    returns-4
+    same-length-5
+    returns-5)

@@ -13,10 +13,11 @@ use Rattle.touches.proofs.piece.Statement.{statement}
 use Rattle.touches.proofs.piece.Tie as tie
 
 abbrev Inv-loop : tie.InvT-loop
-Inv-loop s₀ chunk out₀ from₀ s out from = PieceSoFar said-line longest-line s₀ chunk out₀ out s from
+Inv-loop s₀ chunk out₀ before answers₀ from₀ s out answers from =
+    PieceSoFar said-line longest-line s₀ chunk out₀ out s from
 
 abbrev μ-loop : tie.MeasureT-loop
-μ-loop s₀ chunk out₀ from₀ s out from = length chunk - from
+μ-loop s₀ chunk out₀ before answers₀ from₀ s out answers from = length chunk - from
 
 loop-holds : tie.Need-loop-holds Inv-loop μ-loop
 loop-holds c =
@@ -99,7 +100,7 @@ returns c = λ more. absurd (false≢true more)
 
 loop-less : tie.Need-loop-less Inv-loop μ-loop
 loop-less c =
-    let at-feed = c .before .before .before .before .before .before .before in
+    let at-feed = c .before .before .before .before .before .before .before .before in
     let feed′ = at-feed .feed in
     let loop-test′ = at-feed .before .before .before .loop-test in
     let loop′ = at-feed .before .before .before .before .loop in
@@ -114,7 +115,7 @@ loop-less c =
 
 loop-again : tie.Need-loop-again Inv-loop μ-loop
 loop-again c =
-    let at-feed = c .before .before .before .before .before .before .before in
+    let at-feed = c .before .before .before .before .before .before .before .before in
     let feed′ = at-feed .feed in
     let loop′ = at-feed .before .before .before .before .loop in
     let at-args = at-feed .before .before .before .before .before .before .before in
