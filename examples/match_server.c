@@ -1,13 +1,15 @@
 /* A match server's side of the contact engine: sends two robots as frames, asks for their touch, prints it with its
    numbers decoded.
-       rt staticlib record
-       cc examples/match_server.c $(PKG_CONFIG_PATH=include pkg-config --cflags --libs netxurbil) -o match_server */
+       ./install
+       export PKG_CONFIG_PATH=$PWD/target/netxurbil/lib/pkgconfig
+       flags="$(pkg-config --cflags --libs netxurbil) -Wl,-rpath,$PWD/target/netxurbil/lib"
+       cc examples/match_server.c $flags -o target/match_server */
 #include "netxurbil.h"
 #include <inttypes.h>
 #include <stdio.h>
 #include <string.h>
 
-enum { MOST_POINTS = 8, FRAMES = 2 * (3 + 8 * MOST_POINTS) + 2 * 18 };
+enum { MOST_POINTS = 8 };
 
 /* A robot as its team drew it, and where it is. */
 struct robot {
@@ -29,7 +31,7 @@ static float number(const uint8_t *at) {
     return x;
 }
 
-/* Frames 02 and 04 of a robot; where they end. */
+/* Frames 02 and 04 of a robot of at most eight points; where they end. */
 static uint8_t *frames_of(uint8_t *at, uint8_t id, const struct robot *robot) {
     *at++ = 2, *at++ = id, *at++ = (uint8_t)robot->count;
     for (int i = 0; i < robot->count; i++) at = put(put(at, robot->points[i][0]), robot->points[i][1]);
@@ -37,12 +39,18 @@ static uint8_t *frames_of(uint8_t *at, uint8_t id, const struct robot *robot) {
     return put(put(put(put(at, robot->x), robot->y), robot->sine), robot->cosine);
 }
 
+static int can_be_sent(const struct robot *robot) { return robot->count >= 0 && robot->count <= MOST_POINTS; }
+
 static void show(const char *what, const struct robot *a, const struct robot *b, size_t room) {
     static const char *const kinds[] = {"no face", "a face of robot 0", "a face of robot 1"};
-    uint8_t frames[FRAMES], out[64];
-    size_t length = (size_t)(frames_of(frames_of(frames, 0, a), 1, b) - frames);
-    uint32_t said = netxurbil_test(frames, length, out, room);
+    uint8_t frames[NETXURBIL_INPUT], out[64];
     printf("%s: ", what);
+    if (!can_be_sent(a) || !can_be_sent(b)) {
+        printf("not sent\n");
+        return;
+    }
+    size_t length = (size_t)(frames_of(frames_of(frames, 0, a), 1, b) - frames);
+    uint32_t said = netxurbil_test(frames, length, out, room < sizeof out ? room : sizeof out);
     if (said >= NETXURBIL_REFUSED) {
         printf("refused, number %" PRIu32 "\n", said - NETXURBIL_REFUSED);
         return;
@@ -75,5 +83,7 @@ int main(void) {
     show("a cosine above 1", &pusher, &other, 45);
     wedge.count = 2;
     show("a drawing of two points", &pusher, &wedge, 45);
+    wedge.count = 9;
+    show("a drawing of nine points", &pusher, &wedge, 45);
     return 0;
 }

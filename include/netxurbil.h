@@ -1,4 +1,5 @@
-/* The contact engine for a C match server: one call that tests two robots (crate record; rt staticlib record). */
+/* The contact engine for a C or C++ match server: one call that tests two robots. ./install makes the library, for
+   Linux on x86-64; it needs nothing but the C library. */
 #ifndef NETXURBIL_H
 #define NETXURBIL_H
 #include <stddef.h>
@@ -26,10 +27,29 @@ enum netxurbil_refusal {
     NETXURBIL_PAIR_NOT_LISTED = 13        /* a pair of shapes that is not tested */
 };
 
+#define NETXURBIL_VERSION "1.0"
+
+/* The longest input: two outlines of eight points, and two placements. */
+#define NETXURBIL_INPUT 170
 /* The room that an output needs: the longest answer, a test with two points. */
 #define NETXURBIL_OUTPUT 45
 /* What is added to a refusal's number when netxurbil_test returns it. */
 #define NETXURBIL_REFUSED 256
+
+/* An answer's fifth byte: whose face the points are on. */
+enum netxurbil_kind {
+    NETXURBIL_NO_FACE = 0, /* no point; or, in lines of the touch record, circles */
+    NETXURBIL_FACE_OF_FIRST = 1,
+    NETXURBIL_FACE_OF_SECOND = 2
+};
+
+/* An answer's sixth to ninth byte: what became of two old points, and what two new ones are. */
+enum netxurbil_state {
+    NETXURBIL_NULL_STATE = 0,    /* no point */
+    NETXURBIL_ADD_STATE = 1,     /* a new point, which the last test had not */
+    NETXURBIL_PERSIST_STATE = 2, /* a point of both tests */
+    NETXURBIL_REMOVE_STATE = 3   /* an old point, which this test has not */
+};
 
 /* Tests two outlines. `frames` holds four frames of the touch record, joined, as bytes (not as hexadecimal text):
 
@@ -52,8 +72,9 @@ enum netxurbil_refusal {
    four frames and 050001, each as a line of hexadecimal; a refusal from 1 to 6 is the first `ff` line that it prints
    (both are proved: docs/CLAIMS.md, R4n and R4p).
 
-   The caller owes two slices, of n and of m bytes, that may be read and written and do not overlap. Nothing outside
-   them is read or written, whatever bytes they hold; nothing is kept between calls, so threads may call at once. */
+   The caller owes two slices, of n and of m bytes, that may be read and written and do not overlap; one of length 0 may
+   be NULL. Nothing outside them is read or written, whatever bytes they hold; nothing is kept between calls, so threads
+   may call at once. */
 uint32_t netxurbil_test(const uint8_t *frames, size_t n, uint8_t *out, size_t m);
 
 #ifdef __cplusplus

@@ -4,6 +4,10 @@
 #define NETXURBIL_TEST_CALLS_H
 #include "netxurbil.h"
 
+#ifdef __cplusplus
+extern "C" {
+#endif
+
 /* Runs the entry that the request's first word names. All words are four bytes, highest first; a float is its bits.
    Returns the number of words written to the front of out: the refusal (0 for accepted), then the complete record
    after the call. Returns 0 and writes nothing where the request is malformed or out is too short. Never reads or
@@ -60,4 +64,7 @@ struct netxurbil_polygon_answer {
 struct netxurbil_polygon_answer b2_polygon_shape_set(struct netxurbil_polygon old,
                                                      const struct netxurbil_vec2 *vertices, size_t vertices_length);
 
+#ifdef __cplusplus
+}
+#endif
 #endif

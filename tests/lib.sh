@@ -1,11 +1,11 @@
-# What the suites share, and the commands beside them. suites/ has the four suites that the test command runs; checks/
+# What the suites share, and the commands beside them. suites/ has the five suites that the test command runs; checks/
 # is what the first of them asks of the pages and the crates, programs/ the second's programs, differential/ the third's
-# entries and comparison, record/ the fourth's heats and second programs, shared/ what both of these use. oracle/ builds
-# the two references; stored/ has answers on which they agree.
+# entries and comparison, record/ the fourth's heats and second programs, shared/ what both of these use, commands/ the
+# fifth's hosts, pipes and scratch clone. oracle/ builds the two references; stored/ has answers on which they agree.
 # Sourced; the working folder becomes the repository's root. A check prints `ok: NAME` or `FAILED: NAME: why`. Status 3
 # of a command is "not at hand", used only where the papers' folder is absent or the package registry cannot be reached;
 # every other status but 0 is a failure.
-cd "$(dirname "${BASH_SOURCE[0]}")/.." || exit 1
+. "$(dirname "${BASH_SOURCE[0]}")/prove.sh"
 
 # The crates with C exports and their header: a new name is written here, and in examples/host.c, which includes it.
 calls_crate=test_calls
@@ -137,16 +137,7 @@ tool() {
 
 # library CRATE: a check that the crate is proved and built for C, in target/staticlib. Not built again from the same
 # files.
-library() {
-    local file=target/staticlib/lib$1.a key
-    key=$({ rt version; find crates crates.txt -type f -exec sha256sum {} + | sort; } | sha256sum)
-    if [ -s "$file" ] && [ "$(cat "$file.key" 2> /dev/null)" = "$key$(sha256sum < "$file")" ]; then
-        ok "static library $1, built before from these files"
-    else
-        rm -f "$file.key"
-        check "static library $1" quiet rt staticlib "$1" && echo "$key$(sha256sum < "$file")" > "$file.key"
-    fi
-}
+library() { check "static library $1" quiet made "target/staticlib/lib$1.a" "$1" rt staticlib "$1"; }
 
 # quiet COMMAND..: its output only where it fails
 quiet() {
