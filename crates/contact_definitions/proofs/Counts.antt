@@ -90,7 +90,8 @@ only-fewer test (end ∷ ends) = by-test (test end) (only-fewer test ends)
     by-test true h = omega arith
     by-test false h = omega arith
 
-pub as-many : (made : B2manifoldPoint → B2clipVertex → B2manifoldPoint) (m : B2manifold) (i : ℕ) (ends : List B2clipVertex)
+pub as-many : (made : B2manifoldPoint → B2clipVertex → B2manifoldPoint) (m : B2manifold) (i : ℕ)
+    (ends : List B2clipVertex)
     → length (points-from made m i ends) ≡ length ends
 unfolding points-from
 as-many made m i [] = refl

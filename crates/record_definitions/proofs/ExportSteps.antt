@@ -157,7 +157,8 @@ module _ (w : World) (sound : Sound w) (id : ℕ) (known : id ≤ largest-id) (f
   pub outline-step : ExportFrame 2 id frame → InWorld (λ (n : ℕ). n ≤ 5)
   unfolding change-of-kind
   outline-step given =
-      rw (said-there 2 given (λ e. omega arith), body-there 2 given (λ e. omega arith)) (outline-made (body-at w id) (other 2 given) (pair 2 given) frame)
+      rw (said-there 2 given (λ e. omega arith), body-there 2 given (λ e. omega arith))
+      (outline-made (body-at w id) (other 2 given) (pair 2 given) frame)
 
   pub place-step : body-at w id .kind ≡ outline-kind → ExportFrame 4 id frame
       → InWorld (λ (n : ℕ). n ≡ placement-out-of-range)

@@ -24,7 +24,11 @@ returns-2 c =
     let byte2 = c .before .before .byte2 in
     let if1 = c .before .before .before .if1 in
     let byte = c .before .before .before .before .byte in
-    simp (le-ltb _ _ (rw (byte .ensures) at (if1 .left)), eq-eqb _ _ (rw (byte2 .ensures) at (if2 .taken)), c .byte3 .ensures)
+    simp (
+      le-ltb _ _ (rw (byte .ensures) at (if1 .left)),
+      eq-eqb _ _ (rw (byte2 .ensures) at (if2 .taken)),
+      c .byte3 .ensures,
+    )
 
 returns-3 : tie.Need-returns-3
 returns-3 c =
