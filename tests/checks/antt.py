@@ -1,9 +1,9 @@
 """Reads the declarations of an .antt file: signatures, records with their fields, data types with their
-constructors, also inside `module _ (..) where` and broken over several lines. Equations, `use`, `infixl` and
-`unfolding` are none."""
+constructors, also inside `module _ (..) where` and broken over several lines, each with its text as one line.
+Equations, `use`, `infixl` and `unfolding` are none."""
 import collections
 
-Declaration = collections.namedtuple("Declaration", "line marks kind name owner")
+Declaration = collections.namedtuple("Declaration", "line marks kind name owner text")
 MARKS = ("pub", "abbrev", "unfoldable", "axiom")
 SILENT = ("use", "infix", "infixl", "infixr", "unfolding")
 
@@ -65,8 +65,8 @@ def of_block(lines, owner=None, kind="signature"):
         if head[:1] == ["module"]:
             yield from of_block(body(chunk))
         elif head and head[0] in ("record", "data"):
-            yield Declaration(number, marks, head[0], head[1], None)
+            yield Declaration(number, marks, head[0], head[1], None, text)
             yield from of_block(body(chunk), head[1], "field" if head[0] == "record" else "constructor")
         elif head and head[0] not in SILENT:
             for name in names_of_signature(text):
-                yield Declaration(number, marks, kind, name, owner)
+                yield Declaration(number, marks, kind, name, owner, text)
