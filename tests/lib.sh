@@ -19,6 +19,10 @@ header=netxurbil_test_calls.h
 in_memory() { awk '$2 == "/dev/shm" { how = $4 } END { exit how !~ /^rw/ || how ~ /noexec/ }' /proc/mounts; }
 if [ -z "$TMPDIR" ] && in_memory; then export TMPDIR=/dev/shm; fi
 
+# What the two references are made of.
+papers=${PAPERS:-$PWD/../shared/docs/src}
+box2d=/usr/include/box2d/box2d.h
+
 build=target/tests
 oracle=$PWD/target/oracle
 warnings="-Wall -Wextra -Werror -O2"
@@ -36,13 +40,15 @@ check() {
     return $status
 }
 
-# reference NAME COMMAND..: the same, but status 3 is no failure: what the command needs is not at hand
+# reference NAME PLACE COMMAND..: the same, but status 3 is no failure where PLACE is not there: what the command needs
+# is not at hand
 reference() {
-    local name=$1; shift
+    local name=$1 place=$2; shift 2
     attempt "$@"
     case $status in
         0) ok "$name" ;;
-        3) echo "not at hand: $name: $why" ;;
+        3) if [ -e "$place" ]; then fail "$name" "not at hand, though $place is there: $why"
+           else echo "not at hand: $name: $why"; fi ;;
         *) fail "$name" "$why" ;;
     esac
     return $status
@@ -103,6 +109,15 @@ add_up() {
     elif [ "$bad" -eq 0 ] && grep -q '^FAILED: ' "$2"; then
         fail "$1" "a line says FAILED, though it counts no failure"
     fi
+}
+
+# pinned NAME: a file or folder of tests/stored has the content that its COUNTS names by a digest: of the file; of a
+# folder, of the digests and names of its files
+pinned() {
+    local wanted here
+    wanted=$(awk -v name="$1" '$1 == name { print $3 }' tests/stored/COUNTS)
+    here=$(cd tests/stored && if [ -d "$1" ]; then sha256sum "$1"/* | sha256sum; else sha256sum < "$1"; fi)
+    [ -n "$wanted" ] && [ "${here%% *}" = "$wanted" ] || { echo "$1: ${here%% *}, not ${wanted:-pinned}"; return 1; }
 }
 
 # summary: the last two lines of a suite, its seconds and its count, and its status

@@ -29,38 +29,74 @@ pub fn difference(input: &[u8], wanted: &[u8], got: &[u8]) -> String {
     }
 }
 
-#[derive(Default)]
-pub struct Census;
+/// What stands under an id: the shape's name, and how it is turned.
+#[derive(Clone, Copy, Default)]
+struct Stands {
+    name: &'static str,
+    turn: &'static str,
+}
 
-impl Census {
-    pub fn add(&mut self, input: &[u8], output: &[u8], tally: &mut Tally) {
-        let mut shapes = [""; 8];
-        for (line, answer) in lines(input).iter().zip(lines(output)) {
-            damage(line, tally);
-            match (byte(answer, 0), kind(byte(line, 0))) {
-                (0xff, Some(row)) if byte(answer, 1) != 10 => {
-                    tally.met(&format!("{} refusal {}", row.name, byte(answer, 1)));
-                }
-                (0xff, _) => tally.met(&format!("refusal {}", byte(answer, 1))),
-                (0, Some(row)) => {
-                    tally.met(&format!("{} accepted", row.name));
-                    if row.makes_shape {
-                        shapes[byte(line, 1)] = row.name;
-                    }
-                }
-                _ => tested(line, answer, &shapes, tally),
+pub fn add(input: &[u8], output: &[u8], tally: &mut Tally) {
+    let mut bodies = [Stands::default(); 8];
+    for (line, answer) in lines(input).iter().zip(lines(output)) {
+        damage(line, tally);
+        match (byte(answer, 0), kind(byte(line, 0))) {
+            (0xff, Some(row)) if byte(answer, 1) != 10 => {
+                tally.met(&format!("{} refusal {}", row.name, byte(answer, 1)));
             }
+            (0xff, _) => tally.met(&format!("refusal {}", byte(answer, 1))),
+            (0, Some(row)) => {
+                tally.met(&format!("{} accepted", row.name));
+                let body = &mut bodies[byte(line, 1)];
+                if row.makes_shape {
+                    tally.met(&format!("shape under id {}", byte(line, 1)));
+                    let one_sided = row.name == "wall" && byte(line, 2) == 1;
+                    *body = Stands { name: if one_sided { "one-sided wall" } else { row.name }, turn: "unturned" };
+                    if row.name == "outline" {
+                        tally.met(&format!("outline of {} points", byte(line, 2)));
+                    }
+                } else {
+                    body.turn = turn(line);
+                }
+            }
+            _ => tested(line, answer, &bodies, tally),
         }
-        if input.last().map_or(false, |c| *c != b'\n') {
-            tally.met("no line feed at the end");
-        }
+    }
+    if input.last().map_or(false, |c| *c != b'\n') {
+        tally.met("no line feed at the end");
     }
 }
 
-/// Counts a test by its pair, its points, its states and its touches.
-fn tested(line: &[u8], answer: &[u8], shapes: &[&str; 8], tally: &mut Tally) {
-    let pair = [1, 2].map(|i| shapes[byte(line, i)]).join("-");
+/// How a placement turns, by its sine and cosine.
+fn turn(line: &[u8]) -> &'static str {
+    let float = |at: usize| f32::from_bits((at..at + 4).fold(0, |bits, i| bits << 8 | byte(line, i) as u32));
+    match (float(10), float(14)) {
+        (s, c) if s == 0.0 && c == 1.0 => "unturned",
+        (s, c) if s == 0.0 || c == 0.0 => "quarter-turned",
+        _ => "turned",
+    }
+}
+
+/// Counts an input by the pieces in which it came.
+pub fn pieces(pieces: usize, length: usize, tally: &mut Tally) {
+    match pieces {
+        1 => tally.met("in one piece"),
+        n if n > 20 && n == length => tally.met("in single characters"),
+        2.. => tally.met("in several pieces"),
+        _ => {}
+    }
+}
+
+/// Counts a test by its ids, its pair, its points, their face, the turns, its states and its touches.
+fn tested(line: &[u8], answer: &[u8], bodies: &[Stands; 8], tally: &mut Tally) {
+    let both = [1, 2].map(|i| bodies[byte(line, i)]);
+    let pair = both.map(|body| body.name).join("-");
     tally.met(&format!("{pair} {}", ["apart", "1 point", "2 points"][byte(answer, 3)]));
+    (1..3).for_each(|i| tally.met(&format!("{} id {}", ["first", "second"][i - 1], byte(line, i))));
+    if byte(answer, 3) > 0 {
+        tally.met(&format!("{pair} kind {}", byte(answer, 4)));
+        (0..2).for_each(|i| tally.met(&format!("{} touching, {}", ["first", "second"][i], both[i].turn)));
+    }
     (5..9).for_each(|i| tally.met(STATES[byte(answer, i)]));
     let before = (5..7).map(|i| byte(answer, i)).any(|state| state > 0);
     if before && byte(answer, 3) == 0 {
@@ -90,19 +126,37 @@ fn damage(line: &[u8], tally: &mut Tally) {
 
 /// What a run has to meet.
 pub fn wanted() -> Vec<String> {
-    let pairs =
-        [("circle-circle", 1), ("outline-circle", 1), ("outline-outline", 2), ("wall-circle", 1), ("wall-outline", 2)];
+    // the most points of a pair, and the kinds of its contacts
+    let pairs: [(&str, usize, &[u8]); 7] = [
+        ("circle-circle", 1, &[0]),
+        ("outline-circle", 1, &[1]),
+        ("outline-outline", 2, &[1, 2]),
+        ("wall-circle", 1, &[0, 1]),
+        ("wall-outline", 2, &[1, 2]),
+        ("one-sided wall-circle", 1, &[0, 1]),
+        ("one-sided wall-outline", 2, &[1, 2]),
+    ];
     let mut list: Vec<String> = Vec::new();
-    for (pair, most) in pairs {
+    for (pair, most, kinds) in pairs {
         let counts = ["apart", "1 point", "2 points"];
         list.extend(counts[..=most].iter().map(|count| format!("{pair} {count}")));
+        list.extend(kinds.iter().map(|kind| format!("{pair} kind {kind}")));
     }
+    for role in ["first", "second"] {
+        list.extend(["unturned", "quarter-turned", "turned"].map(|turn| format!("{role} touching, {turn}")));
+        list.extend((0..8).map(|id| format!("{role} id {id}")));
+    }
+    list.extend((0..8).map(|id| format!("shape under id {id}")));
+    list.extend((3..9).map(|count| format!("outline of {count} points")));
     for row in &KINDS {
         list.extend(row.refusals.iter().map(|refusal| format!("{} refusal {refusal}", row.name)));
     }
     // tests are counted by their pairs
     list.extend(KINDS.iter().filter(|row| row.name != "test").map(|row| format!("{} accepted", row.name)));
     let others = [
+        "in one piece",
+        "in several pieces",
+        "in single characters",
         "refusal 10",
         "null",
         "add",

@@ -35,6 +35,19 @@ impl Guarded {
         }
     }
 
+    /// Whether the system lets nobody read or write on either side of the page.
+    fn guarded(&self) -> bool {
+        let maps = std::fs::read_to_string("/proc/self/maps").expect("the map of this program's memory");
+        let closed = |at: usize| {
+            maps.lines().any(|line| {
+                let mut words = line.split([' ', '-']);
+                let [from, to] = [0; 2].map(|_| words.next().and_then(|w| usize::from_str_radix(w, 16).ok()));
+                from.map_or(false, |from| from <= at) && to.map_or(false, |to| at < to) && line.contains(" ---p ")
+            })
+        };
+        closed(self.0 as usize - 1) && closed(self.0 as usize + PAGE)
+    }
+
     fn page(&mut self) -> &mut [u8] {
         unsafe { std::slice::from_raw_parts_mut(self.0, PAGE) }
     }
@@ -51,6 +64,9 @@ const DAMAGES: [&str; 9] = [
     "a number changed",
     "any bytes",
 ];
+
+/// Where the slices are: at the beginning or the end of their pages.
+const AT: [&str; 4] = ["input after a guard", "input before a guard", "output after a guard", "output before a guard"];
 
 /// The bytes of an input and what is done to them.
 fn input(random: &mut Random) -> (Vec<u8>, &'static str) {
@@ -121,12 +137,21 @@ pub fn compare(cases: u64, seed: u64) -> bool {
             format!("{bytes:02x?} with room for {room}: {said}{}", if agree { "" } else { "; no agreement" })
         });
         tally.met(damage);
+        tally.met(AT[(frames_at > 0) as usize]);
+        tally.met(AT[2 + (out_at > 0) as usize]);
+        if (33..256).contains(&wanted) {
+            tally.met(&format!("kind {}", left[4]));
+        }
         tally.met(&match wanted {
             256.. => format!("refusal {}", wanted - 256),
             length => format!("{length} bytes"),
         });
     }
-    let mut wanted: Vec<String> = DAMAGES.iter().map(|damage| damage.to_string()).collect();
+    if frames_page.guarded() && out_page.guarded() {
+        tally.met("guard pages");
+    }
+    let others = ["guard pages", "kind 1", "kind 2"];
+    let mut wanted: Vec<String> = DAMAGES.iter().chain(&AT).chain(&others).map(|what| what.to_string()).collect();
     wanted.extend([1, 2, 3, 4, 5, 6, 9, 10].iter().map(|refusal| format!("refusal {refusal}")));
     wanted.extend([13, 33, 45].iter().map(|length| format!("{length} bytes")));
     tally.report(&wanted)

@@ -36,7 +36,6 @@ use support::{Random, Tally};
 /// long and a few of them 300 times.
 fn compare_heats(program: &str, heats: u64, length: usize, seed: u64) -> bool {
     let mut tally = Tally::new("heats");
-    let mut census = census::Census::default();
     for i in 0..FIXED.len() as u64 + heats {
         let mut random = Random::new(seed.wrapping_mul(1 << 32).wrapping_add(i));
         let fixed = FIXED.get(i as usize);
@@ -44,7 +43,7 @@ fn compare_heats(program: &str, heats: u64, length: usize, seed: u64) -> bool {
         let lines = 1 + random.below(2 * (length * longer) as u64) as usize;
         let input = fixed.map_or_else(|| heat(&mut random, lines), |(_, text)| text.to_vec());
         let (wanted, agree) = second::touches(&input);
-        let (ours, ended) = pieces::run(program, &input, &mut random);
+        let (ours, ended, pieces) = pieces::run(program, &input, &mut random);
         tally.case(agree && ended && ours == wanted, || {
             let name =
                 fixed.map_or_else(|| format!("'record heat {lines}' from seed {seed}, heat {i}"), |f| f.0.into());
@@ -52,7 +51,8 @@ fn compare_heats(program: &str, heats: u64, length: usize, seed: u64) -> bool {
             let references = if agree { "" } else { "the references do not agree; " };
             format!("{name}: {references}{}{first}", if ended { "" } else { "the program ended badly; " })
         });
-        census.add(&input, &wanted, &mut tally);
+        census::pieces(pieces, input.len(), &mut tally);
+        census::add(&input, &wanted, &mut tally);
     }
     tally.report(&census::wanted())
 }

@@ -55,15 +55,19 @@ fn split(length: usize, random: &mut Random) -> Vec<usize> {
     sizes
 }
 
-/// What the program prints for the input, and whether it took all of it and ended with status 0.
-pub fn run(program: &str, input: &[u8], random: &mut Random) -> (Vec<u8>, bool) {
+/// What the program prints for the input; whether it took all of it, said nothing on standard error and ended with
+/// status 0; and in how many pieces the input came.
+pub fn run(program: &str, input: &[u8], random: &mut Random) -> (Vec<u8>, bool, usize) {
     let sizes = split(input.len(), random);
+    let pieces = sizes.len();
     let mut child = Command::new(program)
         .stdin(Stdio::piped())
         .stdout(Stdio::piped())
+        .stderr(Stdio::piped())
         .spawn()
         .unwrap_or_else(|error| panic!("{program}: {error}"));
     let mut pipe = child.stdin.take().expect("its standard input");
+    let mut errors = child.stderr.take().expect("its standard error");
     let mut output = Vec::new();
     let taken = std::thread::scope(|scope| {
         let writer = scope.spawn(move || {
@@ -80,9 +84,10 @@ pub fn run(program: &str, input: &[u8], random: &mut Random) -> (Vec<u8>, bool) 
             }
             true
         });
+        let silent = scope.spawn(move || matches!(errors.read_to_end(&mut Vec::new()), Ok(0)));
         let read = child.stdout.take().expect("its standard output").read_to_end(&mut output).is_ok();
-        writer.join().unwrap_or(false) && read
+        writer.join().unwrap_or(false) && silent.join().unwrap_or(false) && read
     });
     let status = child.wait().expect("its status");
-    (output, taken && status.success())
+    (output, taken && status.success(), pieces)
 }

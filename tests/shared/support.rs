@@ -1,5 +1,6 @@
 //! What the rows share: our C entries on words, words compared with one NaN, random numbers, and the count of a
 //! comparison.
+use std::collections::BTreeMap;
 
 extern "C" {
     // A `&[u8]` of Rattle is a pointer and a length.
@@ -67,12 +68,12 @@ pub struct Tally {
     name: String,
     pub cases: u64,
     differences: u64,
-    notes: Vec<(String, u64)>,
+    notes: BTreeMap<String, u64>,
 }
 
 impl Tally {
     pub fn new(name: &str) -> Tally {
-        Tally { name: name.to_string(), cases: 0, differences: 0, notes: Vec::new() }
+        Tally { name: name.to_string(), cases: 0, differences: 0, notes: BTreeMap::new() }
     }
 
     /// One case, right or not; the first wrong ones are printed with what they were given.
@@ -88,17 +89,16 @@ impl Tally {
 
     /// How often something was met that a good generator meets.
     pub fn met(&mut self, what: &str) {
-        match self.notes.iter_mut().find(|(w, _)| w == what) {
-            Some((_, n)) => *n += 1,
-            None => self.notes.push((what.to_string(), 1)),
+        match self.notes.get_mut(what) {
+            Some(n) => *n += 1,
+            None => drop(self.notes.insert(what.to_string(), 1)),
         }
     }
 
     /// Prints the line and answers whether the comparison passed: no difference, and everything wanted was met.
     pub fn report(&self, wanted: &[String]) -> bool {
-        let missing: Vec<&String> = wanted.iter().filter(|w| !self.notes.iter().any(|(x, _)| x == *w)).collect();
-        let mut notes: Vec<String> = self.notes.iter().map(|(w, n)| format!("{w} {n}")).collect();
-        notes.sort();
+        let missing: Vec<&String> = wanted.iter().filter(|w| !self.notes.contains_key(*w)).collect();
+        let notes: Vec<String> = self.notes.iter().map(|(w, n)| format!("{w} {n}")).collect();
         let passed = self.differences == 0 && missing.is_empty() && self.cases > 0;
         println!(
             "{}: {}: {} cases, {} differences; {}{}",
