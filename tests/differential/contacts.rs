@@ -4,6 +4,7 @@ use crate::bodies::{self, place, spoil_transform, Shape};
 use crate::generators::words;
 use crate::ranges::{self, first, within, EDGE, POLYGON, SIZE};
 use crate::support::Random;
+use crate::thresholds;
 
 pub const MANIFOLD: usize = 16;
 const CIRCLE: usize = 3;
@@ -39,8 +40,12 @@ fn request(entry: u32, random: &mut Random) -> Vec<u32> {
     let (a, b) = pair(entry);
     let mut words = vec![entry];
     words.extend(old_manifold(random));
-    let tiny = entry == 10 && random.once_in(8);
-    let mut parts = if tiny { bodies::tiny_wall_and_circle(random) } else { place(random, a, b) };
+    let mut parts = match entry {
+        9 if random.once_in(16) => thresholds::outlines(random),
+        10 if random.once_in(8) => bodies::tiny_wall_and_circle(random),
+        11 if random.once_in(8) => thresholds::wall_and_outline(random),
+        _ => place(random, a, b),
+    };
     if random.once_in(3) {
         bodies::spoil_shape(random, a, &mut parts[0]);
         spoil_transform(random, &mut parts[1]);

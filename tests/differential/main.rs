@@ -1,7 +1,8 @@
 //! The differential runs: every row of the table, ours against the unmodified Rust and Box2D 2.4.1, every field,
 //! refusals included; malformed requests; and kept NaNs. Built with `--cfg papers` where the Rust is at hand and
 //! `--cfg box2d` where Box2D is.
-//! usage: differential CASES SEED               compares, for each row until CASES were asked of the references
+//! usage: differential CASES SEED [ENTRY..]     compares, for each row until CASES were asked of the references; with
+//!                                              entries, their rows alone
 //!        differential store FILE CASES SEED    prints answers for tests/stored/FILE.txt, which the references share
 #![allow(unknown_lints, unexpected_cfgs)]
 mod bodies;
@@ -28,6 +29,7 @@ mod shapes;
 #[path = "../shared/support.rs"]
 mod support;
 mod table;
+mod thresholds;
 use row::Row;
 use support::{one_nan, Random};
 use table::TABLE;
@@ -64,11 +66,16 @@ fn main() {
     if words.len() == 4 && words[0] == "store" {
         return store(&words[1], number(2), number(3));
     }
-    assert!(words.len() == 2, "usage: differential CASES SEED");
+    assert!(words.len() >= 2, "usage: differential CASES SEED [ENTRY..]");
     let (cases, seed) = (number(0), number(1));
+    let entries: Vec<u64> = (2..words.len()).map(number).collect();
     println!("seed {seed}");
-    let mut results = vec![malformed::run(cases, seed), kept::run(TABLE, (cases / 100).max(1000), seed)];
-    for (i, row) in TABLE.iter().enumerate() {
+    let mut results = Vec::new();
+    if entries.is_empty() {
+        results = vec![malformed::run(cases, seed), kept::run(TABLE, (cases / 100).max(1000), seed)];
+    }
+    let asked = |row: &Row| entries.is_empty() || entries.contains(&(row.entry as u64));
+    for (i, row) in TABLE.iter().enumerate().filter(|(_, row)| asked(row)) {
         if compare::REFERENCES > 0 {
             results.push(compare::run(row, cases, seed + 1 + i as u64));
         } else {
