@@ -103,7 +103,7 @@ pub fn outlines(random: &mut Random) -> [Vec<u32>; 4] {
     }
     let mut of_b = beside(random, of_a + BETWEEN_OUTLINES);
     if random.once_in(4) {
-        // the radii's own threshold, of either
+        // at the sum of the radii, one of them or both
         of_b = beside(random, total);
         of_a = random.of(&[of_a, of_b, step(of_b, -1)]);
     }
@@ -145,18 +145,22 @@ fn hysteresis(random: &mut Random) -> [Vec<u32>; 4] {
     let mut of_outline = beside(random, threshold + radius);
     let mut of_wall = beside(random, of_wall);
     if random.once_in(6) {
-        // the radii's own threshold, of either
+        // at the sum of the radii, one of them or both
         let at = beside(random, radius);
         (of_outline, of_wall) = random.of(&[(at, of_wall), (-1.0, at), (at, at)]);
     }
     let (length, depth) = (random.of(&[4.0, 8.0, 64.0]), sized(random, 4.0, 64.0));
     let (left, right) = (sized(random, 0.5, 1.5), sized(random, 2.0, 64.0));
-    let corners = [
+    let mut corners = vec![
         ([right, -of_outline], [0.0, 1.0]),
         ([left, -of_wall], [-1.0, 0.0]),
         ([left, -depth], [0.0, -1.0]),
         ([right, -depth], [1.0, 0.0]),
     ];
+    if random.once_in(3) {
+        // two upper faces of the same separation
+        corners.insert(1, ([sized(random, left, right), -of_outline], [0.0, 1.0]));
+    }
     let ghost = [sized(random, 0.5, 4.0), unit(random)];
     let points = [[-ghost[0], ghost[1]], [0.0, 0.0], [length, 0.0], [length + ghost[0], ghost[1]]];
     let wall = world.wall(radii[0], random.once_in(2), points);
@@ -168,9 +172,9 @@ fn unit_vector([x, y]: Point) -> Point {
     [x * inverse, y * inverse]
 }
 
-/// The least normal, counted by its first coordinate, whose sine against the neighbour's is over the tolerance.
-fn over(neighbour: Point, height: f32) -> f32 {
-    let sine = |across: f32| -across * neighbour[1] + height * neighbour[0];
+/// The least x of a face's normal with this y whose sine against the neighbour's normal is over the tolerance.
+fn over(neighbour: Point, y: f32) -> f32 {
+    let sine = |x: f32| -x * neighbour[1] + y * neighbour[0];
     let (mut at_most, mut over) = (0.0f32.to_bits(), 1.0f32.to_bits());
     while over - at_most > 1 {
         let middle = at_most + (over - at_most) / 2;
@@ -183,8 +187,8 @@ fn over(neighbour: Point, height: f32) -> f32 {
     f32::from_bits(over)
 }
 
-/// A one-sided wall along x that faces down, its neighbour before it straight on or turned away, and an outline that
-/// its first end touches from above a slanting face; or all of this in the mirror, at the other end.
+/// A one-sided wall along x that faces down, the wall before it straight on or bent away, and an outline whose upper
+/// face slants down over the wall's first end; or the mirror image, at the second end.
 fn gauss_map(random: &mut Random) -> [Vec<u32>; 4] {
     let (world, radii) = (World::any(random), radii(random));
     let length = random.of(&[1.0, 4.0, 64.0]);
@@ -193,13 +197,10 @@ fn gauss_map(random: &mut Random) -> [Vec<u32>; 4] {
         1 => sized(random, 1e-3, 0.7),
         _ => 0.0,
     };
-    let ghost = [random.of(&[1.0, 2.0, 16.0]), 0.0];
-    let ghost = [ghost[0], ghost[0] * away];
-    // the neighbour's direction is the ghost's, downwards; its normal is to the right of it
-    let direction = unit_vector([ghost[0], -ghost[1]]);
+    let far = random.of(&[1.0, 2.0, 16.0]);
+    let direction = unit_vector([far, -far * away]);
     let up = ((away as f64).atan() + (SINE as f64).asin()).cos() as f32;
-    let across = over([direction[1], -direction[0]], up);
-    let across = step(across, random.of(&[0, 0, -1, -1, -1, -2, 1]));
+    let across = step(over([direction[1], -direction[0]], up), random.of(&[0, 0, -1, -1, -1, -2, 1]));
     let (before, after) = (sized(random, 0.5, 1.5), sized(random, 0.5, 1.5));
     let (depth, inside) = (sized(random, 2.0, 4.0), sized(random, 1e-4, 0.02));
     let corner = |along: f32, down: f32| {
@@ -212,7 +213,7 @@ fn gauss_map(random: &mut Random) -> [Vec<u32>; 4] {
         (corner(-before, depth), [up, -across]),
     ];
     let other = [length + sized(random, 0.5, 4.0), unit(random)];
-    let mut points = [[-ghost[0], ghost[1]], [0.0, 0.0], [length, 0.0], other];
+    let mut points = [[-far, far * away], [0.0, 0.0], [length, 0.0], other];
     if random.once_in(2) {
         let mirror = |[x, y]: Point| [-x, y];
         points = [mirror(points[3]), mirror(points[2]), mirror(points[1]), mirror(points[0])];
