@@ -1,0 +1,5 @@
+pub mod Table
+pub mod Quarters
+pub mod Rule
+pub mod Theorem
+pub mod Controls
