@@ -5,7 +5,8 @@ use mathlib.Core.Path.{_≡_, refl}
 use mathlib.Core.Bool.{Bool, true, false, not, cond}
 use mathlib.Core.List.{List}
 use native.Mathlib.Omega.{arith}
-use lib.Dec.{eqb}
+use lib.Dec.{eqb, ltb}
+use Rattle.floats.specs.declared.b2_math.B2Transform.{B2Transform}
 use Rattle.floats.specs.Ranges.{transform-in-range}
 use Rattle.lines.specs.Fields.{byte-at, points-at, placement-at}
 use Rattle.shape_definitions.specs.Circle.{circle-in-range}
@@ -21,7 +22,8 @@ use Rattle.record_definitions.specs.World.{no-body, blank-outline}
 use Rattle.record_definitions.specs.Touch.{meet, largest-count, touches-after, states-of, touch-of, tested-as}
 use Rattle.record_definitions.specs.Touch.{tested}
 use Rattle.record_definitions.specs.Frame.{frame-refusal, refused, circle-at, circle-change, outline-change}
-use Rattle.record_definitions.specs.Frame.{wall-at, wall-change, place-change, test-refusal, test-change}
+use Rattle.record_definitions.specs.Frame.{wall-at, wall-change, placed-at, place-change, largest-turn, turn-at}
+use Rattle.record_definitions.specs.Frame.{turned-placement, turn-change, test-refusal, test-change}
 use Rattle.record_definitions.specs.Frame.{change-of-kind, change}
 use Rattle.record_definitions.proofs.States.{repeated-adds-none}
 
@@ -65,12 +67,21 @@ module _ (a b : Body) (pair pair′ : Pair) (bytes : List ℕ) where
       either-again (eqb (wall-at bytes .refusal) accepted) _ _ _ _ (accepted-again _ _ refl)
       (refused-again (wall-at bytes .refusal) _)
 
+  placed-again : (xf : B2Transform) → Again (placed-at a pair xf) (placed-at a pair′ xf)
+  placed-again xf =
+      either-again (not (transform-in-range xf)) _ _ _ _ (refused-again _ _) (accepted-again _ _ refl)
+
   place-again : Again (place-change a pair bytes) (place-change a pair′ bytes)
   unfolding place-change
   place-again =
+      either-again (eqb (a .kind) no-body) _ _ _ _ (refused-again _ _) (placed-again (placement-at bytes 2))
+
+  turn-again : Again (turn-change a pair bytes) (turn-change a pair′ bytes)
+  unfolding turn-change
+  turn-again =
       either-again (eqb (a .kind) no-body) _ _ _ _ (refused-again _ _)
-      (either-again (not (transform-in-range (placement-at bytes 2))) _ _ _ _ (refused-again _ _)
-      (accepted-again _ _ refl))
+      (either-again (ltb largest-turn (turn-at bytes 10)) _ _ _ _ (refused-again _ _)
+      (placed-again (turned-placement bytes)))
 
   tested-again : (c c′ : Change)
       → c′ .said .answer ≡ Tested (tested (byte-at bytes 1) (byte-at bytes 2) a b pair′ .touch) → Again c c′
@@ -94,7 +105,8 @@ module _ (a b : Body) (pair pair′ : Pair) (bytes : List ℕ) where
   kind-again kind =
       either-again (eqb kind 1) _ _ _ _ circle-again
       (either-again (eqb kind 2) _ _ _ _ outline-again
-      (either-again (eqb kind 3) _ _ _ _ wall-again (either-again (eqb kind 4) _ _ _ _ place-again test-again)))
+      (either-again (eqb kind 3) _ _ _ _ wall-again
+      (either-again (eqb kind 4) _ _ _ _ place-again (either-again (eqb kind 6) _ _ _ _ turn-again test-again))))
 
   pub change-again : (t : Touch) → change a b pair bytes .said .answer ≡ Tested t
       → change a b pair′ bytes .said .answer

@@ -4,19 +4,22 @@ use Prim.Native.Nat.{ℕ}
 use mathlib.Core.Path.{_≡_, refl}
 use mathlib.Core.Bool.{Bool, true, false, not, cond}
 use mathlib.Core.List.{List}
-use lib.Dec.{eqb}
+use lib.Dec.{eqb, ltb}
 use borrow.Author.Tests.{eqb-true}
+use Rattle.floats.specs.declared.b2_math.B2Transform.{B2Transform}
 use Rattle.floats.specs.Ranges.{transform-in-range}
 use Rattle.lines.specs.Fields.{byte-at, points-at, placement-at}
 use Rattle.shape_definitions.specs.Circle.{circle-in-range}
 use Rattle.shape_definitions.specs.Polygon.{b2-polygon-shape-set}
 use Rattle.shape_definitions.specs.Refusal.{accepted, shape-out-of-range, placement-out-of-range, no-shape}
+use Rattle.shape_definitions.specs.Refusal.{unknown-turn}
 use Rattle.record_definitions.specs.declared.world.Body.{Body}
 use Rattle.record_definitions.specs.declared.world.Pair.{Pair}
 use Rattle.record_definitions.specs.declared.frame.Change.{Change}
 use Rattle.record_definitions.specs.World.{no-body, blank-outline, circle-body, outline-body, wall-body, placed}
 use Rattle.record_definitions.specs.Frame.{frame-length, frame-refusal, refused, defined, moved, circle-at}
-use Rattle.record_definitions.specs.Frame.{circle-change, outline-change, wall-at, wall-change, place-change}
+use Rattle.record_definitions.specs.Frame.{circle-change, outline-change, wall-at, wall-change, placed-at}
+use Rattle.record_definitions.specs.Frame.{place-change, largest-turn, turn-at, turned-placement, turn-change}
 use Rattle.record_definitions.specs.Frame.{change-of-kind, change}
 use Rattle.record_definitions.proofs.FrameRefusals.{last-kind, known-kind}
 
@@ -50,13 +53,24 @@ module _ (pair : Pair) where
         either-way (eqb number accepted) (defined made pair) (refused number a pair) (defined made pair′)
         (refused number a pair′) refl refl
 
+    placed-alone : (xf : B2Transform) → placed-at a pair xf ≡ with-pair pair (placed-at a pair′ xf)
+    placed-alone xf =
+        either-way (not (transform-in-range xf)) (refused placement-out-of-range a pair) (moved (placed a xf) pair)
+        (refused placement-out-of-range a pair′) (moved (placed a xf) pair′) refl refl
+
     place-alone : place-change a pair bytes ≡ with-pair pair (place-change a pair′ bytes)
     unfolding place-change
     place-alone =
-        let xf = placement-at bytes 2 in
         either-way (eqb (a .kind) no-body) (refused no-shape a pair) _ (refused no-shape a pair′) _ refl
-        (either-way (not (transform-in-range xf)) (refused placement-out-of-range a pair) (moved (placed a xf) pair)
-        (refused placement-out-of-range a pair′) (moved (placed a xf) pair′) refl refl)
+        (placed-alone (placement-at bytes 2))
+
+    turn-alone : turn-change a pair bytes ≡ with-pair pair (turn-change a pair′ bytes)
+    unfolding turn-change
+    turn-alone =
+        either-way (eqb (a .kind) no-body) (refused no-shape a pair) _ (refused no-shape a pair′) _ refl
+        (either-way (ltb largest-turn (turn-at bytes 10)) (refused unknown-turn a pair) _
+        (refused unknown-turn a pair′) _ refl
+        (placed-alone (turned-placement bytes)))
 
     outline-alone : outline-change a pair bytes ≡ with-pair pair (outline-change a pair′ bytes)
     unfolding outline-change
@@ -76,7 +90,8 @@ module _ (pair : Pair) where
         (λ no-1. by-kind (eqb kind 2) _ _ _ _ (λ two. outline-alone)
         (λ no-2. by-kind (eqb kind 3) _ _ _ _ (λ three. wall-alone)
         (λ no-3. by-kind (eqb kind 4) _ _ _ _ (λ four. place-alone)
-        (λ no-4. absurd (no-test (last-kind kind third known no-1 no-2 no-3 no-4))))))
+        (λ no-4. by-kind (eqb kind 6) _ _ _ _ (λ six. turn-alone)
+        (λ no-6. absurd (no-test (last-kind kind third known no-1 no-2 no-3 no-4 no-6)))))))
 
     pub change-alone : (byte-at bytes 0 ≡ 5 → ⊥) → change a b pair bytes ≡ with-pair pair (change a b′ pair′ bytes)
     unfolding change

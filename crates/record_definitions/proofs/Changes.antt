@@ -6,9 +6,10 @@ use mathlib.Core.Bool.{Bool, true, false, not, cond, _&&_, false≢true}
 use mathlib.Core.List.{List}
 use mathlib.Core.Logic.{_⊎_, inl, inr}
 use native.Mathlib.Omega.{arith}
-use lib.Dec.{eqb}
+use lib.Dec.{eqb, ltb}
 use borrow.Author.Tests.{eqb-true, eq-eqb}
 use Rattle.algebra.proofs.Booleans.{by-test}
+use Rattle.floats.specs.declared.b2_math.B2Transform.{B2Transform}
 use Rattle.floats.specs.Ranges.{transform-in-range}
 use Rattle.lines.specs.Fields.{byte-at, points-at, placement-at}
 use Rattle.shape_definitions.specs.Circle.{circle-in-range}
@@ -23,7 +24,8 @@ use Rattle.record_definitions.specs.declared.frame.Change.{Change}
 use Rattle.record_definitions.specs.World.{no-body, blank-outline}
 use Rattle.record_definitions.specs.Touch.{tested}
 use Rattle.record_definitions.specs.Frame.{largest-id, frame-refusal, refused, defined, circle-at, circle-change}
-use Rattle.record_definitions.specs.Frame.{outline-change, wall-at, wall-change, place-change, test-refusal}
+use Rattle.record_definitions.specs.Frame.{outline-change, wall-at, wall-change, placed-at, place-change}
+use Rattle.record_definitions.specs.Frame.{largest-turn, turn-at, turned-placement, turn-change, test-refusal}
 use Rattle.record_definitions.specs.Frame.{test-change, change-of-kind, change}
 use Rattle.record_definitions.specs.Export.{answer-refusal, refusal-in}
 use Rattle.record_definitions.proofs.FrameRefusals.{last-kind, known-kind, first-known, second-known}
@@ -31,6 +33,10 @@ use Rattle.record_definitions.proofs.FrameRefusals.{last-kind, known-ki
 -- the kinds of frames that define a shape
 abbrev pub NewShape : ℕ → Type 0
 NewShape kind = (kind ≡ 1) ⊎ ((kind ≡ 2) ⊎ (kind ≡ 3))
+
+-- the kinds of frames that place a body
+abbrev pub Placing : ℕ → Type 0
+Placing kind = (kind ≡ 4) ⊎ (kind ≡ 6)
 
 pub by-choice : {A : Type 0} (P : A → Type 0) (test : Bool) (x y : A) → (test ≡ true → P x) → (test ≡ false → P y)
     → P (cond test x y)
@@ -93,23 +99,24 @@ module _ (a b : Body) (pair : Pair) (bytes : List ℕ) where
       ∙ kind-forgets (byte-at bytes 0) new (ap (λ (c : Change). c .said .answer) (sym same) ∙ is)
 
   -- ---- a placement leaves the pair, accepted or not
-  place-leaves : (place-change a pair bytes .pair ≡ pair) × (place-change a pair bytes .forget ≡ false)
-  unfolding place-change
-  place-leaves =
-      either Leaves (eqb (a .kind) no-body) _ _ (refl, refl)
-      (either Leaves (not (transform-in-range (placement-at bytes 2))) _ _ (refl, refl) (refl, refl))
-    where
-      Leaves : Change → Type 0
-      Leaves c = (c .pair ≡ pair) × (c .forget ≡ false)
+  abbrev Leaves : Change → Type 0
+  Leaves c = (c .pair ≡ pair) × (c .forget ≡ false)
 
-  pub placing-leaves : byte-at bytes 0 ≡ 4
-      → (change a b pair bytes .pair ≡ pair) × (change a b pair bytes .forget ≡ false)
-  unfolding change change-of-kind
-  placing-leaves four =
-      either Leaves (eqb (frame-refusal bytes) accepted) _ _ (rw four place-leaves) (refl, refl)
-    where
-      Leaves : Change → Type 0
-      Leaves c = (c .pair ≡ pair) × (c .forget ≡ false)
+  placed-leaves : (xf : B2Transform) → Leaves (placed-at a pair xf)
+  placed-leaves xf = either Leaves (not (transform-in-range xf)) _ _ (refl, refl) (refl, refl)
+
+  kind-leaves : (kind : ℕ) → Placing kind → Leaves (change-of-kind kind a b pair bytes)
+  unfolding change-of-kind place-change turn-change
+  kind-leaves kind (inl four) =
+      rw four (either Leaves (eqb (a .kind) no-body) _ _ (refl, refl) (placed-leaves (placement-at bytes 2)))
+  kind-leaves kind (inr six) =
+      rw six (either Leaves (eqb (a .kind) no-body) _ _ (refl, refl)
+      (either Leaves (ltb largest-turn (turn-at bytes 10)) _ _ (refl, refl) (placed-leaves (turned-placement bytes))))
+
+  pub placing-leaves : Placing (byte-at bytes 0) → Leaves (change a b pair bytes)
+  unfolding change
+  placing-leaves placing =
+      either Leaves (eqb (frame-refusal bytes) accepted) _ _ (kind-leaves (byte-at bytes 0) placing) (refl, refl)
 
   -- ---- a test that answers
   Answers : Change → Type 0
@@ -144,12 +151,21 @@ module _ (a b : Body) (pair : Pair) (bytes : List ℕ) where
       either Answers (eqb (wall-at bytes .refusal) accepted) _ _ (accepted-answers _ refl)
       (refused-answers (wall-at bytes .refusal))
 
+  placed-answers : (xf : B2Transform) → Answers (placed-at a pair xf)
+  placed-answers xf =
+      either Answers (not (transform-in-range xf)) _ _ (refused-answers _) (accepted-answers _ refl)
+
   place-answers : Answers (place-change a pair bytes)
   unfolding place-change
   place-answers =
+      either Answers (eqb (a .kind) no-body) _ _ (refused-answers _) (placed-answers (placement-at bytes 2))
+
+  turn-answers : Answers (turn-change a pair bytes)
+  unfolding turn-change
+  turn-answers =
       either Answers (eqb (a .kind) no-body) _ _ (refused-answers _)
-      (either Answers (not (transform-in-range (placement-at bytes 2))) _ _ (refused-answers _)
-      (accepted-answers _ refl))
+      (either Answers (ltb largest-turn (turn-at bytes 10)) _ _ (refused-answers _)
+      (placed-answers (turned-placement bytes)))
 
   test-answers : byte-at bytes 2 ≤ largest-id → Answers (test-change (byte-at bytes 1) (byte-at bytes 2) a b pair)
   unfolding test-change Answers
@@ -179,8 +195,9 @@ module _ (a b : Body) (pair : Pair) (bytes : List ℕ) where
       (λ no-1. by-choice Answers (eqb kind 2) _ _ (λ two. outline-answers)
       (λ no-2. by-choice Answers (eqb kind 3) _ _ (λ three. wall-answers)
       (λ no-3. by-choice Answers (eqb kind 4) _ _ (λ four. place-answers)
-      (λ no-4. test-answers (second-known bytes taken
-      (last-kind kind (byte-at bytes 2) (known-kind bytes taken) no-1 no-2 no-3 no-4))))))
+      (λ no-4. by-choice Answers (eqb kind 6) _ _ (λ six. turn-answers)
+      (λ no-6. test-answers (second-known bytes taken
+      (last-kind kind (byte-at bytes 2) (known-kind bytes taken) no-1 no-2 no-3 no-4 no-6)))))))
 
   pub was-tested : (t : Touch) → change a b pair bytes .said .answer ≡ Tested t
       → WasTested (byte-at bytes 1) (byte-at bytes 2) a b pair t (change a b pair bytes)

@@ -32,7 +32,7 @@ use Rattle.record_definitions.specs.Heat.{defines-shape, with-answer, co
 use Rattle.record_definitions.specs.Heat.{touches-of}
 use Rattle.record_definitions.proofs.HeatTests.{Remembers, test-remembered}
 use Rattle.record_definitions.proofs.Refusing.{after-refused}
-use Rattle.record_definitions.proofs.Changes.{NewShape, by-choice, is-of-kind, both}
+use Rattle.record_definitions.proofs.Changes.{NewShape, Placing, by-choice, is-of-kind, both}
 use Rattle.record_definitions.proofs.SoundKept.{frame-keeps-sound}
 use Rattle.record_definitions.proofs.Theorem.{new-shape-forgets, new-shape-keeps-others, placing-changes-no-pair}
 use Rattle.record_definitions.proofs.Theorem.{test-changes-no-other-pair, names-printed}
@@ -60,7 +60,7 @@ test-not ida idb a b pair =
     (refused-not _ number refl)
 
 Kinds : ℕ → Type 0
-Kinds kind = NewShape kind ⊎ (kind ≡ 4)
+Kinds kind = NewShape kind ⊎ Placing kind
 
 kind-accepted : (kind : ℕ) (a b : Body) (pair : Pair) (bytes : List ℕ)
     → change-of-kind kind a b pair bytes .said .answer ≡ Accepted → Kinds kind
@@ -69,8 +69,9 @@ kind-accepted kind a b pair bytes =
     by-choice Says (eqb kind 1) _ _ (λ one taken. inl (inl (eqb-true kind 1 one)))
     (λ no-1. by-choice Says (eqb kind 2) _ _ (λ two taken. inl (inr (inl (eqb-true kind 2 two))))
     (λ no-2. by-choice Says (eqb kind 3) _ _ (λ three taken. inl (inr (inr (eqb-true kind 3 three))))
-    (λ no-3. by-choice Says (eqb kind 4) _ _ (λ four taken. inr (eqb-true kind 4 four))
-    (λ no-4 taken. absurd (test-not (byte-at bytes 1) (byte-at bytes 2) a b pair taken)))))
+    (λ no-3. by-choice Says (eqb kind 4) _ _ (λ four taken. inr (inl (eqb-true kind 4 four)))
+    (λ no-4. by-choice Says (eqb kind 6) _ _ (λ six taken. inr (inr (eqb-true kind 6 six)))
+    (λ no-6 taken. absurd (test-not (byte-at bytes 1) (byte-at bytes 2) a b pair taken))))))
   where
     Says : Change → Type 0
     Says c = c .said .answer ≡ Accepted → Kinds kind
@@ -151,8 +152,8 @@ module _ (a b : ℕ) (a-small : a ≤ largest-id) (b-small : b ≤ largest-id) (
         new-shape-keeps-others w frame new taken a b a-small b-small
         (λ same. eqb-false (byte-at frame 1) a (neither .0) (sym same))
         (λ same. eqb-false (byte-at frame 1) b (neither .1) (sym same))
-    no-shape-there not-both (inr four) =
-        ap (λ (pairs : List Pair). getD pairs (pair-place a b) fresh-pair) (placing-changes-no-pair w frame four)
+    no-shape-there not-both (inr placing) =
+        ap (λ (pairs : List Pair). getD pairs (pair-place a b) fresh-pair) (placing-changes-no-pair w frame placing)
 
     after-accepted : (contact : B2manifold) → After (with-answer a b Accepted frame contact contacts)
     after-accepted contact =

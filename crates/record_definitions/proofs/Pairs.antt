@@ -20,8 +20,8 @@ use Rattle.record_definitions.specs.Frame.{largest-id, change}
 use Rattle.record_definitions.specs.Step.{first-place, second-place, changed, change-in, after-frame}
 use Rattle.record_definitions.specs.Step.{said-of-frame}
 use Rattle.record_definitions.specs.Export.{answer-refusal}
-use Rattle.record_definitions.proofs.Changes.{NewShape, WasTested, first-id, shape-forgets, placing-leaves}
-use Rattle.record_definitions.proofs.Changes.{was-tested}
+use Rattle.record_definitions.proofs.Changes.{NewShape, Placing, WasTested, first-id, shape-forgets}
+use Rattle.record_definitions.proofs.Changes.{placing-leaves, was-tested}
 
 -- ---- forgetting
 -- a place made fresh is fresh, and stays so
@@ -115,12 +115,12 @@ module _ (w : World) (bytes : List ℕ) where
         (others-kept id (w .pairs) 8 x y (omega arith) (omega (arith, named)) (omega arith) (omega arith) no-x no-y)
 
   -- a placement
-  pub placement-keeps-pairs : byte-at bytes 0 ≡ 4 → after-frame w bytes .pairs ≡ w .pairs
+  pub placement-keeps-pairs : Placing (byte-at bytes 0) → after-frame w bytes .pairs ≡ w .pairs
   unfolding after-frame changed change-in
-  placement-keeps-pairs four =
+  placement-keeps-pairs placing =
       let a = first-place bytes in
       let b = second-place bytes in
-      let leaves = placing-leaves (body-at w a) (body-at w b) (pair-at w a b) bytes four in
+      let leaves = placing-leaves (body-at w a) (body-at w b) (pair-at w a b) bytes placing in
       rw (leaves .1, leaves .0) (set-getD (w .pairs) (pair-place a b) fresh-pair)
 
   -- a test that answers

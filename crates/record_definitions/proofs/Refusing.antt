@@ -5,13 +5,15 @@ use mathlib.Core.Path.{_≡_, refl, _∙_, ap}
 use mathlib.Core.Bool.{not}
 use mathlib.Core.List.{List}
 use native.Mathlib.Omega.{arith}
-use lib.Dec.{eqb}
+use lib.Dec.{eqb, ltb}
 use lib.Seq.{set-getD}
+use Rattle.floats.specs.declared.b2_math.B2Transform.{B2Transform}
 use Rattle.floats.specs.Ranges.{transform-in-range}
 use Rattle.lines.specs.Fields.{byte-at, points-at, placement-at}
 use Rattle.shape_definitions.specs.Circle.{circle-in-range}
 use Rattle.shape_definitions.specs.Polygon.{b2-polygon-shape-set}
 use Rattle.shape_definitions.specs.Refusal.{accepted, shape-out-of-range, placement-out-of-range, no-shape}
+use Rattle.shape_definitions.specs.Refusal.{unknown-turn}
 use Rattle.contact_definitions.proofs.Counts.{either}
 use Rattle.record_definitions.specs.declared.world.Body.{Body}
 use Rattle.record_definitions.specs.declared.world.Pair.{Pair}
@@ -23,7 +25,8 @@ use Rattle.record_definitions.specs.World.{no-body, blank-outline, blank
 use Rattle.record_definitions.specs.World.{pair-place}
 use Rattle.record_definitions.specs.Touch.{tested}
 use Rattle.record_definitions.specs.Frame.{frame-refusal, refused, circle-at, circle-change, outline-change}
-use Rattle.record_definitions.specs.Frame.{wall-at, wall-change, place-change, test-refusal, test-change}
+use Rattle.record_definitions.specs.Frame.{wall-at, wall-change, placed-at, place-change, largest-turn, turn-at}
+use Rattle.record_definitions.specs.Frame.{turned-placement, turn-change, test-refusal, test-change}
 use Rattle.record_definitions.specs.Frame.{change-of-kind, change}
 use Rattle.record_definitions.specs.Step.{first-place, second-place, changed, change-in, after-frame}
 use Rattle.record_definitions.specs.Step.{said-of-frame}
@@ -70,12 +73,23 @@ module _ (a : Body) (pair : Pair) where
         either (Keeps a pair) (eqb (wall-at bytes .refusal) accepted) _ _ (accepted-keeps _ refl)
         (refused-keeps (wall-at bytes .refusal))
 
+    placed-keeps : (xf : B2Transform) → Keeps a pair (placed-at a pair xf)
+    placed-keeps xf =
+        either (Keeps a pair) (not (transform-in-range xf)) _ _ (refused-keeps placement-out-of-range)
+        (accepted-keeps _ refl)
+
     place-keeps : Keeps a pair (place-change a pair bytes)
     unfolding place-change
     place-keeps =
         either (Keeps a pair) (eqb (a .kind) no-body) _ _ (refused-keeps no-shape)
-        (either (Keeps a pair) (not (transform-in-range (placement-at bytes 2))) _ _
-        (refused-keeps placement-out-of-range) (accepted-keeps _ refl))
+        (placed-keeps (placement-at bytes 2))
+
+    turn-keeps : Keeps a pair (turn-change a pair bytes)
+    unfolding turn-change
+    turn-keeps =
+        either (Keeps a pair) (eqb (a .kind) no-body) _ _ (refused-keeps no-shape)
+        (either (Keeps a pair) (ltb largest-turn (turn-at bytes 10)) _ _ (refused-keeps unknown-turn)
+        (placed-keeps (turned-placement bytes)))
 
     test-keeps : (ida idb : ℕ) (b : Body) → Keeps a pair (test-change ida idb a b pair)
     unfolding test-change
@@ -93,7 +107,8 @@ module _ (a : Body) (pair : Pair) where
         either (Keeps a pair) (eqb kind 1) _ _ circle-keeps
         (either (Keeps a pair) (eqb kind 2) _ _ outline-keeps
         (either (Keeps a pair) (eqb kind 3) _ _ wall-keeps
-        (either (Keeps a pair) (eqb kind 4) _ _ place-keeps (test-keeps (byte-at bytes 1) (byte-at bytes 2) b))))
+        (either (Keeps a pair) (eqb kind 4) _ _ place-keeps
+        (either (Keeps a pair) (eqb kind 6) _ _ turn-keeps (test-keeps (byte-at bytes 1) (byte-at bytes 2) b)))))
 
     change-refused : (b : Body) (n : ℕ) → change a b pair bytes .said .answer ≡ Refused n
         → change a b pair bytes ≡ refused n a pair

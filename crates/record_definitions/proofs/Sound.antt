@@ -9,9 +9,10 @@ use native.Mathlib.Omega.{arith}
 use lib.Dec.{eqb}
 use lib.Ieee.{le, neg, ofBits}
 use lib.ListN.{length, getD}
+use Rattle.floats.specs.declared.b2_math.B2Transform.{B2Transform}
 use Rattle.floats.specs.declared.b2_math.B2vec2.{B2vec2}
 use Rattle.floats.specs.Ranges.{point-in-range, radius-in-range, rotation-in-range, transform-in-range}
-use Rattle.lines.specs.Fields.{byte-at, vector-at, placement-at}
+use Rattle.lines.specs.Fields.{byte-at, vector-at}
 use Rattle.shape_definitions.specs.declared.b2_edge_shape.B2edgeShape.{B2edgeShape}
 use Rattle.shape_definitions.specs.declared.b2_edge_shape.EdgeAnswer.{EdgeAnswer}
 use Rattle.shape_definitions.specs.declared.b2_polygon_shape.B2polygonShape.{B2polygonShape}
@@ -111,10 +112,10 @@ wall-sound wall taken = record {
   wall = λ is. taken;
 }
 
-pub placed-sound : (body : Body) (bytes : List ℕ) → SoundBody body → transform-in-range (placement-at bytes 2) ≡ true
-    → SoundBody (placed body (placement-at bytes 2))
+pub placed-sound : (body : Body) (xf : B2Transform) → SoundBody body → transform-in-range xf ≡ true
+    → SoundBody (placed body xf)
 unfolding placed
-placed-sound body bytes sound taken = record {
+placed-sound body xf sound taken = record {
   placement = taken;
   circle = sound .circle;
   outline = sound .outline;

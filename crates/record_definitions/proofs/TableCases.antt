@@ -26,9 +26,9 @@ abbrev one-new : PointStates
 one-new = record { old0 = B2RemoveState; old1 = B2NullState; new0 = B2NullState; new1 = B2AddState }
 
 pub record TableCases : Type 0 where
-  -- by the kind, 0 to 6, where the third byte is 0
-  pub lengths : map (λ (kind : ℕ). frame-length kind 0) (0 ∷ 1 ∷ 2 ∷ 3 ∷ 4 ∷ 5 ∷ 6 ∷ [])
-      ≡ 0 ∷ 14 ∷ 3 ∷ 19 ∷ 18 ∷ 3 ∷ 0 ∷ []
+  -- by the kind, 0 to 7, where the third byte is 0
+  pub lengths : map (λ (kind : ℕ). frame-length kind 0) (0 ∷ 1 ∷ 2 ∷ 3 ∷ 4 ∷ 5 ∷ 6 ∷ 7 ∷ [])
+      ≡ 0 ∷ 14 ∷ 3 ∷ 19 ∷ 18 ∷ 3 ∷ 12 ∷ 0 ∷ []
   -- of an outline by its count, of a wall by its flag
   pub outline-lengths : map (frame-length 2) (1 ∷ 2 ∷ 3 ∷ 8 ∷ 9 ∷ 255 ∷ []) ≡ 11 ∷ 19 ∷ 27 ∷ 67 ∷ 0 ∷ 0 ∷ []
   pub wall-lengths : map (frame-length 3) (1 ∷ 2 ∷ 255 ∷ []) ≡ 35 ∷ 0 ∷ 0 ∷ []

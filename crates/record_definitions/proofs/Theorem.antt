@@ -33,7 +33,7 @@ use Rattle.record_definitions.specs.Touches.{touches}
 use Rattle.record_definitions.specs.Reading.{begin, fed-pieces, joined}
 use Rattle.record_definitions.proofs.Pieces.{split-anyhow}
 use Rattle.record_definitions.proofs.Refusing.{after-refused}
-use Rattle.record_definitions.proofs.Changes.{NewShape}
+use Rattle.record_definitions.proofs.Changes.{NewShape, Placing}
 use Rattle.record_definitions.proofs.Pairs.{shape-forgets-its-pairs, shape-keeps-other-pairs}
 use Rattle.record_definitions.proofs.Pairs.{placement-keeps-pairs, test-seen, said-at, test-keeps-bodies}
 use Rattle.record_definitions.proofs.Pairs.{test-keeps-other-pairs, test-writes-its-pair}
@@ -83,9 +83,9 @@ module _ (w : World) (frame : List ℕ) (new : NewShape (byte-at frame 0))
       shape-keeps-other-pairs w frame new taken x y x-small y-small no-x no-y
 
 -- ---- a frame that places a body changes no pair
-pub placing-changes-no-pair : (w : World) (frame : List ℕ) → byte-at frame 0 ≡ 4
+pub placing-changes-no-pair : (w : World) (frame : List ℕ) → Placing (byte-at frame 0)
     → after-frame w frame .pairs ≡ w .pairs
-placing-changes-no-pair w frame four = placement-keeps-pairs w frame four
+placing-changes-no-pair w frame placing = placement-keeps-pairs w frame placing
 
 -- ---- a test that answers
 count-of : (m : B2manifold) → ids-of m .count ≡ m .«point_count»

@@ -1,12 +1,15 @@
--- Document 01, "The touch record": frames. What a frame makes of the first body that it names and of the pair, and
--- what it answers. Refusals 10 and 11 are of the bytes alone; then each kind of frame has its order in one definition:
--- 12, 13, then those of the shape, the placement or the contact. A refusal changes nothing. Definitions only.
+-- Document 01, "The touch record", and document 02, request 01 (frame 06): frames. What a frame makes of the first body
+-- that it names and of the pair, and what it answers. Refusals 10 and 11 are of the bytes alone; then each kind of frame
+-- has its order in one definition: 12, then 14 or 13, then those of the shape, the placement or the contact. A refusal
+-- changes nothing. Definitions only.
 use Prim.Native.Nat.{ℕ, _+_, _*_}
 use mathlib.Core.Bool.{Bool, true, false, not, cond, _&&_, _||_}
 use mathlib.Core.List.{List}
 use lib.Dec.{eqb, ltb, leb}
 use lib.ListN.{length}
+use Rattle.floats.specs.declared.b2_math.B2Transform.{B2Transform}
 use Rattle.floats.specs.Ranges.{transform-in-range}
+use Rattle.headings.specs.Headings.{heading}
 use Rattle.lines.specs.Fields.{byte-at, float-at, vector-at, points-at, placement-at}
 use Rattle.shape_definitions.specs.declared.b2_circle_shape.B2circleShape.{B2circleShape}
 use Rattle.shape_definitions.specs.declared.b2_edge_shape.EdgeAnswer.{EdgeAnswer}
@@ -15,7 +18,7 @@ use Rattle.shape_definitions.specs.Circle.{circle-in-range}
 use Rattle.shape_definitions.specs.Edge.{b2-set-one-sided, b2-set-two-sided}
 use Rattle.shape_definitions.specs.Polygon.{b2-polygon-shape-set}
 use Rattle.shape_definitions.specs.Refusal.{accepted, shape-out-of-range, placement-out-of-range, malformed-frame}
-use Rattle.shape_definitions.specs.Refusal.{unknown-id, no-shape, pair-not-listed}
+use Rattle.shape_definitions.specs.Refusal.{unknown-id, no-shape, pair-not-listed, unknown-turn}
 use Rattle.record_definitions.specs.declared.world.Body.{Body}
 use Rattle.record_definitions.specs.declared.world.Pair.{Pair}
 use Rattle.record_definitions.specs.declared.touch.TestAnswer.{TestAnswer}
@@ -40,7 +43,8 @@ frame-length kind third =
     (cond (eqb kind 3) (wall-length third)
     (cond (eqb kind 4) 18
     (cond (eqb kind 5) 3
-    0))))
+    (cond (eqb kind 6) 12
+    0)))))
 
 -- of a known kind, and just as long as such a frame is
 unfoldable pub well-formed : List ℕ → Bool
@@ -110,12 +114,32 @@ wall-at bytes =
 unfoldable pub wall-change : Body → Pair → List ℕ → Change
 wall-change body pair bytes = wall-built body pair (wall-at bytes)
 
--- ---- 04 id x y sine cosine
+-- ---- placements: taken where they are in range
+abbrev pub placed-at : Body → Pair → B2Transform → Change
+placed-at body pair xf =
+    cond (not (transform-in-range xf)) (refused placement-out-of-range body pair) (moved (placed body xf) pair)
+
+-- 04 id x y sine cosine
 unfoldable pub place-change : Body → Pair → List ℕ → Change
 place-change body pair bytes =
     cond (eqb (body .kind) no-body) (refused no-shape body pair)
-    (cond (not (transform-in-range (placement-at bytes 2))) (refused placement-out-of-range body pair)
-    (moved (placed body (placement-at bytes 2)) pair))
+    (placed-at body pair (placement-at bytes 2))
+
+-- 06 id x y turn number, in 4,096ths of a turn: two bytes, highest first
+abbrev pub largest-turn : ℕ
+largest-turn = 4095
+
+abbrev pub turn-at : List ℕ → ℕ → ℕ
+turn-at bytes at = byte-at bytes at * 256 + byte-at bytes (at + 1)
+
+abbrev pub turned-placement : List ℕ → B2Transform
+turned-placement bytes = record { p = vector-at bytes 2; q = heading (turn-at bytes 10) }
+
+unfoldable pub turn-change : Body → Pair → List ℕ → Change
+turn-change body pair bytes =
+    cond (eqb (body .kind) no-body) (refused no-shape body pair)
+    (cond (ltb largest-turn (turn-at bytes 10)) (refused unknown-turn body pair)
+    (placed-at body pair (turned-placement bytes)))
 
 -- ---- 05 a b
 -- the pairs that are tested: circle-circle, outline-circle, outline-outline, wall-circle, wall-outline
@@ -149,7 +173,8 @@ change-of-kind kind a b pair bytes =
     (cond (eqb kind 2) (outline-change a pair bytes)
     (cond (eqb kind 3) (wall-change a pair bytes)
     (cond (eqb kind 4) (place-change a pair bytes)
-    (test-change (byte-at bytes 1) (byte-at bytes 2) a b pair))))
+    (cond (eqb kind 6) (turn-change a pair bytes)
+    (test-change (byte-at bytes 1) (byte-at bytes 2) a b pair)))))
 
 unfoldable pub change : Body → Body → Pair → List ℕ → Change
 change a b pair bytes =

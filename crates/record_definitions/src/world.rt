@@ -18,6 +18,9 @@ pub const WALL: u8 = 3;
 // Ids are 0 to 7.
 pub const LARGEST_ID: u8 = 7;
 
+// Turn numbers are 0 to 4,095.
+pub const LARGEST_TURN: usize = 4095;
+
 pub struct Body {
     pub kind: u8,
     pub xf: B2Transform,

@@ -11,10 +11,13 @@ use native.Mathlib.Omega.{arith}
 use Rattle.rounding.specs.Literals.{one32}
 use Rattle.rounding.specs.Value.{metre}
 use Rattle.rounding.proofs.Value.{mag-abs}
+use Rattle.floats.specs.declared.b2_math.B2Transform.{B2Transform}
 use Rattle.floats.specs.declared.b2_math.B2vec2.{B2vec2}
 use Rattle.floats.specs.Ranges.{within, point-in-range, radius-in-range, rotation-in-range, transform-in-range}
 use Rattle.floats.specs.B2Common.{b2-polygon-radius}
 use Rattle.floats.proofs.RangeValue.{Bounded, limit-value, limit-vec2, one-limit-is, shape-limit-is}
+use Rattle.headings.specs.Headings.{heading, Component}
+use Rattle.headings.proofs.Theorem.{heading-is}
 use Rattle.lines.specs.Fields.{byte-at, number-at, float-at, vector-at, points-at, rotation-at, placement-at}
 use Rattle.shape_definitions.specs.declared.b2_edge_shape.EdgeAnswer.{EdgeAnswer}
 use Rattle.shape_definitions.specs.Circle.{circle-in-range}
@@ -26,7 +29,7 @@ use Rattle.record_definitions.specs.declared.world.Body.{Body}
 use Rattle.record_definitions.specs.World.{at-origin, blank-outline, blank-wall, blank-body, circle-body, outline-body}
 use Rattle.record_definitions.specs.World.{wall-body, placed}
 use Rattle.record_definitions.specs.Touch.{skin}
-use Rattle.record_definitions.specs.Frame.{circle-at, wall-at}
+use Rattle.record_definitions.specs.Frame.{circle-at, wall-at, turn-at, turned-placement}
 use Rattle.record_definitions.proofs.Changes.{by-choice, both}
 use Rattle.record_ranges.proofs.Caps.{Cap}
 use Rattle.record_ranges.proofs.Vectors.{Caps, Turns}
@@ -77,11 +80,27 @@ turn-caps bytes at taken =
           (limit-value one-limit-is (ofBits-fits binary32 (number-at bytes (at + 4))) (subst T (sym (each .1)) tt));
     }
 
-placement-caps : (bytes : List ℕ) → transform-in-range (placement-at bytes 2) ≡ true → AtPlace (placement-at bytes 2)
+pub placement-caps : (bytes : List ℕ) → transform-in-range (placement-at bytes 2) ≡ true → AtPlace (placement-at bytes 2)
 unfolding placement-at transform-in-range
 placement-caps bytes taken =
     let each = both (point-in-range (vector-at bytes 2)) (rotation-in-range (rotation-at bytes 10)) taken in
     record { turn = turn-caps bytes 10 (each .1); position = point-caps bytes 2 (each .0) }
+
+pub turned-caps : (bytes : List ℕ) → transform-in-range (turned-placement bytes) ≡ true → AtPlace (turned-placement bytes)
+unfolding transform-in-range
+turned-caps bytes taken =
+    let number = turn-at bytes 10 in
+    let each = both (point-in-range (vector-at bytes 2)) (rotation-in-range (heading number)) taken in
+    record {
+      turn = record {
+        sine = component-cap (heading-is number .sine);
+        cosine = component-cap (heading-is number .cosine);
+      };
+      position = point-caps bytes 2 (each .0);
+    }
+  where
+    component-cap : {x : Float} → Component x → Cap x 0
+    component-cap part = record { own = part .own; size = omega (arith, part .small) }
 
 -- ---- bodies that frames make
 at-origin-caps : AtPlace at-origin
@@ -176,11 +195,10 @@ wall-capped bytes taken =
       skin-taken = caps .1;
     }
 
-pub placed-capped : (body : Body) (bytes : List ℕ) → CappedBody body → transform-in-range (placement-at bytes 2) ≡ true
-    → CappedBody (placed body (placement-at bytes 2))
+pub placed-capped : (body : Body) (xf : B2Transform) → CappedBody body → AtPlace xf → CappedBody (placed body xf)
 unfolding placed skin
-placed-capped body bytes h taken = record {
-  place = placement-caps bytes taken;
+placed-capped body xf h place = record {
+  place = place;
   circle = h .circle;
   outline = h .outline;
   wall = h .wall;

@@ -1,10 +1,12 @@
 -- In every world that frames reach each body has numbers of at most 2^20 m. Assumes nothing.
 use Prim.Native.Nat.{ℕ, zero, suc}
-use mathlib.Core.Bool.{not}
+use mathlib.Core.Path.{_≡_}
+use mathlib.Core.Bool.{true, not}
 use mathlib.Core.List.{List, [], _∷_}
-use lib.Dec.{eqb}
+use lib.Dec.{eqb, ltb}
 use lib.ListN.{getD, set, replicate}
 use borrow.Author.Tests.{eqb-true, not-false}
+use Rattle.floats.specs.declared.b2_math.B2Transform.{B2Transform}
 use Rattle.floats.specs.Ranges.{transform-in-range}
 use Rattle.lines.specs.Fields.{byte-at, points-at, placement-at}
 use Rattle.shape_definitions.specs.Circle.{circle-in-range}
@@ -18,12 +20,15 @@ use Rattle.record_definitions.specs.declared.frame.Change.{Change}
 use Rattle.record_definitions.specs.World.{no-body, blank-outline, blank-body, fresh-world, body-at, pair-at}
 use Rattle.record_definitions.specs.Touch.{tested}
 use Rattle.record_definitions.specs.Frame.{frame-refusal, circle-at, circle-change, outline-change, wall-at}
-use Rattle.record_definitions.specs.Frame.{wall-change, place-change, test-refusal, test-change, change-of-kind, change}
+use Rattle.record_definitions.specs.Frame.{wall-change, placed-at, place-change, largest-turn, turn-at}
+use Rattle.record_definitions.specs.Frame.{turned-placement, turn-change, test-refusal, test-change}
+use Rattle.record_definitions.specs.Frame.{change-of-kind, change}
 use Rattle.record_definitions.specs.Step.{first-place, second-place, changed, change-in, after-frame}
 use Rattle.record_definitions.proofs.Changes.{by-choice}
 use Rattle.record_ranges.proofs.Outlines.{built-radius}
 use Rattle.record_ranges.proofs.Bodies.{CappedBody, blank-capped, circle-capped, outline-capped, wall-capped}
-use Rattle.record_ranges.proofs.Bodies.{placed-capped}
+use Rattle.record_ranges.proofs.Bodies.{placement-caps, turned-caps, placed-capped}
+use Rattle.record_ranges.proofs.Shapes.{AtPlace}
 
 pub record CappedWorld (w : World) : Type 0 where
   pub each : (id : ℕ) → CappedBody (body-at w id)
@@ -41,12 +46,22 @@ module _ (a b : Body) (pair : Pair) (bytes : List ℕ) (capped : CappedBody a) w
       (λ taken. outline-capped bytes (byte-at bytes 2) (eqb-true (built .refusal) accepted taken) (built-radius points))
       (λ not-taken. capped)
 
+  placed-kept : (xf : B2Transform) → (transform-in-range xf ≡ true → AtPlace xf) → Kept (placed-at a pair xf)
+  placed-kept xf place =
+      by-choice Kept (not (transform-in-range xf)) _ _ (λ out. capped)
+      (λ inside. placed-capped a xf capped (place (not-false (transform-in-range xf) inside)))
+
   place-kept : Kept (place-change a pair bytes)
   unfolding place-change
   place-kept =
+      either Kept (eqb (a .kind) no-body) _ _ capped (placed-kept (placement-at bytes 2) (placement-caps bytes))
+
+  turn-kept : Kept (turn-change a pair bytes)
+  unfolding turn-change
+  turn-kept =
       either Kept (eqb (a .kind) no-body) _ _ capped
-      (by-choice Kept (not (transform-in-range (placement-at bytes 2))) _ _ (λ out. capped)
-      (λ inside. placed-capped a bytes capped (not-false (transform-in-range (placement-at bytes 2)) inside)))
+      (either Kept (ltb largest-turn (turn-at bytes 10)) _ _ capped
+      (placed-kept (turned-placement bytes) (turned-caps bytes)))
 
   test-kept : (ida idb : ℕ) → Kept (test-change ida idb a b pair)
   unfolding test-change
@@ -63,7 +78,8 @@ module _ (a b : Body) (pair : Pair) (bytes : List ℕ) (capped : CappedBody a) w
       (either Kept (eqb kind 3) _ _
       (by-choice Kept (eqb (wall-at bytes .refusal) accepted) _ _
       (λ taken. wall-capped bytes (eqb-true (wall-at bytes .refusal) accepted taken)) (λ not-taken. capped))
-      (either Kept (eqb kind 4) _ _ place-kept (test-kept (byte-at bytes 1) (byte-at bytes 2)))))
+      (either Kept (eqb kind 4) _ _ place-kept
+      (either Kept (eqb kind 6) _ _ turn-kept (test-kept (byte-at bytes 1) (byte-at bytes 2))))))
 
   change-kept : Kept (change a b pair bytes)
   unfolding change

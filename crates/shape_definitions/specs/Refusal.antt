@@ -56,3 +56,7 @@ no-shape = 12
 -- a pair not listed
 abbrev pub pair-not-listed : ℕ
 pair-not-listed = 13
+
+-- a turn number above 4,095
+abbrev pub unknown-turn : ℕ
+unknown-turn = 14

@@ -39,3 +39,6 @@ pub const NO_SHAPE: u8 = 12;
 
 // A pair not listed.
 pub const PAIR_NOT_LISTED: u8 = 13;
+
+// A turn number above 4,095.
+pub const UNKNOWN_TURN: u8 = 14;
