@@ -17,6 +17,11 @@ struct Bytes {
         float x = number();
         return b2Vec2(x, number());
     }
+    uint32_t half() {
+        uint32_t w = (uint32_t)at[0] << 8 | at[1];
+        at += 2;
+        return w;
+    }
 };
 
 struct Line {

@@ -2,6 +2,7 @@
 // Asserts of the library are refusals 1, 3, 4, 5 and 8; the others are tested here.
 #pragma once
 #include "box2d_bytes.hpp"
+#include "box2d_headings.hpp"
 #include "box2d_words.hpp"
 
 namespace {
@@ -120,6 +121,20 @@ struct Program {
         to.q.c = in.number();
         if (!within(to.p) || !within(to.q.s, 1.0f) || !within(to.q.c, 1.0f)) return refused(6);
         bodies[id].place = to;
+        return accepted();
+    }
+
+    // 06 id x y turn number
+    size_t head(const uint8_t *frame) {
+        Body &body = bodies[frame[1]];
+        Bytes in{frame + 2};
+        b2Vec2 p = in.vec();
+        uint32_t number = in.half();
+        if (body.kind == NOTHING) return refused(12);
+        if (number >= TURN) return refused(14);
+        if (!within(p)) return refused(6);
+        body.place.p = p;
+        body.place.q = heading(number);
         return accepted();
     }
 

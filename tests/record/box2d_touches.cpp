@@ -1,5 +1,5 @@
-// A second `touches` over Box2D 2.4.1, written from document 01's "The touch record": box2d_touches on a whole input,
-// and box2d_export. A kind of frame is a row of KINDS and a member of Program.
+// A second `touches` over Box2D 2.4.1, written from document 01's "The touch record" and document 02's frame 06:
+// box2d_touches on a whole input, and box2d_export. A kind of frame is a row of KINDS and a member of Program.
 #include "box2d_frames.hpp"
 
 namespace {
@@ -19,6 +19,7 @@ const FrameKind KINDS[] = {
     {3, [](uint32_t flag) -> size_t { return flag == 0 ? 19 : flag == 1 ? 35 : 0; }, 1, &Program::wall},
     {4, [](uint32_t) -> size_t { return 18; }, 1, &Program::place},
     {5, [](uint32_t) -> size_t { return 3; }, 2, &Program::test},
+    {6, [](uint32_t) -> size_t { return 12; }, 1, &Program::head},
 };
 
 // One frame; the answer's bytes are in `answer`, so many. 10, 11, then its kind's own refusals.

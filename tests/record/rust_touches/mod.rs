@@ -1,6 +1,7 @@
-//! A second `touches` over the unmodified Rust, written from document 01's "The touch record" and from nothing of ours:
-//! what the program prints for an input, and the export. The Rust's panics are refusals 3, 4, 5 and 8; 1, 2, 6, 9 and
-//! 10 to 13 are tested here. A kind of frame is a row of KINDS and a function in the file of its like.
+//! A second `touches` over the unmodified Rust, written from document 01's "The touch record", from document 02's frame
+//! 06 and from nothing of ours: what the program prints for an input, and the export. The Rust's panics are refusals 3,
+//! 4, 5 and 8; 1, 2, 6, 9 and 10 to 14 are tested here. A kind of frame is a row of KINDS and a function in the file of
+//! its like.
 mod placing;
 mod shapes;
 mod testing;
@@ -23,12 +24,13 @@ struct Kind {
     run: fn(&mut Program, &[u8]) -> Answer,
 }
 
-const KINDS: [Kind; 5] = [
+const KINDS: [Kind; 6] = [
     Kind { kind: 1, length: |_| Some(14), ids: 1, run: shapes::circle },
     Kind { kind: 2, length: |count| Some(3 + 8 * count? as usize), ids: 1, run: shapes::outline },
     Kind { kind: 3, length: |flag| [19, 35].get(flag? as usize).copied(), ids: 1, run: shapes::wall },
     Kind { kind: 4, length: |_| Some(18), ids: 1, run: placing::place },
     Kind { kind: 5, length: |_| Some(3), ids: 2, run: testing::test },
+    Kind { kind: 6, length: |_| Some(12), ids: 1, run: placing::head },
 ];
 
 /// The kind of a frame and its length by it.
