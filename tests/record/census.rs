@@ -1,6 +1,10 @@
 //! What the heats of a run had in them, counted from inputs and the right outputs.
 use crate::kinds::{kind, KINDS};
+use crate::ranges::SIZE;
 use crate::support::Tally;
+
+/// A quarter turn in parts of a turn.
+const QUARTER: usize = 1024;
 
 const STATES: [&str; 4] = ["null", "add", "persist", "remove"];
 
@@ -43,6 +47,9 @@ pub fn add(input: &[u8], output: &[u8], tally: &mut Tally) {
         match (byte(answer, 0), kind(byte(line, 0))) {
             (0xff, Some(row)) if byte(answer, 1) != 10 => {
                 tally.met(&format!("{} refusal {}", row.name, byte(answer, 1)));
+                if row.name == "heading" {
+                    refused_heading(line, byte(answer, 1), tally);
+                }
             }
             (0xff, _) => tally.met(&format!("refusal {}", byte(answer, 1))),
             (0, Some(row)) => {
@@ -55,6 +62,8 @@ pub fn add(input: &[u8], output: &[u8], tally: &mut Tally) {
                     if row.name == "outline" {
                         tally.met(&format!("outline of {} points", byte(line, 2)));
                     }
+                } else if row.name == "heading" {
+                    body.turn = heading(number(line), tally);
                 } else {
                     body.turn = turn(line);
                 }
@@ -67,13 +76,49 @@ pub fn add(input: &[u8], output: &[u8], tally: &mut Tally) {
     }
 }
 
+fn float(line: &[u8], at: usize) -> f32 {
+    f32::from_bits((at..at + 4).fold(0, |bits, i| bits << 8 | byte(line, i) as u32))
+}
+
 /// How a placement turns, by its sine and cosine.
 fn turn(line: &[u8]) -> &'static str {
-    let float = |at: usize| f32::from_bits((at..at + 4).fold(0, |bits, i| bits << 8 | byte(line, i) as u32));
-    match (float(10), float(14)) {
+    match (float(line, 10), float(line, 14)) {
         (s, c) if s == 0.0 && c == 1.0 => "unturned",
         (s, c) if s == 0.0 || c == 0.0 => "quarter-turned",
         _ => "turned",
+    }
+}
+
+/// The turn number of a heading.
+fn number(line: &[u8]) -> usize {
+    byte(line, 10) << 8 | byte(line, 11)
+}
+
+/// How a turn number turns; counts its quarter, and quarter turns and their neighbours.
+fn heading(number: usize, tally: &mut Tally) -> &'static str {
+    tally.met(&format!("heading in quarter {}", number / QUARTER));
+    match number % QUARTER {
+        0 => tally.met(&format!("heading at quarter turn {}", number / QUARTER)),
+        1 => tally.met(&format!("heading after quarter turn {}", number / QUARTER)),
+        1023 => tally.met(&format!("heading before quarter turn {}", (number / QUARTER + 1) % 4)),
+        _ => {}
+    }
+    match (number, number % QUARTER) {
+        (0, _) => "unturned",
+        (_, 0) => "quarter-turned",
+        _ => "turned",
+    }
+}
+
+/// Counts a heading that earns several refusals by the one that comes first.
+fn refused_heading(line: &[u8], refusal: usize, tally: &mut Tally) {
+    let above = number(line) >= 4 * QUARTER;
+    let beyond = [2, 6].iter().any(|at| !(float(line, *at).abs() <= SIZE));
+    if refusal == 12 && above {
+        tally.met("heading 12 before 14");
+    }
+    if refusal == 14 && beyond {
+        tally.met("heading 14 before 6");
     }
 }
 
@@ -110,7 +155,11 @@ fn tested(line: &[u8], answer: &[u8], bodies: &[Stands; 8], tally: &mut Tally) {
 /// Counts a line by what is odd about it.
 fn damage(line: &[u8], tally: &mut Tally) {
     let has = |test: fn(&u8) -> bool| line.iter().any(test);
-    let odd: [(&str, bool); 9] = [
+    let heading = |length: fn(usize) -> bool| line.starts_with(b"06") && length(line.len());
+    let odd: [(&str, bool); 12] = [
+        ("heading of 11 bytes", heading(|length| length == 22)),
+        ("heading of 13 bytes", heading(|length| length == 26)),
+        ("heading of odd digits", heading(|length| length % 2 == 1)),
         ("empty line", line.is_empty()),
         ("CR", has(|c| *c == b'\r')),
         ("NUL", has(|c| *c == 0)),
@@ -153,6 +202,9 @@ pub fn wanted() -> Vec<String> {
     }
     // tests are counted by their pairs
     list.extend(KINDS.iter().filter(|row| row.name != "test").map(|row| format!("{} accepted", row.name)));
+    for place in ["in quarter", "at quarter turn", "after quarter turn", "before quarter turn"] {
+        list.extend((0..4).map(|quarter| format!("heading {place} {quarter}")));
+    }
     let others = [
         "in one piece",
         "in several pieces",
@@ -164,6 +216,11 @@ pub fn wanted() -> Vec<String> {
         "remove",
         "parted",
         "more than 20 touches",
+        "heading 12 before 14",
+        "heading 14 before 6",
+        "heading of 11 bytes",
+        "heading of 13 bytes",
+        "heading of odd digits",
         "empty line",
         "CR",
         "NUL",

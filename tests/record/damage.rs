@@ -55,14 +55,15 @@ impl Heat<'_> {
         let mut line = hex(&(kind.any)(random, id));
         let place = random.below(line.len() as u64) as usize;
         let odd = random.of(b"/:@`gGAFxz \t\r\0\x0b\x7f\x80\xc3\xff");
-        match random.below(14) {
+        match random.below(17) {
             0 => line[place] = odd,
             1 => line.insert(place, odd),
             2 => line.make_ascii_uppercase(),
             3 => line.push(b'\r'),
             4 => drop(line.remove(place)),
             5 => line.truncate(place),
-            6 => line.extend(b"00"),
+            6 | 13 => line.extend(b"00"),
+            14 | 15 => line.truncate(line.len() - 2),
             7 => line = Vec::new(),
             8 => line[0..2].copy_from_slice(random.of(&[b"00", b"0b", b"0f", b"10", b"7f", b"ee", b"ff"])),
             9 if kind.third => line[4..6].copy_from_slice(random.of(&[b"02", b"09", b"10", b"ff"])),
@@ -76,7 +77,7 @@ impl Heat<'_> {
             }
             11 => {
                 line = vec![b'0'; random.of(&[133, 134, 135, 136, 150, 166, 300])];
-                line[1] = random.of(b"12345");
+                line[1] = random.of(b"123456");
             }
             12 => line = (0..random.below(200)).map(|_| random.next() as u8).filter(|c| *c != b'\n').collect(),
             _ => line = vec![random.next() as u8 | 1; if random.once_in(8) { 100_000 } else { 5000 }],

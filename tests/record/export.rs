@@ -1,6 +1,7 @@
 //! Our export beside the second programs': good and damaged frames, outputs of 0 to 64 bytes. Both slices end or begin
 //! at pages that cannot be read or written.
 use crate::heats::export_frames;
+use crate::robots::{heading_frame, turn_number};
 use crate::second;
 use crate::support::{Random, Tally};
 
@@ -53,7 +54,7 @@ impl Guarded {
     }
 }
 
-const DAMAGES: [&str; 9] = [
+const DAMAGES: [&str; 10] = [
     "whole",
     "cut short",
     "a byte too many",
@@ -63,6 +64,7 @@ const DAMAGES: [&str; 9] = [
     "frames in another order",
     "a number changed",
     "any bytes",
+    "a heading in a placement's place",
 ];
 
 /// Where the slices are: at the beginning or the end of their pages.
@@ -75,7 +77,7 @@ fn input(random: &mut Random) -> (Vec<u8>, &'static str) {
     let which = random.below(4) as usize;
     match damage {
         3 => frames[which][1] = random.of(&[0, 1, 2, 7, 8, 255]),
-        4 => frames[which][0] = random.of(&[0, 1, 2, 3, 4, 5, 255]),
+        4 => frames[which][0] = random.of(&[0, 1, 2, 3, 4, 5, 6, 255]),
         5 => frames[2 * (which / 2)][2] = random.of(&[0, 1, 2, 3, 7, 8, 9, 255]),
         6 => frames.swap(which, random.below(4) as usize),
         7 => {
@@ -85,6 +87,10 @@ fn input(random: &mut Random) -> (Vec<u8>, &'static str) {
             let any = f32::from_bits(random.next() as u32);
             let bad = random.of(&[f32::NAN, f32::INFINITY, 1048576.0, 1048576.1, -1.5, 1.0, 0.0, any]);
             frame[place..place + 4].copy_from_slice(&bad.to_bits().to_be_bytes());
+        }
+        9 => {
+            let placement = 2 * (which / 2) + 1;
+            frames[placement] = heading_frame((which / 2) as u8, [0.0, 0.0], turn_number(random));
         }
         _ => {}
     }

@@ -2,7 +2,7 @@
 //! old ids, frames that are refused, and damaged lines. Bodies of one heat share a size, now and then an extreme one.
 use crate::generators::{grid, unit};
 use crate::ranges::SIZE;
-use crate::robots::{angle, body, feature, hex, outline, place_frame, point, shape_frame, Body, Kind};
+use crate::robots::{angle, body, feature, hex, outline, place_frame, point, shape_frame, turn_number, Body, Kind, TURN};
 use crate::support::Random;
 
 pub const IDS: usize = 8;
@@ -53,10 +53,17 @@ impl Heat<'_> {
         }
     }
 
+    /// By sine and cosine, or by a turn number.
     fn turn(&mut self, id: usize) {
         let turn = angle(self.random);
+        let number = turn_number(self.random);
+        let by_number = self.random.once_in(2);
         if let Some(body) = &mut self.bodies[id] {
-            body.turn = turn;
+            if by_number {
+                body.head_to(number);
+            } else {
+                body.turn_to(turn);
+            }
         }
     }
 
@@ -67,10 +74,13 @@ impl Heat<'_> {
         let (dx, dy) = (unit(self.random) * step, unit(self.random) * step);
         let steps = [grid(self.random, 3), grid(self.random, 3)];
         let [on_grid, roll] = [self.scale == 0.0, self.random.once_in(3)];
+        let parts = self.random.of(&[1, 2, 30, TURN / 4, TURN - 1]);
         if let Some(body) = &mut self.bodies[id] {
-            if roll && !on_grid {
+            if let (true, Some(number)) = (roll, body.number) {
+                body.head_to((number + parts) % TURN);
+            } else if roll && !on_grid {
                 let (s, c) = ((body.turn[0] as f64).atan2(body.turn[1] as f64) + dx as f64 / size as f64).sin_cos();
-                body.turn = [s as f32, c as f32];
+                body.turn_to([s as f32, c as f32]);
             } else {
                 let moved = if on_grid { steps } else { [dx, dy] };
                 (0..2).for_each(|i| body.at[i] = (body.at[i] + moved[i]).clamp(-SIZE, SIZE));
@@ -213,7 +223,8 @@ pub fn export_frames(random: &mut Random) -> [Vec<u8>; 4] {
     for id in 0..2 {
         let points = outline(heat.random, scale);
         let at = if heat.random.once_in(2) { [0.0, 0.0] } else { point(heat.random, scale) };
-        heat.bodies[id] = Some(Body { kind: Kind::Outline, points, radius: 0.0, at, turn: angle(heat.random) });
+        let turn = angle(heat.random);
+        heat.bodies[id] = Some(Body { kind: Kind::Outline, points, radius: 0.0, at, turn, number: None });
     }
     if heat.random.below(5) > 0 {
         heat.meet(0, 1);

@@ -3,7 +3,8 @@
 //! moved by it, a place in the heats.
 use crate::generators::float;
 use crate::ranges::SIZE;
-use crate::robots::{angle, body_of, floats, place_frame, point, shape_frame, Kind as Shape};
+use crate::robots::{angle, body_of, floats, heading_frame, place_frame, point, shape_frame, turn_number};
+use crate::robots::{Kind as Shape, TURN};
 use crate::support::Random;
 
 pub struct Kind {
@@ -22,7 +23,7 @@ pub struct Kind {
     pub refusals: &'static [u8],
 }
 
-pub static KINDS: [Kind; 5] = [
+pub static KINDS: [Kind; 6] = [
     Kind {
         kind: 1,
         name: "circle",
@@ -76,6 +77,16 @@ pub static KINDS: [Kind; 5] = [
         refused: test,
         weight: 2,
         refusals: &[2, 8, 11, 12, 13],
+    },
+    Kind {
+        kind: 6,
+        name: "heading",
+        makes_shape: false,
+        third: false,
+        any: |random, id| heading_frame(id, point(random, 1.0), turn_number(random)),
+        refused: heading,
+        weight: 6,
+        refusals: &[6, 11, 12, 14],
     },
 ];
 
@@ -154,6 +165,17 @@ fn place(random: &mut Random, id: u8) -> Vec<u8> {
     let place = random.below(4) as usize;
     list[place] = if place < 2 { bad(random) } else { random.of(&[1.0000001, -1.0000001, f32::NAN, 2.0]) };
     floats(&[4, id], &list)
+}
+
+/// 14 for a number above 4,095, 6 for the place, both, or neither; 12 before them where no shape is.
+fn heading(random: &mut Random, id: u8) -> Vec<u8> {
+    let (mut at, good, any) = (point(random, 1.0), turn_number(random), random.next() as u16);
+    let above = random.of(&[TURN, TURN + 1, 2 * TURN - 1, 1 << 15, u16::MAX, any | TURN, good.swap_bytes()]);
+    let number = if random.once_in(2) { above } else { good };
+    if random.once_in(2) {
+        at[random.below(2) as usize] = bad(random);
+    }
+    heading_frame(id, at, number)
 }
 
 /// 13 for a body against itself; 11 of either id.

@@ -114,6 +114,16 @@ fn frame(head: &[u8], numbers: &[f32]) -> String {
     numbers.iter().fold(head, |text, x| text + &format!("{:08x}", x.to_bits())) + "\n"
 }
 
+/// A placement at some quarter turns: by a turn number, or by sine and cosine.
+fn place(id: u8, at: Point, turn: u64, by_number: bool) -> String {
+    if by_number {
+        let at = frame(&[6, id], &[metres(at.0), metres(at.1)]);
+        return at.replace('\n', &format!("{:04x}\n", 1024 * turn));
+    }
+    let (s, c) = [(0.0, 1.0), (1.0, 0.0), (0.0, -1.0), (-1.0, 0.0)][turn as usize];
+    frame(&[4, id], &[metres(at.0), metres(at.1), s, c])
+}
+
 fn metres(units: i64) -> f32 {
     units as f32 / 256.0
 }
@@ -144,8 +154,7 @@ fn pair(random: &mut Random) -> (Vec<Point>, Vec<Point>, String) {
     for (id, points, turn, at) in [(0, &a, turn_a, at), (1, &b, turn_b, (0, 0))] {
         let list: Vec<f32> = points.iter().flat_map(|p| [metres(p.0), metres(p.1)]).collect();
         text += &frame(&[2, id, points.len() as u8], &list);
-        let (s, c) = [(0.0, 1.0), (1.0, 0.0), (0.0, -1.0), (-1.0, 0.0)][turn as usize];
-        text += &frame(&[4, id], &[metres(at.0), metres(at.1), s, c]);
+        text += &place(id, at, turn, random.once_in(2));
     }
     text += "050001\n050100\n";
     (hull(&turned(&a, turn_a, at)), hull(&turned(&b, turn_b, (0, 0))), text)

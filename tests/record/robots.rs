@@ -3,6 +3,8 @@ use crate::generators::{grid, points, unit};
 use crate::support::Random;
 
 const SKIN: f64 = 0.01;
+/// A turn's parts, by which it is numbered.
+pub const TURN: u16 = 4096;
 
 #[derive(Clone, Copy, PartialEq)]
 pub enum Kind {
@@ -12,7 +14,7 @@ pub enum Kind {
 }
 
 /// A shape by its points (a circle's centre, an outline's list, a wall's ends, four if it is one-sided), and where it
-/// is.
+/// is: `turn` is sine and cosine, those of `number` where it is turned by a turn number, to about a last bit.
 #[derive(Clone)]
 pub struct Body {
     pub kind: Kind,
@@ -20,6 +22,7 @@ pub struct Body {
     pub radius: f32,
     pub at: [f32; 2],
     pub turn: [f32; 2],
+    pub number: Option<u16>,
 }
 
 impl Body {
@@ -39,6 +42,16 @@ impl Body {
         } else {
             &self.points
         }
+    }
+
+    /// Turns it by sine and cosine, or by a turn number.
+    pub fn turn_to(&mut self, turn: [f32; 2]) {
+        (self.turn, self.number) = (turn, None);
+    }
+
+    pub fn head_to(&mut self, number: u16) {
+        let (s, c) = (number as f64 * std::f64::consts::TAU / TURN as f64).sin_cos();
+        (self.turn, self.number) = ([s as f32, c as f32], Some(number));
     }
 
     pub fn turned(&self, p: [f64; 2]) -> [f64; 2] {
@@ -65,7 +78,14 @@ pub fn shape_frame(id: u8, body: &Body) -> Vec<u8> {
 }
 
 pub fn place_frame(id: u8, body: &Body) -> Vec<u8> {
-    floats(&[4, id], &[body.at[0], body.at[1], body.turn[0], body.turn[1]])
+    match body.number {
+        Some(number) => heading_frame(id, body.at, number),
+        None => floats(&[4, id], &[body.at[0], body.at[1], body.turn[0], body.turn[1]]),
+    }
+}
+
+pub fn heading_frame(id: u8, at: [f32; 2], number: u16) -> Vec<u8> {
+    [floats(&[6, id], &at), number.to_be_bytes().to_vec()].concat()
 }
 
 fn number(random: &mut Random, scale: f32) -> f32 {
@@ -133,7 +153,7 @@ pub fn body_of(random: &mut Random, scale: f32, kind: Kind) -> Body {
         Kind::Wall => wall(random, scale),
     };
     let radius = if random.once_in(8) { 0.0 } else { number(random, scale).abs() };
-    Body { kind, points, radius, at: [0.0, 0.0], turn: [0.0, 1.0] }
+    Body { kind, points, radius, at: [0.0, 0.0], turn: [0.0, 1.0], number: None }
 }
 
 pub fn angle(random: &mut Random) -> [f32; 2] {
@@ -143,6 +163,16 @@ pub fn angle(random: &mut Random) -> [f32; 2] {
         2 => random.of(&[[1.0, 0.0], [-1.0, 0.0], [0.0, -1.0], [-0.0, 1.0]]),
         3 => [unit(random), unit(random)],
         _ => [s as f32, c as f32],
+    }
+}
+
+/// A turn number: any, an exact quarter turn, or beside one.
+pub fn turn_number(random: &mut Random) -> u16 {
+    let quarter = random.below(4) as u16 * (TURN / 4);
+    match random.below(6) {
+        0 => quarter,
+        1 => (quarter + random.of(&[1, TURN - 1])) % TURN,
+        _ => random.below(TURN as u64) as u16,
     }
 }
 
