@@ -1,4 +1,4 @@
-/* Replays stored answers: replay FILE COUNT. A line of the file is a request and its answer, words of eight
+/* Replays answers: replay FILE COUNT. A line of the file is a request and its answer, words of eight
    hexadecimal digits with ' : ' between the two; lines that begin with '#' are comments, and a line of another form
    is an error. The file must hold COUNT answers. Every answer is asked for with an output of just its length, a
    longer one and one a byte short; what is not written must keep its bytes. An empty answer is that of a malformed
@@ -73,6 +73,6 @@ int main(int argc, char **argv) {
     fclose(file);
     unsigned long pinned = strtoul(argv[2], NULL, 10);
     if (answers != pinned) printf("  %s: %lu answers, not %s\n", argv[1], answers, argv[2]);
-    printf("%lu stored answers, %lu differences\n", answers, differences);
+    printf("%lu answers, %lu differences\n", answers, differences);
     return answers == 0 || answers != pinned || differences > 0;
 }
