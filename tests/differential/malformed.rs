@@ -2,7 +2,7 @@
 //! nothing written.
 use crate::row::Row;
 use crate::support::{calls_bytes, to_bytes, to_words, Random, Tally};
-use crate::table::TABLE;
+use crate::table::{HEADING, TABLE};
 
 const SPOILS: [&str; 10] = [
     "whole",
@@ -17,9 +17,14 @@ const SPOILS: [&str; 10] = [
     "n that does not fit the length",
 ];
 
+/// Every row, the one that no reference has among them.
+fn rows() -> impl Iterator<Item = &'static Row> {
+    TABLE.iter().chain([&HEADING])
+}
+
 /// The first row of a number.
 fn row_of(entry: u32) -> Option<&'static Row> {
-    TABLE.iter().find(|row| row.entry == entry)
+    rows().find(|row| row.entry == entry)
 }
 
 /// The words of the answer to these bytes, where they are a request.
@@ -51,7 +56,7 @@ fn spoiled(row: &Row, spoil: usize, random: &mut Random) -> Option<Vec<u8>> {
         3 => drop(words.pop()),
         7 => {
             let entry = words[0];
-            words[0] = [0, 17, entry << 24, entry | 1 << 8, entry | 1 << 31, random.next() as u32 | 32]
+            words[0] = [0, 18, entry << 24, entry | 1 << 8, entry | 1 << 31, random.next() as u32 | 32]
                 [random.below(6) as usize];
         }
         8 => {
@@ -95,9 +100,9 @@ pub fn run(cases: u64, seed: u64) -> bool {
     let mut tally = Tally::new("malformed requests and short outputs");
     let mut wanted: Vec<String> = Vec::new();
     for spoil in 0..SPOILS.len() {
-        for row in TABLE {
+        for row in rows() {
             let ours = row_of(row.entry).is_some();
-            for _ in 0..1 + cases / (2 * (SPOILS.len() * TABLE.len()) as u64) {
+            for _ in 0..1 + cases / (2 * (SPOILS.len() * rows().count()) as u64) {
                 let input = match spoiled(row, spoil, &mut random) {
                     Some(input) => input,
                     None => break,
@@ -134,7 +139,7 @@ pub fn run(cases: u64, seed: u64) -> bool {
 pub fn stored(cases: u64, random: &mut Random) -> Vec<Vec<u32>> {
     let mut list = Vec::new();
     while list.len() < cases as usize {
-        let row = &TABLE[list.len() % TABLE.len()];
+        let row = rows().nth(list.len() % rows().count()).expect("a row");
         let spoil = random.of(&[2, 3, 7, 8, 9]);
         if let Some(input) = spoiled(row, spoil, random).filter(|input| input.len() >= 4) {
             assert!(answer_words(&input).is_none());

@@ -113,6 +113,18 @@ const ROOT: Row = Row {
     ..BOX
 };
 
+/// The heading of a turn number, which no reference has: tests/programs/sines compares it with an outside program; here
+/// it is only asked for in requests that are none.
+pub const HEADING: Row = Row {
+    name: "heading",
+    entry: 17,
+    generate: |random| vec![17, random.below(1 << 13) as u32],
+    reachable: &[0, 14],
+    length: 2,
+    record: 2,
+    ..ROOT
+};
+
 pub const TABLE: &[Row] = &[
     OUTLINE,
     Row {
