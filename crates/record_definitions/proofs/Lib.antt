@@ -30,6 +30,7 @@ pub mod ExportSteps
 pub mod ExportOutcome
 pub mod ExportTheorem
 pub mod Heats
+pub mod TurnFrames
 pub mod TableCases
 pub mod Controls
 pub mod MarkedCases

@@ -8,3 +8,4 @@ pub mod Reading
 pub mod Export
 pub mod Heat
 pub mod ExportLaws
+pub mod TurnFrames
