@@ -1,5 +1,6 @@
 //! The touch record's speed: frames a second of our program, of the second program over the Rust and of the one over
-//! Box2D 2.4.1, on one heat sent over and over, and ns a call of the export. usage: record OURS BOX2D HEAT [ROUNDS]
+//! Box2D 2.4.1, on one heat sent over and over and on placements of one body, by frame 04 and by frame 06; and ns a
+//! call of the export. usage: record OURS BOX2D HEAT [ROUNDS]
 //! Programs are run as they are used, from a file to a file, and must print the same; then ROUNDS times to nowhere, in
 //! turns. A figure is the least processor time of them, the system's for it included. `record touches` is the second
 //! program over the Rust.
@@ -46,8 +47,7 @@ fn run(program: &[&str], input: &str, output: &str) -> f64 {
     spent() - start
 }
 
-fn programs(ours: &str, box2d: &str, heat: &str, rounds: usize) {
-    let once = std::fs::read(heat).expect("the heat");
+fn programs(ours: &str, box2d: &str, name: &str, once: &[u8], rounds: usize) {
     let frames = once.iter().filter(|c| **c == b'\n').count();
     let times = FRAMES.div_ceil(frames);
     let folder = std::env::temp_dir().join(format!("record-bench-{}", std::process::id()));
@@ -70,7 +70,7 @@ fn programs(ours: &str, box2d: &str, heat: &str, rounds: usize) {
         }
     }
     std::fs::remove_dir_all(&folder).expect("the folder");
-    println!("{heat}, {times} times: {} frames", frames * times);
+    println!("{name}, {times} times: {} frames", frames * times);
     for ((name, _), seconds) in contestants.iter().zip(best) {
         let rate = (frames * times) as f64 / seconds;
         let ns = 1e9 / rate;
@@ -83,6 +83,25 @@ fn programs(ours: &str, box2d: &str, heat: &str, rounds: usize) {
 
 fn number(frame: &mut Vec<u8>, x: f32) {
     frame.extend(x.to_bits().to_be_bytes());
+}
+
+/// A box, and a placement of it at each turn number, by the number or by its sine and cosine.
+fn placements(by_number: bool) -> Vec<u8> {
+    let mut frames = vec![vec![2, 0, 4]];
+    [-1.0, -1.0, 1.0, -1.0, 1.0, 1.0, -1.0, 1.0].iter().for_each(|x| number(&mut frames[0], *x));
+    for turn in 0..4096u16 {
+        let mut frame = vec![if by_number { 6 } else { 4 }, 0];
+        [turn as f32 / 1024.0, 0.25].iter().for_each(|x| number(&mut frame, *x));
+        if by_number {
+            frame.extend(turn.to_be_bytes());
+        } else {
+            let (s, c) = (turn as f64 * std::f64::consts::TAU / 4096.0).sin_cos();
+            [s as f32, c as f32].iter().for_each(|x| number(&mut frame, *x));
+        }
+        frames.push(frame);
+    }
+    let line = |frame: &Vec<u8>| frame.iter().map(|b| format!("{b:02x}")).collect::<String>() + "\n";
+    frames.iter().map(line).collect::<String>().into_bytes()
 }
 
 /// The four frames of two outlines with so many corners each, overlapping by a little; the last one moves with i.
@@ -145,6 +164,12 @@ fn main() {
     }
     assert!(words.len() >= 3, "usage: record OURS BOX2D HEAT [ROUNDS]");
     let rounds = words.get(3).map_or(10, |word| word.parse().expect("a number"));
-    programs(&words[0], &words[1], &words[2], rounds);
+    let heat = std::fs::read(&words[2]).expect("the heat");
+    let inputs = [
+        (words[2].as_str(), heat),
+        ("a box placed at each turn number by frame 04", placements(false)),
+        ("a box placed at each turn number by frame 06", placements(true)),
+    ];
+    inputs.iter().for_each(|(name, once)| programs(&words[0], &words[1], name, once, rounds));
     [3, 4, 8].iter().for_each(|corners| exports(*corners, 5 * rounds));
 }
