@@ -1,7 +1,7 @@
 # What the suites share, and the commands beside them. suites/ has the five suites that the test command runs; checks/
 # is what the first of them asks of the pages and the crates, programs/ the second's programs, differential/ the third's
 # entries and comparison, record/ the fourth's heats and second programs, shared/ what several of them use, commands/
-# the fifth's hosts, pipes and scratch clone. oracle/ builds the two references; stored/ has answers on which they agree.
+# the fifth's hosts, pipes and scratch clone. oracle/ builds the two references; stored/ has answers of both.
 # Sourced; the working folder becomes the repository's root. A check prints `ok: NAME` or `FAILED: NAME: why`. Status 3
 # of a command is "not at hand", used only where the papers' folder is absent or the package registry cannot be reached;
 # every other status but 0 is a failure.
