@@ -31,6 +31,7 @@ pub mod ExportOutcome
 pub mod ExportTheorem
 pub mod Heats
 pub mod TurnFrames
+pub mod TurnCases
 pub mod TableCases
 pub mod Controls
 pub mod MarkedCases
