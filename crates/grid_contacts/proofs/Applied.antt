@@ -1,7 +1,7 @@
 -- The second sentence on the witnesses, whatever the manifold and the world record held before: its hypotheses are met,
 -- points are reported over a face of A and over a face of B, one and two of them, with the other outline turned by each
--- quarter; one square keeps another off. And two sentences near it that are false: the distance from another face than
--- the one chosen, and the point carried by the reference's placement. Assumes nothing.
+-- quarter, and by a turn number; one square keeps another off. And two sentences near it that are false: the distance
+-- from another face than the one chosen, and the point carried by the reference's placement. Assumes nothing.
 use mathlib.Core.Path.{_≡_, refl, sym, subst}
 use mathlib.Core.Bool.{Bool, not}
 use mathlib.Core.List.{List}
@@ -21,21 +21,24 @@ use Rattle.floats.specs.declared.b2_math.B2Transform.{B2Transform}
 use Rattle.shape_definitions.specs.declared.b2_polygon_shape.B2polygonShape.{B2polygonShape}
 use Rattle.contact_definitions.specs.declared.b2_collision.B2manifold.{B2manifold}
 use Rattle.contact_definitions.specs.declared.b2_collision.B2worldManifold.{B2worldManifold}
+use Rattle.headings.proofs.Theorem.{quarter-turns}
 use Rattle.grid.specs.Grid.{value-point}
 use Rattle.grid.specs.Demand3.{outline-from}
 use Rattle.grid.proofs.Controls.{points, square, grid-list, skinned, computed}
-use Rattle.grid_contacts.specs.Placement.{GridPlacement, carried, placed-corners}
+use Rattle.grid_contacts.specs.Placement.{unturned, to-left, GridPlacement, carried, placed-corners}
 use Rattle.grid_contacts.specs.Lengths.{exactly, _plus_, point-tolerance, choice-tolerance}
 use Rattle.grid_contacts.specs.Faces.{Face, corner-at, face-at, off-line, squared-length, DistanceAbove}
 use Rattle.grid_contacts.specs.Faces.{EveryFace, SeparationAtMost, NearFace, NearBoundary}
 use Rattle.grid_contacts.specs.SecondSentence.{reach, KeepsOff, Reported, by-face-a, by-face-b, SecondSentenceOf}
 use Rattle.grid_contacts.specs.SecondSentence.{distance-least, NearDistance, contact-point, separation-at}
+use Rattle.grid_contacts.specs.TurnNumbers.{by-turn-number}
 use Rattle.grid_contacts.proofs.Witnesses.{built, triangle, square-outline, triangle-outline, here, off, answer}
-use Rattle.grid_contacts.proofs.Witnesses.{world-answer, beside, upper, corner, depth}
+use Rattle.grid_contacts.proofs.Witnesses.{world-answer, beside, beside-left, upper, corner, depth}
 use Rattle.grid_contacts.proofs.Witnesses.{touches, here-placed, beside-placed, left-placed, about-placed}
 use Rattle.grid_contacts.proofs.Witnesses.{right-placed, off-placed, grid-placed}
 use Rattle.grid_contacts.proofs.OffBoundary.{far-left}
 use Rattle.grid_contacts.proofs.Theorem.{second-sentence}
+use Rattle.grid_contacts.proofs.TurnNumbers.{quarter-turn-numbers}
 
 -- ---- d / √t is above a / b, by a computed test
 abbrev beyond : Z → ℕ → Z → ℕ → Bool
@@ -94,6 +97,22 @@ module _ (old : B2manifold) (old-world : B2worldManifold) where
 
   reported-right : ReportedOf square-outline square-outline here-placed right-placed
   reported-right = two-squares right-placed (touches old .two-turned-right)
+
+  -- the first unturned and the second to the left, by the turn numbers 0 and 1,024
+  abbrev first-turned : GridPlacement (by-turn-number (here .p) unturned)
+  first-turned = quarter-turn-numbers .placement unturned (here-placed .position)
+
+  abbrev second-turned : GridPlacement (by-turn-number (beside-left .p) to-left)
+  second-turned = quarter-turn-numbers .placement to-left (left-placed .position)
+
+  reported-by-numbers : ReportedOf square-outline square-outline first-turned second-turned
+  reported-by-numbers =
+      subst (λ (A : B2polygonShape). SecondSentenceOf A A first-turned second-turned old old-world)
+      (built .square-built)
+      (quarter-turn-numbers .sentence skinned skinned refl refl (points square) (points square) (grid-list square tt)
+      (grid-list square tt) (computed skinned .square-accepted) (computed skinned .square-accepted) unturned to-left
+      (here-placed .position) (left-placed .position) old old-world)
+      .where-reported (rw (quarter-turns .unturned, quarter-turns .to-left, touches old .two-turned-left) (lit< tt))
 
   -- a square and a triangle
   abbrev Sentence : B2polygonShape → B2polygonShape → Type 0

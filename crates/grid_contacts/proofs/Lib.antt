@@ -27,6 +27,7 @@ pub mod Ways
 pub mod Sentence
 pub mod Largest
 pub mod Theorem
+pub mod TurnNumbers
 pub mod OffBoundary
 pub mod Witnesses
 pub mod Applied

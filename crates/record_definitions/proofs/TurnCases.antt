@@ -95,7 +95,8 @@ pub record TurnCases : Type 0 where
       [])
   -- the theorem: turn number 341 is the frame 04 with these bits, and is taken; 6 of a position; 14, and 12 of the id 0
   pub its-heading : frame-by-heading 1 origin 341 ≡ bytes-of ("040100000000000000003effc5f33f5dc497" ∷ [])
-  pub same-answer : said-of-frame world (frame-by-turn 1 origin 341) ≡ said-of-frame world (frame-by-heading 1 origin 341)
+  pub same-answer : said-of-frame world (frame-by-turn 1 origin 341)
+      ≡ said-of-frame world (frame-by-heading 1 origin 341)
   pub same-world : after-frame world (frame-by-turn 1 origin 341) ≡ after-frame world (frame-by-heading 1 origin 341)
   pub taken : said-of-frame world (frame-by-turn 1 origin 341) .answer ≡ Accepted
   pub turned-so : after-frame world (frame-by-turn 1 origin 341) ≡ turned world (frame-by-turn 1 origin 341)

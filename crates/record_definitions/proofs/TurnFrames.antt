@@ -1,5 +1,5 @@
--- Document 02, request 01: the theorem of frame 06 (`turn-frames`). Frames 04 and 06 end in one definition, `placed-at`,
--- so that what is to be shown is that the bytes are read back. Assumes nothing.
+-- Document 02, request 01: the theorem of frame 06 (`turn-frames`). Frames 04 and 06 end in one definition,
+-- `placed-at`, so what is to be shown is that the bytes are read back. Assumes nothing.
 use Prim.Native.Nat.{ℕ, zero, suc, _+_, _*_, _/_, _%_, _^_, _≤_, _<_}
 use mathlib.Core.Path.{_≡_, refl, sym, ap, ap₂, _∙_}
 use mathlib.Core.Bool.{true, false, not, cond}
@@ -49,7 +49,8 @@ four-bytes n small =
 
 float-back : (x : Float) → T (fits binary32 x) → float-at (float-bytes x) 0 ≡ x
 float-back x x-fits =
-    ap (ofBits binary32) (four-bytes (toBits binary32 x) (toBits-lt binary32 x x-fits)) ∙ ofBits-toBits binary32 x x-fits
+    ap (ofBits binary32) (four-bytes (toBits binary32 x) (toBits-lt binary32 x x-fits))
+    ∙ ofBits-toBits binary32 x x-fits
 
 -- ---- frame 06 is frame 04
 module _ (id : ℕ) (x0 x1 x2 x3 y0 y1 y2 y3 turn : ℕ) (known : turn ≤ largest-turn) where

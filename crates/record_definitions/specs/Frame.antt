@@ -1,7 +1,7 @@
--- Document 01, "The touch record", and document 02, request 01 (frame 06): frames. What a frame makes of the first body
--- that it names and of the pair, and what it answers. Refusals 10 and 11 are of the bytes alone; then each kind of frame
--- has its order in one definition: 12, then 14 or 13, then those of the shape, the placement or the contact. A refusal
--- changes nothing. Definitions only.
+-- Document 01, "The touch record", and document 02, request 01 (frame 06): frames. What a frame makes of the first
+-- body that it names and of the pair, and what it answers. Refusals 10 and 11 are of the bytes alone; then each kind of
+-- frame has its order in one definition: 12, then 14 or 13, then those of the shape, the placement or the contact. A
+-- refusal changes nothing. Definitions only.
 use Prim.Native.Nat.{ℕ, _+_, _*_}
 use mathlib.Core.Bool.{Bool, true, false, not, cond, _&&_, _||_}
 use mathlib.Core.List.{List}

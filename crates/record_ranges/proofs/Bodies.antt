@@ -80,13 +80,15 @@ turn-caps bytes at taken =
           (limit-value one-limit-is (ofBits-fits binary32 (number-at bytes (at + 4))) (subst T (sym (each .1)) tt));
     }
 
-pub placement-caps : (bytes : List ℕ) → transform-in-range (placement-at bytes 2) ≡ true → AtPlace (placement-at bytes 2)
+pub placement-caps : (bytes : List ℕ) → transform-in-range (placement-at bytes 2) ≡ true
+    → AtPlace (placement-at bytes 2)
 unfolding placement-at transform-in-range
 placement-caps bytes taken =
     let each = both (point-in-range (vector-at bytes 2)) (rotation-in-range (rotation-at bytes 10)) taken in
     record { turn = turn-caps bytes 10 (each .1); position = point-caps bytes 2 (each .0) }
 
-pub turned-caps : (bytes : List ℕ) → transform-in-range (turned-placement bytes) ≡ true → AtPlace (turned-placement bytes)
+pub turned-caps : (bytes : List ℕ) → transform-in-range (turned-placement bytes) ≡ true
+    → AtPlace (turned-placement bytes)
 unfolding transform-in-range
 turned-caps bytes taken =
     let number = turn-at bytes 10 in
