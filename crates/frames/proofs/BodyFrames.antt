@@ -1,14 +1,16 @@
 -- What each frame makes of what was read from it: the shape or the placement is taken, or refused. Assumes nothing.
-use Prim.Native.Nat.{ℕ}
-use mathlib.Core.Path.{_≡_, _∙_, ap}
+use Prim.Native.Nat.{ℕ, _≤_, _<_}
+use mathlib.Core.Path.{_≡_, _∙_, ap, ap₂}
 use mathlib.Core.Bool.{true, false}
 use mathlib.Core.List.{List}
 use lib.ListN.{take}
 use lib.Ieee.{Float}
-use borrow.Author.Tests.{eq-eqb, ne-eqb}
+use borrow.Author.Tests.{eq-eqb, ne-eqb, lt-ltb, le-ltb}
 use Rattle.floats.specs.declared.b2_math.B2vec2.{B2vec2}
+use Rattle.floats.specs.declared.b2_math.B2Rot.{B2Rot}
 use Rattle.floats.specs.declared.b2_math.B2Transform.{B2Transform}
 use Rattle.floats.specs.Ranges.{transform-in-range}
+use Rattle.headings.specs.Headings.{heading}
 use Rattle.lines.specs.Fields.{byte-at, float-at, vector-at, points-at, placement-at}
 use Rattle.lines.proofs.Points.{length-points}
 use Rattle.shape_definitions.specs.declared.b2_edge_shape.EdgeAnswer.{EdgeAnswer}
@@ -17,12 +19,13 @@ use Rattle.shape_definitions.specs.declared.b2_polygon_shape.PolygonAnswer.{Pol
 use Rattle.shape_definitions.specs.Circle.{circle-in-range}
 use Rattle.shape_definitions.specs.Polygon.{b2-polygon-shape-set, b2-polygon-shape-set-counted}
 use Rattle.shape_definitions.specs.Refusal.{accepted, shape-out-of-range, placement-out-of-range, no-shape}
+use Rattle.shape_definitions.specs.Refusal.{unknown-turn}
 use Rattle.shape_definitions.proofs.Counted.{counted-whole}
 use Rattle.record_definitions.specs.declared.world.Body.{Body}
 use Rattle.record_definitions.specs.declared.world.Pair.{Pair}
 use Rattle.record_definitions.specs.World.{no-body, blank-outline, circle-body, outline-body, wall-body, placed}
 use Rattle.record_definitions.specs.Frame.{refused, defined, moved, wall-at, circle-change, outline-change, wall-change}
-use Rattle.record_definitions.specs.Frame.{place-change}
+use Rattle.record_definitions.specs.Frame.{place-change, largest-turn, turn-at, turned-placement, turn-change}
 
 module _ (body : Body) (pair : Pair) (bytes : List ℕ) where
   -- ---- 01: p and r were read
@@ -84,3 +87,35 @@ module _ (body : Body) (pair : Pair) (bytes : List ℕ) where
         → refused placement-out-of-range body pair ≡ place-change body pair bytes
     unfolding place-change
     place-refused bad = rw (← xf-is) (simp (ne-eqb (body .kind) no-body some, bad))
+
+  -- ---- 06: the number, the position and the heading were read
+  pub turn-nothing : body .kind ≡ no-body → refused no-shape body pair ≡ turn-change body pair bytes
+  unfolding turn-change
+  turn-nothing none = simp (eq-eqb (body .kind) no-body none)
+
+  module _ (number : ℕ) (number-is : number ≡ turn-at bytes 10) (some : body .kind ≡ no-body → ⊥) where
+    pub turn-unknown : largest-turn < number → refused unknown-turn body pair ≡ turn-change body pair bytes
+    unfolding turn-change
+    turn-unknown above = rw (← number-is) (simp (ne-eqb (body .kind) no-body some, lt-ltb largest-turn number above))
+
+    module _ (p : B2vec2) (q : B2Rot) (p-is : p ≡ vector-at bytes 2) (q-is : q ≡ heading number)
+        (known : number ≤ largest-turn) where
+      abbrev turned : B2Transform
+      turned = record { p = p; q = q }
+
+      turned-is : turned ≡ turned-placement bytes
+      turned-is = ap₂ (λ (p : B2vec2) (q : B2Rot). record { p = p; q = q }) p-is (q-is ∙ ap heading number-is)
+
+      pub turn-taken : transform-in-range turned ≡ true
+          → moved (placed body turned) pair ≡ turn-change body pair bytes
+      unfolding turn-change
+      turn-taken good =
+          rw (← turned-is, ← number-is)
+          (simp (ne-eqb (body .kind) no-body some, le-ltb largest-turn number known, good))
+
+      pub turn-refused : transform-in-range turned ≡ false
+          → refused placement-out-of-range body pair ≡ turn-change body pair bytes
+      unfolding turn-change
+      turn-refused bad =
+          rw (← turned-is, ← number-is)
+          (simp (ne-eqb (body .kind) no-body some, le-ltb largest-turn number known, bad))

@@ -32,11 +32,15 @@ module _ (kind third : ℕ) where
   unfolding frame-length
   test-length is = rw is refl
 
-  pub no-length : (kind ≡ 1 → ⊥) → (kind ≡ 2 → ⊥) → (kind ≡ 3 → ⊥) → (kind ≡ 4 → ⊥) → (kind ≡ 5 → ⊥)
+  pub turn-length : kind ≡ 6 → frame-length kind third ≡ 12
+  unfolding frame-length
+  turn-length is = rw is refl
+
+  pub no-length : (kind ≡ 1 → ⊥) → (kind ≡ 2 → ⊥) → (kind ≡ 3 → ⊥) → (kind ≡ 4 → ⊥) → (kind ≡ 5 → ⊥) → (kind ≡ 6 → ⊥)
       → frame-length kind third ≡ 0
   unfolding frame-length
-  no-length no-1 no-2 no-3 no-4 no-5 =
-      simp (ne-eqb _ _ no-1, ne-eqb _ _ no-2, ne-eqb _ _ no-3, ne-eqb _ _ no-4, ne-eqb _ _ no-5)
+  no-length no-1 no-2 no-3 no-4 no-5 no-6 =
+      simp (ne-eqb _ _ no-1, ne-eqb _ _ no-2, ne-eqb _ _ no-3, ne-eqb _ _ no-4, ne-eqb _ _ no-5, ne-eqb _ _ no-6)
 
 -- ---- well-formed frames: some size, and that length
 module _ (bytes : List ℕ) where
@@ -79,3 +83,6 @@ module _ (bytes : List ℕ) where
 
     pub place-room : byte-at bytes 0 ≡ 4 → length bytes ≡ 18
     place-room is = sized well .1 ∙ place-length (byte-at bytes 0) (byte-at bytes 2) is
+
+    pub turn-room : byte-at bytes 0 ≡ 6 → length bytes ≡ 12
+    turn-room is = sized well .1 ∙ turn-length (byte-at bytes 0) (byte-at bytes 2) is

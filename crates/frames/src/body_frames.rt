@@ -1,14 +1,19 @@
-// Frames 01 to 04: a body is defined and placed. A caller has compared the frame's length with its kind.
+// Frames 01 to 04 and 06: a body is defined and placed. A caller has compared the frame's length with its kind.
 ghost use mathlib.Core.Path.{_≡_};
 ghost use Prim.Native.Nat.{_+_, _*_, _≤_};
 ghost use lib.ListN.{length};
+ghost use Rattle.headings.specs.Headings.{quarter-waves};
 ghost use Rattle.lines.specs.Fields.{byte-at};
 ghost use Rattle.record_definitions.specs.Frame.{wall-at, circle-change, outline-change, wall-change, place-change};
+ghost use Rattle.record_definitions.specs.Frame.{turn-at, turn-change};
 use crate::world;
+use floats::b2_math::B2Transform;
 use floats::ranges;
+use headings::turns;
 use lines::fields;
 use record_definitions::frame::Change;
 use record_definitions::world::Body;
+use record_definitions::world::LARGEST_TURN;
 use record_definitions::world::NO_BODY;
 use record_definitions::world::Pair;
 use shape_definitions::b2_circle_shape::B2circleShape;
@@ -86,6 +91,35 @@ pub fn place_frame(body: Body, pair: Pair, bytes: &[u8]) -> Change
         return world::refused(refusal::NO_SHAPE, body, pair);
     }
     let xf = fields::placement(bytes, 2);
+    if ranges::transform_in_range(xf) {
+        return world::moved(world::placed(body, xf), pair);
+    }
+    world::refused(refusal::PLACEMENT_OUT_OF_RANGE, body, pair)
+}
+
+// Two bytes, highest first.
+fn turn_number(bytes: &[u8], at: usize) -> usize
+    requires { ⌜ at ≤ 200 ⌝ }
+    ensures { λ r. ⌜ r ≡ turn-at (now (bytes .entry)) at ⌝ }
+{
+    fields::byte(bytes, at) as usize * 256 + fields::byte(bytes, at + 1) as usize
+}
+
+// 06 id x y turn number: the heading comes from the lent table.
+pub fn turn_frame(body: Body, pair: Pair, bytes: &[u8], sines: &[f32; 1025]) -> Change
+    requires { ⌜ (length (now bytes) ≡ 12) × (now sines ≡ quarter-waves) ⌝ }
+    ensures { λ r. ⌜ r ≡ turn-change body pair (now (bytes .entry)) ⌝ }
+{
+    if body.kind == NO_BODY {
+        return world::refused(refusal::NO_SHAPE, body, pair);
+    }
+    let number = turn_number(bytes, 10);
+    if number > LARGEST_TURN {
+        return world::refused(refusal::UNKNOWN_TURN, body, pair);
+    }
+    let p = fields::vector(bytes, 2);
+    let q = turns::heading(sines, number);
+    let xf = B2Transform { p, q };
     if ranges::transform_in_range(xf) {
         return world::moved(world::placed(body, xf), pair);
     }

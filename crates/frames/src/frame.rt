@@ -1,5 +1,7 @@
 // Any frame: its length by its kind, the refusals that look at no body, and then its kind.
 ghost use mathlib.Core.Path.{_≡_};
+ghost use Rattle.headings.specs.Headings.{quarter-waves};
+ghost use Rattle.lines.specs.Fields.{byte-at};
 ghost use Rattle.record_definitions.specs.Frame as definitions;
 use crate::body_frames;
 use crate::test_frame;
@@ -45,6 +47,7 @@ pub fn frame_length(kind: u8, third: u8) -> usize
         3 => wall_length(third),
         4 => PLACEMENT_LENGTH,
         5 => 3,
+        6 => 12,
         _ => 0,
     }
 }
@@ -86,9 +89,10 @@ fn frame_refusal(bytes: &[u8]) -> u8
     refusal::ACCEPTED
 }
 
-// What a frame makes of the body that its first id names and of the pair, and what is said of it. The second body is
-// the one that its third byte names.
-pub fn frame(a: Body, b: Body, pair: Pair, bytes: &[u8]) -> Change
+// What a frame of any kind but 06 makes of the body that its first id names and of the pair, and what is said of it. The
+// second body is the one that its third byte names.
+pub fn frame_without_sines(a: Body, b: Body, pair: Pair, bytes: &[u8]) -> Change
+    requires { ⌜ (byte-at (now bytes) 0 ≡ 6 → ⊥) ⌝ }
     ensures { λ r. ⌜ r ≡ definitions.change a b pair (now (bytes .entry)) ⌝ }
 {
     let number = frame_refusal(bytes);
@@ -103,4 +107,19 @@ pub fn frame(a: Body, b: Body, pair: Pair, bytes: &[u8]) -> Change
         4 => body_frames::place_frame(a, pair, bytes),
         _ => { test_frame::test_frame(fields::byte(bytes, 1), fields::byte(bytes, 2), a, b, pair) }
     }
+}
+
+// The same of any frame: 06 takes its heading from the lent table.
+pub fn frame(a: Body, b: Body, pair: Pair, bytes: &[u8], sines: &[f32; 1025]) -> Change
+    requires { ⌜ now sines ≡ quarter-waves ⌝ }
+    ensures { λ r. ⌜ r ≡ definitions.change a b pair (now (bytes .entry)) ⌝ }
+{
+    if fields::byte(bytes, 0) != 6 {
+        return frame_without_sines(a, b, pair, bytes);
+    }
+    let number = frame_refusal(bytes);
+    if number != refusal::ACCEPTED {
+        return world::refused(number, a, pair);
+    }
+    body_frames::turn_frame(a, pair, bytes, sines)
 }

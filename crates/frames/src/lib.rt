@@ -3,7 +3,7 @@
 // Bodies, pairs and the world, made and changed.
 pub mod world;
 
-// Frames 01 to 04.
+// Frames 01 to 04 and 06.
 pub mod body_frames;
 
 // Frame 05: which pairs are tested, the contact of such a pair, and the result.

@@ -11,6 +11,7 @@ use crate::answer;
 use crate::answer::LONGEST_LINE;
 use frames::frame;
 use frames::world;
+use headings::turns;
 use lines::fields;
 use lines::hex;
 use lines::hex::LARGEST_FRAME;
@@ -84,6 +85,7 @@ fn keep(line: &mut [u8; KEPT_LENGTH], len: usize, x: u8) -> usize
 pub fn feed(s: Reader, chunk: &[u8], out: &mut [u8]) -> Fed
     ensures { λ r. ⌜ FedAs said-line longest-line s (now (chunk .entry)) (now (out .entry)) r (now (out .exit)) ⌝ }
 {
+    let sines = turns::sines();
     let mut w = s.world;
     let mut line = s.line;
     let mut len = held(s.len);
@@ -103,7 +105,7 @@ pub fn feed(s: Reader, chunk: &[u8], out: &mut [u8]) -> Fed
             let a = d.first;
             let b = d.second;
             let k = 8 * a + b;
-            let c = frame::frame(w.bodies[a], w.bodies[b], w.pairs[k], &bytes[..n]);
+            let c = frame::frame(w.bodies[a], w.bodies[b], w.pairs[k], &bytes[..n], &sines);
             let said = c.said;
             at += answer::put_said_line(&mut out[at..], said);
             let body = c.body;

@@ -2,7 +2,7 @@
 use mathlib.Core.Path.{refl, sym, _∙_}
 use Rattle.record_definitions.specs.Frame.{frame-length}
 use Rattle.frames.proofs.FrameLengths.{circle-length, outline-length-is, wall-length-is}
-use Rattle.frames.proofs.FrameLengths.{place-length, test-length, no-length}
+use Rattle.frames.proofs.FrameLengths.{place-length, test-length, turn-length, no-length}
 use borrow.Author.Needs.{needs}
 use Rattle.frames.proofs.frame.frame_length.Statement.{statement}
 use Rattle.frames.proofs.frame.frame_length.Tie as tie
@@ -33,8 +33,12 @@ returns-5 : tie.Need-returns-5
 returns-5 c = sym (test-length _ _ (c .match .keys5))
 
 returns-6 : tie.Need-returns-6
-returns-6 c = let rest = c .match .rest in
-    sym (no-length _ _ (rest .0 .0 .0 .0 .1) (rest .0 .0 .0 .1) (rest .0 .0 .1) (rest .0 .1) (rest .1))
+returns-6 c = sym (turn-length _ _ (c .match .keys6))
+
+returns-7 : tie.Need-returns-7
+returns-7 c = let rest = c .match .rest in
+    sym (no-length _ _ (rest .0 .0 .0 .0 .0 .1) (rest .0 .0 .0 .0 .1) (rest .0 .0 .0 .1) (rest .0 .0 .1) (rest .0 .1)
+    (rest .1))
 
 pub frame-length-spec : {M : Type 1} → statement M
 frame-length-spec =
@@ -47,4 +51,5 @@ frame-length-spec =
     returns-3
     returns-4
     returns-5
-    returns-6)
+    returns-6
+    returns-7)

@@ -10,8 +10,8 @@ blank-body-requires c κs = search needs
 fresh-pair-requires : tie.Need-fresh-pair-requires
 fresh-pair-requires c κs = search needs
 
-frame-requires : tie.Need-frame-requires
-frame-requires c κs = search needs
+frame-without-sines-requires : tie.Need-frame-without-sines-requires
+frame-without-sines-requires c κs = search needs
 
 refusal-in-requires : tie.Need-refusal-in-requires
 refusal-in-requires c κs = search needs
@@ -19,29 +19,29 @@ refusal-in-requires c κs = search needs
 returns : tie.Need-returns
 returns c =
     let refusal-in′ = c .before .refusal-in in
-    let frame′ = c .before .before .frame in
+    let first′ = c .before .before .frame-without-sines in
     let fresh-pair′ = c .before .before .before .fresh-pair in
     let blank-body′ = c .before .before .before .before .blank-body in
     let at-args = c .before .before .before .before .before .before .before in
     let args′ = at-args .args in
-    refused-alone (args′ .shape .now) (args′ .placement .now) (frame′ .result) _
-    (rw (blank-body′ .ensures, fresh-pair′ .ensures) at (frame′ .ensures)) (refusal-in′ .ensures) (c .if1 .taken)
+    refused-alone (args′ .shape .now) (args′ .placement .now) (first′ .result) _
+    (rw (blank-body′ .ensures, fresh-pair′ .ensures) at (first′ .ensures)) (refusal-in′ .ensures) (c .if1 .taken)
 
-frame-requires-2 : tie.Need-frame-requires-2
-frame-requires-2 c κs = search needs
+frame-without-sines-requires-2 : tie.Need-frame-without-sines-requires-2
+frame-without-sines-requires-2 c κs = search needs
 
 returns-2 : tie.Need-returns-2
 returns-2 c =
     let if1′ = c .before .if1 in
     let refusal-in′ = c .before .before .refusal-in in
-    let frame′ = c .before .before .before .frame in
+    let first′ = c .before .before .before .frame-without-sines in
     let fresh-pair′ = c .before .before .before .before .fresh-pair in
     let blank-body′ = c .before .before .before .before .before .blank-body in
     let at-args = c .before .before .before .before .before .before .before .before in
     let args′ = at-args .args in
-    taken-both (args′ .shape .now) (args′ .placement .now) (frame′ .result) _ (c .frame2 .result)
-    (rw (blank-body′ .ensures, fresh-pair′ .ensures) at (frame′ .ensures)) (refusal-in′ .ensures) (if1′ .left)
-    (rw (blank-body′ .ensures, fresh-pair′ .ensures) at (c .frame2 .ensures))
+    taken-both (args′ .shape .now) (args′ .placement .now) (first′ .result) _ (c .frame-without-sines2 .result)
+    (rw (blank-body′ .ensures, fresh-pair′ .ensures) at (first′ .ensures)) (refusal-in′ .ensures) (if1′ .left)
+    (rw (blank-body′ .ensures, fresh-pair′ .ensures) at (c .frame-without-sines2 .ensures))
 
 pub both-changes-spec : {M : Type 1} → statement M
 both-changes-spec =
@@ -49,8 +49,8 @@ both-changes-spec =
     (tie.spec
     blank-body-requires
     fresh-pair-requires
-    frame-requires
+    frame-without-sines-requires
     refusal-in-requires
     returns
-    frame-requires-2
+    frame-without-sines-requires-2
     returns-2)

@@ -45,15 +45,15 @@ returns-2 c =
 fresh-pair-requires : tie.Need-fresh-pair-requires
 fresh-pair-requires c κs = search needs
 
-slice-aggregate-frame : tie.Need-slice-aggregate-frame
-slice-aggregate-frame c = search needs
+slice-aggregate-frame-without-sines : tie.Need-slice-aggregate-frame-without-sines
+slice-aggregate-frame-without-sines c = search needs
 
-frame-requires : tie.Need-frame-requires
-frame-requires c κs = search needs
+frame-without-sines-requires : tie.Need-frame-without-sines-requires
+frame-without-sines-requires c κs = search needs
 
 returns-3 : tie.Need-returns-3
 returns-3 c =
-    let frame′ = c .before .frame in
+    let frame′ = c .before .frame-without-sines in
     let fresh-pair′ = c .before .before .before .fresh-pair in
     let if2′ = c .before .before .before .before .if2 in
     let refusal-in2′ = c .before .before .before .before .before .refusal-in2 in
@@ -81,6 +81,6 @@ run-spec =
     refusal-in-requires-2
     returns-2
     fresh-pair-requires
-    slice-aggregate-frame
-    frame-requires
+    slice-aggregate-frame-without-sines
+    frame-without-sines-requires
     returns-3)

@@ -13,6 +13,9 @@ use Rattle.record.proofs.feed.feed.Proof.Loop.{part-put-said-line-start
 use Rattle.record.proofs.feed.feed.Proof.Loop.{returns, returns-2}
 mod Loop
 
+sines-requires : tie.Need-sines-requires Inv-loop μ-loop
+sines-requires c κs = search needs
+
 held-requires : tie.Need-held-requires Inv-loop μ-loop
 held-requires c κs = search needs
 
@@ -68,7 +71,9 @@ slice-aggregate-frame : tie.Need-slice-aggregate-frame Inv-loop μ-loop
 slice-aggregate-frame c = sym (length-take-le _ _ (omega arith))
 
 frame-requires : tie.Need-frame-requires Inv-loop μ-loop
-frame-requires c κs = search needs
+frame-requires c κs =
+    let at-loop = c .before .before .before .before .before .before .before .before .before .before .before .before .before in
+    at-loop .before .before .before .before .sines .ensures
 
 part-put-said-line-end : tie.Need-part-put-said-line-end Inv-loop μ-loop
 part-put-said-line-end c = search needs
@@ -86,7 +91,7 @@ loop-less : tie.Need-loop-less Inv-loop μ-loop
 loop-less c =
     let before-loop-test = c .before .before .before .before .before .before .before .before .before in
     let before-loop-test = before-loop-test .before .before .before .before .before .before .before .before .before in
-    let loop-test′ = before-loop-test .before .before .before .loop-test in
+    let loop-test′ = before-loop-test .before .before .before .before .loop-test in
     omega (arith, loop-test′ .taken)
 
 loop-again : tie.Need-loop-again Inv-loop μ-loop
@@ -95,13 +100,13 @@ loop-again c =
     let put-said-line′ = c .before .before .before .before .before .before .put-said-line in
     let at-frame = c .before .before .before .before .before .before .before .before .before in
     let frame′ = at-frame .frame in
-    let decode′ = at-frame .before .before .before .before .before .before .decode in
-    let at-if2 = at-frame .before .before .before .before .before .before .before .before .before in
+    let decode′ = at-frame .before .before .before .before .before .before .before .decode in
+    let at-if2 = at-frame .before .before .before .before .before .before .before .before .before .before in
     let if2′ = at-if2 .if2 in
     let loop-test′ = at-if2 .before .before .before .loop-test in
     let loop′ = at-if2 .before .before .before .before .loop in
     let before-args = at-if2 .before .before .before .before .before .before .before .before .before in
-    let args′ = before-args .before .args in
+    let args′ = before-args .before .before .args in
     line-forgets said-line (args′ .chunk .now) (args′ .out .now) _ (loop′ .out) (loop′ .w) (loop′ .line)
     (loop′ .len) (loop′ .at) (loop′ .i) _ (loop′ .inv) (loop-test′ .taken) refl (if2′ .taken) _
     (decode′ .ensures .decoded .bytes) (decode′ .result .first) (decode′ .result .second)
@@ -119,7 +124,7 @@ loop-less-2 : tie.Need-loop-less-2 Inv-loop μ-loop
 loop-less-2 c =
     let before-loop-test = c .before .before .before .before .before .before .before .before .before in
     let before-loop-test = before-loop-test .before .before .before .before .before .before .before .before .before in
-    let loop-test′ = before-loop-test .before .before .loop-test in
+    let loop-test′ = before-loop-test .before .before .before .loop-test in
     omega (arith, loop-test′ .taken)
 
 loop-again-2 : tie.Need-loop-again-2 Inv-loop μ-loop
@@ -128,13 +133,13 @@ loop-again-2 c =
     let put-said-line′ = c .before .before .before .before .before .put-said-line in
     let at-frame = c .before .before .before .before .before .before .before .before in
     let frame′ = at-frame .frame in
-    let decode′ = at-frame .before .before .before .before .before .before .decode in
-    let at-if2 = at-frame .before .before .before .before .before .before .before .before .before in
+    let decode′ = at-frame .before .before .before .before .before .before .before .decode in
+    let at-if2 = at-frame .before .before .before .before .before .before .before .before .before .before in
     let if2′ = at-if2 .if2 in
     let loop-test′ = at-if2 .before .before .before .loop-test in
     let loop′ = at-if2 .before .before .before .before .loop in
     let before-args = at-if2 .before .before .before .before .before .before .before .before .before in
-    let args′ = before-args .before .args in
+    let args′ = before-args .before .before .args in
     line-keeps said-line (args′ .chunk .now) (args′ .out .now) _ (loop′ .out) (loop′ .w) (loop′ .line)
     (loop′ .len) (loop′ .at) (loop′ .i) _ (loop′ .inv) (loop-test′ .taken) refl (if2′ .taken) _
     (decode′ .ensures .decoded .bytes) (decode′ .result .first) (decode′ .result .second)
@@ -153,7 +158,7 @@ loop-again-3 c =
     let loop-test′ = c .before .before .before .before .before .loop-test in
     let loop′ = c .before .before .before .before .before .before .loop in
     let before-args = c .before .before .before .before .before .before .before .before .before in
-    let args′ = before-args .before .before .before .args in
+    let args′ = before-args .before .before .before .before .args in
     next-character said-line (args′ .chunk .now) (args′ .out .now) _ (loop′ .out) (loop′ .w)
     (loop′ .line) (loop′ .len) (loop′ .at) (loop′ .i) _ (loop′ .inv) (loop-test′ .taken) refl _ (c .keep .result)
     (if2′ .left) (c .keep .ensures .0) (c .keep .ensures .1) (c .keep .ensures .2)
@@ -170,6 +175,7 @@ feed-spec =
     (tie.spec
     Inv-loop
     μ-loop
+    sines-requires
     held-requires
     loop-holds
     sub-if1

@@ -11,17 +11,17 @@ use Rattle.record.proofs.Turns.{row-held}
 use Rattle.record.proofs.feed.feed.Tie as tie
 
 abbrev pub Inv-loop : tie.InvT-loop
-Inv-loop chunk out₀ w₀ line₀ len₀ at₀ i₀ out w line len at i =
+Inv-loop chunk out₀ sines w₀ line₀ len₀ at₀ i₀ out w line len at i =
     SoFar said-line chunk out₀ (record { world = w₀; line = take len₀ line₀ }) out w line len at i
 
 abbrev pub μ-loop : tie.MeasureT-loop
-μ-loop chunk out₀ w₀ line₀ len₀ at₀ i₀ out w line len at i = length chunk - i
+μ-loop chunk out₀ sines w₀ line₀ len₀ at₀ i₀ out w line len at i = length chunk - i
 
 -- ---- the first turn, and the end
 pub loop-holds : tie.Need-loop-holds Inv-loop μ-loop
 loop-holds c =
-    let args′ = c .before .before .before .before .before .args in
-    let good′ = c .before .before .before .before .before .good in
+    let args′ = c .before .before .before .before .before .before .args in
+    let good′ = c .before .before .before .before .before .before .good in
     let s = args′ .s in
     let kept = good′ .0 .1 .1 in
     nothing-yet said-line _ _ (s .world) (s .line) (c .held .result) (omega (arith, c .held .ensures))
@@ -33,7 +33,7 @@ pub returns : tie.Need-returns Inv-loop μ-loop
 returns c =
     let loop′ = c .before .loop in
     let held′ = c .before .before .held in
-    let at-args = c .before .before .before .before .before .before .before in
+    let at-args = c .before .before .before .before .before .before .before .before in
     let args′ = at-args .args in
     let good′ = at-args .good in
     let s = args′ .s in
@@ -47,7 +47,7 @@ pub returns-2 : tie.Need-returns-2 Inv-loop μ-loop
 returns-2 c =
     let loop′ = c .before .before .loop in
     let held′ = c .before .before .before .held in
-    let at-args = c .before .before .before .before .before .before .before .before in
+    let at-args = c .before .before .before .before .before .before .before .before .before in
     let args′ = at-args .args in
     let good′ = at-args .good in
     let s = args′ .s in
@@ -61,20 +61,20 @@ returns-2 c =
 pub sub-put-said-line : tie.Need-sub-put-said-line Inv-loop μ-loop
 sub-put-said-line c =
     let before-loop = c .before .before .before .before .before .before .before .before .before in
-    let loop′ = before-loop .before .before .before .before .before .loop in
+    let loop′ = before-loop .before .before .before .before .before .before .loop in
     omega (arith, loop′ .inv .at-within, loop′ .inv .out-size)
 
 pub part-put-said-line-start : tie.Need-part-put-said-line-start Inv-loop μ-loop
 part-put-said-line-start c =
     let before-loop = c .before .before .before .before .before .before .before .before .before in
-    let loop′ = before-loop .before .before .before .before .before .loop in
+    let loop′ = before-loop .before .before .before .before .before .before .loop in
     omega (arith, loop′ .inv .at-within, loop′ .inv .out-size)
 
 pub put-said-line-requires : tie.Need-put-said-line-requires Inv-loop μ-loop
 put-said-line-requires c κs =
     let before-if1 = c .before .before .before .before .before .before .before .before .before in
-    let if1′ = before-if1 .before .before .before .before .if1 in
-    let loop′ = before-if1 .before .before .before .before .before .before .loop in
+    let if1′ = before-if1 .before .before .before .before .before .if1 in
+    let loop′ = before-if1 .before .before .before .before .before .before .before .loop in
     let within : loop′ .at ≤ length (loop′ .out) =
     omega (arith, loop′ .inv .at-within, loop′ .inv .out-size) in
     omega (arith, if1′ .left, length-lent (loop′ .at) (loop′ .out) within)
@@ -83,9 +83,9 @@ pub add-at : tie.Need-add-at Inv-loop μ-loop
 add-at c =
     let put-said-line′ = c .before .before .put-said-line in
     let before-loop = c .before .before .before .before .before .before .before .before .before in
-    let at-loop = before-loop .before .before .before .before .before .before .before .before .before in
+    let at-loop = before-loop .before .before .before .before .before .before .before .before .before .before in
     let loop′ = at-loop .loop in
-    let good′ = at-loop .before .before .before .before .before .before .good in
+    let good′ = at-loop .before .before .before .before .before .before .before .good in
     let within : loop′ .at ≤ length (loop′ .out) =
     omega (arith, loop′ .inv .at-within, loop′ .inv .out-size) in
     let fits = put-fits (loop′ .at) (put-said-line′ .result) (loop′ .out) _ _ within (put-said-line′ .kept .0)
