@@ -4,7 +4,7 @@ use mathlib.Core.Path.{_≡_, sym, _∙_}
 use mathlib.Core.List.{List, []}
 use borrow.Author.Tests.{ne-eqb, lt-ltb, le-ltb}
 use lib.ListN.{length}
-use Rattle.test_entries.specs.Numbers.{root-answer, normalize-answer}
+use Rattle.test_entries.specs.Numbers.{root-answer, normalize-answer, heading-answer}
 use Rattle.test_entries.specs.ByNumber.{shape-answer}
 use Rattle.test_entries.specs.ByNumber.{contact-answer}
 use Rattle.wire.specs.Words.{word-at}
@@ -27,11 +27,17 @@ module _ (request : List ℕ) (entry : ℕ) (room : 4 ≤ length request) (entry
   unfolding entry-answer
   normalize-entry is = sym (simp is) ∙ answers
 
-  module _ (no-15 : entry ≡ 15 → ⊥) (no-16 : entry ≡ 16 → ⊥) where
+  pub heading-entry : entry ≡ 17 → heading-answer request ≡ answer request
+  unfolding entry-answer
+  heading-entry is = sym (simp is) ∙ answers
+
+  module _ (no-15 : entry ≡ 15 → ⊥) (no-16 : entry ≡ 16 → ⊥) (no-17 : entry ≡ 17 → ⊥) where
     pub shape-entry : entry < 7 → shape-answer entry request ≡ answer request
     unfolding entry-answer
-    shape-entry below = sym (simp (ne-eqb _ _ no-15, ne-eqb _ _ no-16, lt-ltb _ _ below)) ∙ answers
+    shape-entry below =
+        sym (simp (ne-eqb _ _ no-15, ne-eqb _ _ no-16, ne-eqb _ _ no-17, lt-ltb _ _ below)) ∙ answers
 
     pub contact-entry : 7 ≤ entry → contact-answer entry request ≡ answer request
     unfolding entry-answer
-    contact-entry above = sym (simp (ne-eqb _ _ no-15, ne-eqb _ _ no-16, le-ltb _ _ above)) ∙ answers
+    contact-entry above =
+        sym (simp (ne-eqb _ _ no-15, ne-eqb _ _ no-16, ne-eqb _ _ no-17, le-ltb _ _ above)) ∙ answers

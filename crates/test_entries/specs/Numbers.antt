@@ -1,10 +1,16 @@
--- What the entries of the root and of unit vectors answer: 0, and then the result; to a malformed request, no word at
--- all. Definitions only.
+-- What the entries of the root, of unit vectors and of headings answer: 0, and then the result; to a malformed request,
+-- no word at all. Definitions only.
 use Prim.Native.Nat.{ℕ}
-use mathlib.Core.Bool.{true}
+use mathlib.Core.Bool.{true, cond}
 use mathlib.Core.List.{List, [], _∷_}
+use lib.Dec.{ltb}
+use Rattle.floats.specs.declared.b2_math.B2Rot.{B2Rot}
 use Rattle.floats.specs.declared.b2_math.Normalized.{Normalized}
 use Rattle.floats.specs.B2Math.{vec2, b2-sqrt, b2-normalize}
+use Rattle.headings.specs.Headings.{heading}
+use Rattle.shape_definitions.specs.Refusal.{unknown-turn}
+use Rattle.record_definitions.specs.Frame.{largest-turn}
+use Rattle.wire.specs.Words.{word-at}
 use Rattle.wire.specs.Requests.{well-formed}
 use Rattle.wire.specs.Records.{float-at}
 use Rattle.wire.specs.Answers.{bits}
@@ -20,3 +26,13 @@ normalized-words n = 0 ∷ bits (n .length) ∷ bits (n .v .x) ∷ bits (n .v .y
 unfoldable pub normalize-answer : List ℕ → List ℕ
 normalize-answer request =
     well-formed 3 true request (normalized-words (b2-normalize (vec2 (float-at request 1) (float-at request 2))))
+
+-- 17, turn number: the sine and the cosine of its heading; 14 and two zeros where it is above 4,095
+abbrev pub heading-words : B2Rot → List ℕ
+heading-words q = 0 ∷ bits (q .s) ∷ bits (q .c) ∷ []
+
+abbrev pub turn-words : ℕ → List ℕ
+turn-words number = cond (ltb largest-turn number) (unknown-turn ∷ 0 ∷ 0 ∷ []) (heading-words (heading number))
+
+unfoldable pub heading-answer : List ℕ → List ℕ
+heading-answer request = well-formed 2 true request (turn-words (word-at request 1))

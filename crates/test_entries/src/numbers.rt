@@ -1,9 +1,12 @@
-// The root and unit vectors.
+// The root, unit vectors and headings.
 ghost use Rattle.wire.specs.Words.{Written};
-ghost use Rattle.test_entries.specs.Numbers.{root-answer, normalize-answer};
+ghost use Rattle.test_entries.specs.Numbers.{root-answer, normalize-answer, heading-answer};
 use floats::b2_math;
 use floats::b2_math::B2vec2;
 use floats::bits;
+use headings::turns;
+use record_definitions::world::LARGEST_TURN;
+use shape_definitions::refusal;
 use wire::words;
 
 // 15, x: the root.
@@ -34,5 +37,23 @@ pub fn normalize(input: &[u8], out: &mut [u8]) -> u32
         bits::f32_to_bits(n.v.x),
         bits::f32_to_bits(n.v.y),
     ];
+    words::put_words(out, &answer)
+}
+
+// 17, turn number: the sine and the cosine of its heading; 14 and two zeros where it is above 4,095.
+pub fn heading(input: &[u8], out: &mut [u8]) -> u32
+    ensures { λ r. ⌜ Written (heading-answer (now (input .entry))) (now (out .entry)) r (now (out .exit)) ⌝ }
+{
+    if input.len() != 8 {
+        return 0;
+    }
+    let number = words::word(input, 1) as usize;
+    if number > LARGEST_TURN {
+        let answer = [refusal::UNKNOWN_TURN as u32, 0, 0];
+        return words::put_words(out, &answer);
+    }
+    let sines = turns::sines();
+    let q = turns::heading(&sines, number);
+    let answer = [0, bits::f32_to_bits(q.s), bits::f32_to_bits(q.c)];
     words::put_words(out, &answer)
 }

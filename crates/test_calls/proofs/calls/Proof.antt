@@ -1,6 +1,7 @@
 -- `calls` answers what the entry named by the first word answers, and nothing to any other request. Assumes nothing.
 use Rattle.wire.proofs.Bytes.{nothing-written, written-as}
-use Rattle.test_calls.proofs.Answers.{no-entry, root-entry, normalize-entry, shape-entry, contact-entry}
+use Rattle.test_calls.proofs.Answers.{no-entry, root-entry, normalize-entry, heading-entry}
+use Rattle.test_calls.proofs.Answers.{shape-entry, contact-entry}
 use borrow.Author.Needs.{needs}
 use Rattle.test_calls.proofs.calls.Statement.{statement}
 use Rattle.test_calls.proofs.calls.Tie as tie
@@ -16,6 +17,9 @@ root-requires c κs = search needs
 
 normalize-requires : tie.Need-normalize-requires
 normalize-requires c κs = search needs
+
+heading-requires : tie.Need-heading-requires
+heading-requires c κs = search needs
 
 shape-call-requires : tie.Need-shape-call-requires
 shape-call-requires c κs = search needs
@@ -53,14 +57,11 @@ same-length-3 c = search needs
 returns-4 : tie.Need-returns-4
 returns-4 c =
     let called = c .before .before in
-    let below = called .before .before in
-    let other = below .before in
-    let entry = other .before in
+    let arm = called .before .before in
+    let entry = arm .before in
     let size = entry .before in
-    written-as _ _ _ _ _
-    (shape-entry _ _ (size .if1 .left) (entry .word .ensures) (other .match .rest .0 .1) (other .match .rest .1)
-    (below .if2 .taken))
-    (called .shape-call .ensures)
+    written-as _ _ _ _ _ (heading-entry _ _ (size .if1 .left) (entry .word .ensures) (arm .match .keys3))
+    (called .heading .ensures)
 
 same-length-4 : tie.Need-same-length-4
 same-length-4 c = search needs
@@ -68,12 +69,29 @@ same-length-4 c = search needs
 returns-5 : tie.Need-returns-5
 returns-5 c =
     let called = c .before .before in
+    let below = called .before .before in
+    let other = below .before in
+    let entry = other .before in
+    let size = entry .before in
+    written-as _ _ _ _ _
+    (shape-entry _ _ (size .if1 .left) (entry .word .ensures) (other .match .rest .0 .0 .1) (other .match .rest .0 .1)
+    (other .match .rest .1)
+    (below .if2 .taken))
+    (called .shape-call .ensures)
+
+same-length-5 : tie.Need-same-length-5
+same-length-5 c = search needs
+
+returns-6 : tie.Need-returns-6
+returns-6 c =
+    let called = c .before .before in
     let above = called .before .before in
     let other = above .before in
     let entry = other .before in
     let size = entry .before in
     written-as _ _ _ _ _
-    (contact-entry _ _ (size .if1 .left) (entry .word .ensures) (other .match .rest .0 .1) (other .match .rest .1)
+    (contact-entry _ _ (size .if1 .left) (entry .word .ensures) (other .match .rest .0 .0 .1) (other .match .rest .0 .1)
+    (other .match .rest .1)
     (above .if2 .left))
     (called .contact-call .ensures)
 
@@ -85,6 +103,7 @@ calls-spec =
     word-requires
     root-requires
     normalize-requires
+    heading-requires
     shape-call-requires
     contact-call-requires
     same-length
@@ -94,4 +113,6 @@ calls-spec =
     same-length-3
     returns-4
     same-length-4
-    returns-5)
+    returns-5
+    same-length-5
+    returns-6)
