@@ -6,13 +6,13 @@ use mathlib.Core.Bool.{Bool, true, false, not, cond}
 use mathlib.Core.List.{List}
 use lib.Dec.{eqb, ltb}
 use borrow.Author.Tests.{eqb-true}
+use Rattle.algebra.proofs.Booleans.{by-test}
 use Rattle.floats.specs.declared.b2_math.B2Transform.{B2Transform}
 use Rattle.floats.specs.Ranges.{transform-in-range}
 use Rattle.lines.specs.Fields.{byte-at, points-at, placement-at}
 use Rattle.shape_definitions.specs.Circle.{circle-in-range}
 use Rattle.shape_definitions.specs.Polygon.{b2-polygon-shape-set}
-use Rattle.shape_definitions.specs.Refusal.{accepted, shape-out-of-range, placement-out-of-range, no-shape}
-use Rattle.shape_definitions.specs.Refusal.{unknown-turn}
+use Rattle.shape_definitions.specs.Refusal.{accepted, shape-out-of-range, placement-out-of-range}
 use Rattle.record_definitions.specs.declared.world.Body.{Body}
 use Rattle.record_definitions.specs.declared.world.Pair.{Pair}
 use Rattle.record_definitions.specs.declared.frame.Change.{Change}
@@ -61,16 +61,14 @@ module _ (pair : Pair) where
     place-alone : place-change a pair bytes ≡ with-pair pair (place-change a pair′ bytes)
     unfolding place-change
     place-alone =
-        either-way (eqb (a .kind) no-body) (refused no-shape a pair) _ (refused no-shape a pair′) _ refl
-        (placed-alone (placement-at bytes 2))
+        by-test (eqb (a .kind) no-body) (λ none. rw none refl) (λ some. rw some (placed-alone (placement-at bytes 2)))
 
     turn-alone : turn-change a pair bytes ≡ with-pair pair (turn-change a pair′ bytes)
     unfolding turn-change
     turn-alone =
-        either-way (eqb (a .kind) no-body) (refused no-shape a pair) _ (refused no-shape a pair′) _ refl
-        (either-way (ltb largest-turn (turn-at bytes 10)) (refused unknown-turn a pair) _
-        (refused unknown-turn a pair′) _ refl
-        (placed-alone (turned-placement bytes)))
+        by-test (eqb (a .kind) no-body) (λ none. rw none refl)
+        (λ some. by-test (ltb largest-turn (turn-at bytes 10)) (λ above. rw (some, above) refl)
+        (λ known. rw (some, known) (placed-alone (turned-placement bytes))))
 
     outline-alone : outline-change a pair bytes ≡ with-pair pair (outline-change a pair′ bytes)
     unfolding outline-change

@@ -2,16 +2,14 @@
 -- answers leaves the body and keeps the pair that `tested` says. Assumes nothing.
 use Prim.Native.Nat.{ℕ, _≤_}
 use mathlib.Core.Path.{_≡_, refl, sym, _∙_, ap}
-use mathlib.Core.Bool.{Bool, true, false, not, cond, _&&_, false≢true}
+use mathlib.Core.Bool.{Bool, true, false, cond, _&&_, false≢true}
 use mathlib.Core.List.{List}
 use mathlib.Core.Logic.{_⊎_, inl, inr}
 use native.Mathlib.Omega.{arith}
-use lib.Dec.{eqb, ltb}
-use borrow.Author.Tests.{eqb-true, eq-eqb}
+use lib.Dec.{eqb}
+use borrow.Author.Tests.{eqb-true, eqb-false, eq-eqb}
 use Rattle.algebra.proofs.Booleans.{by-test}
-use Rattle.floats.specs.declared.b2_math.B2Transform.{B2Transform}
-use Rattle.floats.specs.Ranges.{transform-in-range}
-use Rattle.lines.specs.Fields.{byte-at, points-at, placement-at}
+use Rattle.lines.specs.Fields.{byte-at, points-at}
 use Rattle.shape_definitions.specs.Circle.{circle-in-range}
 use Rattle.shape_definitions.specs.Polygon.{b2-polygon-shape-set}
 use Rattle.shape_definitions.specs.Refusal.{accepted}
@@ -21,14 +19,14 @@ use Rattle.record_definitions.specs.declared.world.Pair.{Pair}
 use Rattle.record_definitions.specs.declared.touch.Touch.{Touch}
 use Rattle.record_definitions.specs.declared.frame.Answer.the-variants.{Accepted, Tested}
 use Rattle.record_definitions.specs.declared.frame.Change.{Change}
-use Rattle.record_definitions.specs.World.{no-body, blank-outline}
+use Rattle.record_definitions.specs.World.{blank-outline}
 use Rattle.record_definitions.specs.Touch.{tested}
 use Rattle.record_definitions.specs.Frame.{largest-id, frame-refusal, refused, defined, circle-at, circle-change}
-use Rattle.record_definitions.specs.Frame.{outline-change, wall-at, wall-change, placed-at, place-change}
-use Rattle.record_definitions.specs.Frame.{largest-turn, turn-at, turned-placement, turn-change, test-refusal}
-use Rattle.record_definitions.specs.Frame.{test-change, change-of-kind, change}
+use Rattle.record_definitions.specs.Frame.{outline-change, wall-at, wall-change, test-refusal, test-change}
+use Rattle.record_definitions.specs.Frame.{change-of-kind, change}
 use Rattle.record_definitions.specs.Export.{answer-refusal, refusal-in}
 use Rattle.record_definitions.proofs.FrameRefusals.{last-kind, known-kind, first-known, second-known}
+use Rattle.record_definitions.proofs.Placements.{place-cases, turn-cases}
 
 -- the kinds of frames that define a shape
 abbrev pub NewShape : ℕ → Type 0
@@ -47,6 +45,18 @@ pub both : (s t : Bool) → s && t ≡ true → (s ≡ true) × (t ≡ true)
 both true true e = (refl, refl)
 both true false e = absurd (false≢true e)
 both false t e = absurd (false≢true e)
+
+-- a change that answers with no test's result
+unfoldable pub Untested : Change → Type 0
+Untested c = (t : Touch) → c .said .answer ≡ Tested t → ⊥
+
+pub refused-untested : (a : Body) (pair : Pair) (n : ℕ) → Untested (refused n a pair)
+unfolding Untested
+refused-untested a pair n t is = let never : _≡_ {A = ℕ} 0 1 = cc in omega arith
+
+accepted-untested : (c : Change) → c .said .answer ≡ Accepted → Untested c
+unfolding Untested
+accepted-untested c taken t is = let never : _≡_ {A = ℕ} 0 1 = cc in omega arith
 
 -- what a test that answers t leaves
 pub record WasTested (ida idb : ℕ) (a b : Body) (pair : Pair) (t : Touch) (c : Change) : Type 0 where
@@ -102,70 +112,43 @@ module _ (a b : Body) (pair : Pair) (bytes : List ℕ) where
   abbrev Leaves : Change → Type 0
   Leaves c = (c .pair ≡ pair) × (c .forget ≡ false)
 
-  placed-leaves : (xf : B2Transform) → Leaves (placed-at a pair xf)
-  placed-leaves xf = either Leaves (not (transform-in-range xf)) _ _ (refl, refl) (refl, refl)
-
   kind-leaves : (kind : ℕ) → Placing kind → Leaves (change-of-kind kind a b pair bytes)
-  unfolding change-of-kind place-change turn-change
-  kind-leaves kind (inl four) =
-      rw four (either Leaves (eqb (a .kind) no-body) _ _ (refl, refl) (placed-leaves (placement-at bytes 2)))
-  kind-leaves kind (inr six) =
-      rw six (either Leaves (eqb (a .kind) no-body) _ _ (refl, refl)
-      (either Leaves (ltb largest-turn (turn-at bytes 10)) _ _ (refl, refl) (placed-leaves (turned-placement bytes))))
+  unfolding change-of-kind
+  kind-leaves kind (inl four) = rw four (place-cases a pair bytes Leaves (λ n. (refl, refl)) (λ xf inside. (refl, refl)))
+  kind-leaves kind (inr six) = rw six (turn-cases a pair bytes Leaves (λ n. (refl, refl)) (λ xf inside. (refl, refl)))
 
   pub placing-leaves : Placing (byte-at bytes 0) → Leaves (change a b pair bytes)
   unfolding change
   placing-leaves placing =
       either Leaves (eqb (frame-refusal bytes) accepted) _ _ (kind-leaves (byte-at bytes 0) placing) (refl, refl)
 
+  -- ---- no frame but a test answers with a result
+  built-untested : (t : Bool) (n : ℕ) (made : Body) → Untested (cond t (defined made pair) (refused n a pair))
+  built-untested t n made = either Untested t _ _ (accepted-untested _ refl) (refused-untested a pair n)
+
+  pub kind-untested : frame-refusal bytes ≡ accepted → (byte-at bytes 0 ≡ 5 → ⊥)
+      → Untested (change-of-kind (byte-at bytes 0) a b pair bytes)
+  unfolding change-of-kind circle-change outline-change wall-change
+  kind-untested taken no-test =
+      let kind = byte-at bytes 0 in
+      let built = b2-polygon-shape-set blank-outline (points-at bytes 3 (byte-at bytes 2)) in
+      by-choice Untested (eqb kind 1) _ _ (λ one. built-untested (circle-in-range (circle-at bytes)) _ _)
+      (λ no-1. by-choice Untested (eqb kind 2) _ _ (λ two. built-untested (eqb (built .refusal) accepted) _ _)
+      (λ no-2. by-choice Untested (eqb kind 3) _ _ (λ three. built-untested (eqb (wall-at bytes .refusal) accepted) _ _)
+      (λ no-3. by-choice Untested (eqb kind 4) _ _
+      (λ four. place-cases a pair bytes Untested (refused-untested a pair) (λ xf inside. accepted-untested _ refl))
+      (λ no-4. by-choice Untested (eqb kind 6) _ _
+      (λ six. turn-cases a pair bytes Untested (refused-untested a pair) (λ xf inside. accepted-untested _ refl))
+      (λ no-6. absurd (no-test
+      (last-kind kind (byte-at bytes 2) (known-kind bytes taken) no-1 no-2 no-3 no-4 no-6)))))))
+
   -- ---- a test that answers
   Answers : Change → Type 0
   Answers c = (t : Touch) → c .said .answer ≡ Tested t → WasTested (byte-at bytes 1) (byte-at bytes 2) a b pair t c
 
-  refused-answers : (n : ℕ) → Answers (refused n a pair)
-  unfolding Answers
-  refused-answers n t is =
-      let never : _≡_ {A = ℕ} 0 1 = cc in
-      absurd (omega arith)
-
-  accepted-answers : (c : Change) → c .said .answer ≡ Accepted → Answers c
-  unfolding Answers
-  accepted-answers c taken t is =
-      let never : _≡_ {A = ℕ} 0 1 = cc in
-      absurd (omega arith)
-
-  circle-answers : Answers (circle-change a pair bytes)
-  unfolding circle-change
-  circle-answers =
-      either Answers (circle-in-range (circle-at bytes)) _ _ (accepted-answers _ refl) (refused-answers _)
-
-  outline-answers : Answers (outline-change a pair bytes)
-  unfolding outline-change
-  outline-answers =
-      let number = b2-polygon-shape-set blank-outline (points-at bytes 3 (byte-at bytes 2)) .refusal in
-      either Answers (eqb number accepted) _ _ (accepted-answers _ refl) (refused-answers number)
-
-  wall-answers : Answers (wall-change a pair bytes)
-  unfolding wall-change
-  wall-answers =
-      either Answers (eqb (wall-at bytes .refusal) accepted) _ _ (accepted-answers _ refl)
-      (refused-answers (wall-at bytes .refusal))
-
-  placed-answers : (xf : B2Transform) → Answers (placed-at a pair xf)
-  placed-answers xf =
-      either Answers (not (transform-in-range xf)) _ _ (refused-answers _) (accepted-answers _ refl)
-
-  place-answers : Answers (place-change a pair bytes)
-  unfolding place-change
-  place-answers =
-      either Answers (eqb (a .kind) no-body) _ _ (refused-answers _) (placed-answers (placement-at bytes 2))
-
-  turn-answers : Answers (turn-change a pair bytes)
-  unfolding turn-change
-  turn-answers =
-      either Answers (eqb (a .kind) no-body) _ _ (refused-answers _)
-      (either Answers (ltb largest-turn (turn-at bytes 10)) _ _ (refused-answers _)
-      (placed-answers (turned-placement bytes)))
+  untested-answers : (c : Change) → Untested c → Answers c
+  unfolding Answers Untested
+  untested-answers c none t is = absurd (none t is)
 
   test-answers : byte-at bytes 2 ≤ largest-id → Answers (test-change (byte-at bytes 1) (byte-at bytes 2) a b pair)
   unfolding test-change Answers
@@ -184,20 +167,16 @@ module _ (a b : Body) (pair : Pair) (bytes : List ℕ) where
         same-body = refl;
         keeps = refl;
       })
-      (λ not-taken. refused-answers (answer .refusal)))
-      (λ not-listed. refused-answers number)
+      (λ not-taken. untested-answers _ (refused-untested a pair (answer .refusal))))
+      (λ not-listed. untested-answers _ (refused-untested a pair number))
 
   kind-answers : frame-refusal bytes ≡ accepted → Answers (change-of-kind (byte-at bytes 0) a b pair bytes)
   unfolding change-of-kind
   kind-answers taken =
-      let kind = byte-at bytes 0 in
-      by-choice Answers (eqb kind 1) _ _ (λ one. circle-answers)
-      (λ no-1. by-choice Answers (eqb kind 2) _ _ (λ two. outline-answers)
-      (λ no-2. by-choice Answers (eqb kind 3) _ _ (λ three. wall-answers)
-      (λ no-3. by-choice Answers (eqb kind 4) _ _ (λ four. place-answers)
-      (λ no-4. by-choice Answers (eqb kind 6) _ _ (λ six. turn-answers)
-      (λ no-6. test-answers (second-known bytes taken
-      (last-kind kind (byte-at bytes 2) (known-kind bytes taken) no-1 no-2 no-3 no-4 no-6)))))))
+      by-test (eqb (byte-at bytes 0) 5)
+      (λ is-test. let five = eqb-true (byte-at bytes 0) 5 is-test in
+      rw five (test-answers (second-known bytes taken five)))
+      (λ other. untested-answers _ (kind-untested taken (eqb-false (byte-at bytes 0) 5 other)))
 
   pub was-tested : (t : Touch) → change a b pair bytes .said .answer ≡ Tested t
       → WasTested (byte-at bytes 1) (byte-at bytes 2) a b pair t (change a b pair bytes)
@@ -205,4 +184,4 @@ module _ (a b : Body) (pair : Pair) (bytes : List ℕ) where
   was-tested =
       let number = frame-refusal bytes in
       by-choice Answers (eqb number accepted) _ _ (λ taken. kind-answers (eqb-true number accepted taken))
-      (λ not-taken. refused-answers number)
+      (λ not-taken. untested-answers _ (refused-untested a pair number))

@@ -2,6 +2,7 @@ pub mod Pieces
 pub mod Feeding
 pub mod OneLine
 pub mod FrameRefusals
+pub mod Placements
 pub mod Alone
 pub mod FreshPairs
 pub mod Exported

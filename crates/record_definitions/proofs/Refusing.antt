@@ -2,18 +2,14 @@
 -- Assumes nothing.
 use Prim.Native.Nat.{ℕ}
 use mathlib.Core.Path.{_≡_, refl, _∙_, ap}
-use mathlib.Core.Bool.{not}
 use mathlib.Core.List.{List}
 use native.Mathlib.Omega.{arith}
-use lib.Dec.{eqb, ltb}
+use lib.Dec.{eqb}
 use lib.Seq.{set-getD}
-use Rattle.floats.specs.declared.b2_math.B2Transform.{B2Transform}
-use Rattle.floats.specs.Ranges.{transform-in-range}
-use Rattle.lines.specs.Fields.{byte-at, points-at, placement-at}
+use Rattle.lines.specs.Fields.{byte-at, points-at}
 use Rattle.shape_definitions.specs.Circle.{circle-in-range}
 use Rattle.shape_definitions.specs.Polygon.{b2-polygon-shape-set}
-use Rattle.shape_definitions.specs.Refusal.{accepted, shape-out-of-range, placement-out-of-range, no-shape}
-use Rattle.shape_definitions.specs.Refusal.{unknown-turn}
+use Rattle.shape_definitions.specs.Refusal.{accepted, shape-out-of-range}
 use Rattle.contact_definitions.proofs.Counts.{either}
 use Rattle.record_definitions.specs.declared.world.Body.{Body}
 use Rattle.record_definitions.specs.declared.world.Pair.{Pair}
@@ -21,15 +17,14 @@ use Rattle.record_definitions.specs.declared.world.World.{World}
 use Rattle.record_definitions.specs.declared.touch.Touch.{Touch}
 use Rattle.record_definitions.specs.declared.frame.Answer.the-variants.{Accepted, Refused, Tested}
 use Rattle.record_definitions.specs.declared.frame.Change.{Change}
-use Rattle.record_definitions.specs.World.{no-body, blank-outline, blank-body, fresh-pair, body-at, pair-at}
-use Rattle.record_definitions.specs.World.{pair-place}
+use Rattle.record_definitions.specs.World.{blank-outline, blank-body, fresh-pair, body-at, pair-at, pair-place}
 use Rattle.record_definitions.specs.Touch.{tested}
 use Rattle.record_definitions.specs.Frame.{frame-refusal, refused, circle-at, circle-change, outline-change}
-use Rattle.record_definitions.specs.Frame.{wall-at, wall-change, placed-at, place-change, largest-turn, turn-at}
-use Rattle.record_definitions.specs.Frame.{turned-placement, turn-change, test-refusal, test-change}
-use Rattle.record_definitions.specs.Frame.{change-of-kind, change}
+use Rattle.record_definitions.specs.Frame.{wall-at, wall-change, place-change, turn-change, test-refusal}
+use Rattle.record_definitions.specs.Frame.{test-change, change-of-kind, change}
 use Rattle.record_definitions.specs.Step.{first-place, second-place, changed, change-in, after-frame}
 use Rattle.record_definitions.specs.Step.{said-of-frame}
+use Rattle.record_definitions.proofs.Placements.{place-cases, turn-cases}
 
 -- where the answer is a refusal, the change is that refusal alone
 Keeps : Body → Pair → Change → Type 0
@@ -73,23 +68,11 @@ module _ (a : Body) (pair : Pair) where
         either (Keeps a pair) (eqb (wall-at bytes .refusal) accepted) _ _ (accepted-keeps _ refl)
         (refused-keeps (wall-at bytes .refusal))
 
-    placed-keeps : (xf : B2Transform) → Keeps a pair (placed-at a pair xf)
-    placed-keeps xf =
-        either (Keeps a pair) (not (transform-in-range xf)) _ _ (refused-keeps placement-out-of-range)
-        (accepted-keeps _ refl)
-
     place-keeps : Keeps a pair (place-change a pair bytes)
-    unfolding place-change
-    place-keeps =
-        either (Keeps a pair) (eqb (a .kind) no-body) _ _ (refused-keeps no-shape)
-        (placed-keeps (placement-at bytes 2))
+    place-keeps = place-cases a pair bytes (Keeps a pair) refused-keeps (λ xf inside. accepted-keeps _ refl)
 
     turn-keeps : Keeps a pair (turn-change a pair bytes)
-    unfolding turn-change
-    turn-keeps =
-        either (Keeps a pair) (eqb (a .kind) no-body) _ _ (refused-keeps no-shape)
-        (either (Keeps a pair) (ltb largest-turn (turn-at bytes 10)) _ _ (refused-keeps unknown-turn)
-        (placed-keeps (turned-placement bytes)))
+    turn-keeps = turn-cases a pair bytes (Keeps a pair) refused-keeps (λ xf inside. accepted-keeps _ refl)
 
     test-keeps : (ida idb : ℕ) (b : Body) → Keeps a pair (test-change ida idb a b pair)
     unfolding test-change

@@ -1,15 +1,13 @@
 -- A fresh world is sound, and every frame keeps it so. Assumes nothing.
 use Prim.Native.Nat.{ℕ, zero, suc, _≤_}
 use mathlib.Core.Path.{_≡_, refl, _∙_}
-use mathlib.Core.Bool.{Bool, true, false, not}
+use mathlib.Core.Bool.{Bool, true, false}
 use mathlib.Core.List.{List, [], _∷_}
 use native.Mathlib.Omega.{arith}
-use lib.Dec.{eqb, ltb}
+use lib.Dec.{eqb}
 use lib.ListN.{length, getD, set, replicate, length-set}
-use borrow.Author.Tests.{eqb-true, not-false}
-use Rattle.floats.specs.declared.b2_math.B2Transform.{B2Transform}
-use Rattle.floats.specs.Ranges.{transform-in-range}
-use Rattle.lines.specs.Fields.{byte-at, points-at, placement-at}
+use borrow.Author.Tests.{eqb-true}
+use Rattle.lines.specs.Fields.{byte-at, points-at}
 use Rattle.shape_definitions.specs.Circle.{circle-in-range}
 use Rattle.shape_definitions.specs.Polygon.{b2-polygon-shape-set}
 use Rattle.shape_definitions.specs.Refusal.{accepted}
@@ -19,14 +17,14 @@ use Rattle.record_definitions.specs.declared.world.Body.{Body}
 use Rattle.record_definitions.specs.declared.world.Pair.{Pair}
 use Rattle.record_definitions.specs.declared.world.World.{World}
 use Rattle.record_definitions.specs.declared.frame.Change.{Change}
-use Rattle.record_definitions.specs.World.{fresh-pair, forget-below, no-body, blank-outline, blank-body}
-use Rattle.record_definitions.specs.World.{fresh-world, body-at, pair-at, pair-place, forget}
+use Rattle.record_definitions.specs.World.{fresh-pair, forget-below, blank-outline, blank-body, fresh-world}
+use Rattle.record_definitions.specs.World.{body-at, pair-at, pair-place, forget}
 use Rattle.record_definitions.specs.Frame.{frame-refusal, circle-at, circle-change, outline-change, wall-at}
-use Rattle.record_definitions.specs.Frame.{wall-change, placed-at, place-change, largest-turn, turn-at}
-use Rattle.record_definitions.specs.Frame.{turned-placement, turn-change, test-refusal, test-change}
+use Rattle.record_definitions.specs.Frame.{wall-change, place-change, turn-change, test-refusal, test-change}
 use Rattle.record_definitions.specs.Frame.{change-of-kind, change}
 use Rattle.record_definitions.specs.Touch.{tested, meet, largest-count, touches-after, tested-as}
 use Rattle.record_definitions.specs.Step.{first-place, second-place, pairs-after, changed, change-in, after-frame}
+use Rattle.record_definitions.proofs.Placements.{place-cases, turn-cases}
 use Rattle.record_definitions.proofs.Changes.{by-choice}
 use Rattle.record_definitions.proofs.OneLine.{length-forget}
 use Rattle.record_definitions.proofs.Counting.{contact-taken, met-few}
@@ -63,20 +61,11 @@ module _ (a b : Body) (pair : Pair) (bytes : List ℕ) (sound : SoundBody a) whe
       (wall-at-in-range bytes (eqb-true (wall-at bytes .refusal) accepted taken)))
       (λ not-taken. sound)
 
-  placed-kept : (xf : B2Transform) → Kept (placed-at a pair xf)
-  placed-kept xf =
-      by-choice Kept (not (transform-in-range xf)) _ _ (λ out. sound)
-      (λ inside. placed-sound a xf sound (not-false (transform-in-range xf) inside))
-
   place-kept : Kept (place-change a pair bytes)
-  unfolding place-change
-  place-kept = either Kept (eqb (a .kind) no-body) _ _ sound (placed-kept (placement-at bytes 2))
+  place-kept = place-cases a pair bytes Kept (λ n. sound) (λ xf. placed-sound a xf sound)
 
   turn-kept : Kept (turn-change a pair bytes)
-  unfolding turn-change
-  turn-kept =
-      either Kept (eqb (a .kind) no-body) _ _ sound
-      (either Kept (ltb largest-turn (turn-at bytes 10)) _ _ sound (placed-kept (turned-placement bytes)))
+  turn-kept = turn-cases a pair bytes Kept (λ n. sound) (λ xf. placed-sound a xf sound)
 
   test-kept : (ida idb : ℕ) → Kept (test-change ida idb a b pair)
   unfolding test-change
@@ -128,21 +117,15 @@ module _ (a b : Body) (pair : Pair) (bytes : List ℕ) (sound : SoundPair pair) 
       (λ taken. tested-pair ida idb (eqb-true (t .refusal) accepted taken)) (λ not-taken. sound))
       sound
 
-  placed-pair-kept : (xf : B2Transform) → PairKept (placed-at a pair xf)
-  placed-pair-kept xf = either PairKept (not (transform-in-range xf)) _ _ sound sound
-
   kind-pair-kept : (kind : ℕ) → PairKept (change-of-kind kind a b pair bytes)
-  unfolding change-of-kind circle-change outline-change wall-change place-change turn-change
+  unfolding change-of-kind circle-change outline-change wall-change
   kind-pair-kept kind =
       let built = b2-polygon-shape-set blank-outline (points-at bytes 3 (byte-at bytes 2)) in
       either PairKept (eqb kind 1) _ _ (either PairKept (circle-in-range (circle-at bytes)) _ _ sound sound)
       (either PairKept (eqb kind 2) _ _ (either PairKept (eqb (built .refusal) accepted) _ _ sound sound)
       (either PairKept (eqb kind 3) _ _ (either PairKept (eqb (wall-at bytes .refusal) accepted) _ _ sound sound)
-      (either PairKept (eqb kind 4) _ _
-      (either PairKept (eqb (a .kind) no-body) _ _ sound (placed-pair-kept (placement-at bytes 2)))
-      (either PairKept (eqb kind 6) _ _
-      (either PairKept (eqb (a .kind) no-body) _ _ sound
-      (either PairKept (ltb largest-turn (turn-at bytes 10)) _ _ sound (placed-pair-kept (turned-placement bytes))))
+      (either PairKept (eqb kind 4) _ _ (place-cases a pair bytes PairKept (λ n. sound) (λ xf inside. sound))
+      (either PairKept (eqb kind 6) _ _ (turn-cases a pair bytes PairKept (λ n. sound) (λ xf inside. sound))
       (test-pair-kept (byte-at bytes 1) (byte-at bytes 2))))))
 
   change-pair-kept : PairKept (change a b pair bytes)
