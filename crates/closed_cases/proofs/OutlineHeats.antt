@@ -10,6 +10,8 @@ use Rattle.floats.specs.B2Math.{b2-normalize, b2-mul-t-rot, b2-mul-rot-by-vec2,
 use Rattle.floats.specs.B2Math.{b2-mul-transform-by-vec2, b2-mul-t-transform-by-vec2, b2-mul-t-transform}
 use Rattle.floats.specs.Ranges.{point-in-range, radius-in-range, rotation-in-range, transform-in-range, normal-in-range}
 use Rattle.floats.specs.Ranges.{local-normal-in-range, contact-number-in-range, contact-point-in-range}
+use Rattle.headings.specs.Sines.{sines}
+use Rattle.headings.specs.Headings.{quarter-wave, opposite, heading}
 use Rattle.lines.specs.Fields.{vector-at, points-at, rotation-at, placement-at}
 use Rattle.lines.specs.Hex.{unhex, frame-of, hex}
 use Rattle.shape_definitions.specs.Circle.{circle-in-range}
@@ -40,7 +42,8 @@ use Rattle.record_definitions.specs.World.{forget-below}
 use Rattle.record_definitions.specs.Touch.{meet-circle, meet-outline, meet, skin, world-points, touches-after}
 use Rattle.record_definitions.specs.Touch.{states-of, touch-of, tested-as, tested}
 use Rattle.record_definitions.specs.Frame.{frame-length, well-formed, frame-refusal, circle-change, outline-change}
-use Rattle.record_definitions.specs.Frame.{place-change, listed, test-refusal, test-change, change-of-kind, change}
+use Rattle.record_definitions.specs.Frame.{place-change, turn-change, listed, test-refusal, test-change}
+use Rattle.record_definitions.specs.Frame.{change-of-kind, change}
 use Rattle.record_definitions.specs.Answer.{head-bytes, point-bytes, touch-bytes}
 use Rattle.record_definitions.specs.Step.{change-in, changed, after-frame, said-of-frame}
 use Rattle.record_definitions.specs.Touches.{lines-from, printed-lines, touches}
@@ -76,6 +79,20 @@ pub record OutlineHeats : Type 0 where
       ("04010000000000000000000000003f800000", "00") ∷
       ("050001", "05000100000000000000000000") ∷
       [])
+  -- a triangle beside a box, by a turn number in each quarter: an eighth of a turn, and three times a quarter more
+  pub outline-turned : Runs (
+      ("020004bf800000bf8000003f800000bf8000003f8000003f800000bf8000003f800000", "00") ∷
+      ("04000000000000000000000000003f800000", "00") ∷
+      ("020103bf000000bf0000003f000000bf0000003f0000003f000000", "00") ∷
+      ("06013fc00000000000000200", "00") ∷
+      ("050001", "05000100000000000000000000") ∷
+      ("06013fc00000000000000600", "00") ∷
+      ("050001", "050001010100000100000000013f800000000000003f657d8700000000be688ea8") ∷
+      ("06013fc00000000000000a00", "00") ∷
+      ("050001", "050001010103000100000000023f800000000000003f657d8700000000be688ea8") ∷
+      ("06013fc00000000000000e00", "00") ∷
+      ("050001", "050001010103000100000000033f800000000000003f657d8700000000be688ea8") ∷
+      [])
   -- refusals 1, 2, 3, 4 and 5 of an outline
   pub outlines-refused : Runs (
       ("020000", "ff01") ∷
@@ -97,26 +114,28 @@ pub outline-heats : OutlineHeats
 unfolding neg add sub mul div le lt eq ofBits toBits root-digits whole-root rounded-root sqrt b2-sqrt b2-add b2-sub
     b2-neg b2-scale b2-dot b2-length-squared b2-length b2-distance-vec2-squared b2-normalize b2-mul-rot-by-vec2
     b2-mul-transform-by-vec2 point-in-range radius-in-range rotation-in-range transform-in-range
-    local-normal-in-range contact-point-in-range vector-at rotation-at placement-at unhex frame-of hex
-    circle-in-range farther with-local-point with-count with-one-point counted-points same-id id-among ids-of ids-in
-    point-state states-of-ids points-in-range manifold-in-range b2-world-manifold-initialize blank-body circle-body
-    placed fresh-pair fresh-world forget-below meet-circle meet skin world-points touches-after states-of touch-of
-    tested-as tested frame-length well-formed frame-refusal circle-change place-change listed test-refusal test-change
-    change-of-kind change head-bytes point-bytes touch-bytes change-in changed after-frame said-of-frame lines-from
-    printed-lines touches too-near welded comes-before start closer next row edges long-enough fan b2-min
-    outline-of-corners outline-of-welded b2-polygon-shape-set polygon-in-range normal-in-range points-at outline-body
-    outline-change meet-outline b2-cross-vec-by-scalar b2-cross b2-mul-t-rot b2-mul-t-rot-by-vec2
-    b2-mul-t-transform-by-vec2 b2-mul-t-transform face-separation b2-find-max-separation axis-of polygons-axis
-    incident-place incident-end b2-find-incident-edge local-tangent face-middle face-along outline-face within-skins
-    outline-point outline-manifold polygons-manifold b2-collide-polygons circle-separation circle-at-corner
-    circle-at-face circle-at-best polygon-circle-manifold b2-collide-polygon-and-circle clip-distance crossing
-    clipped-by clipped clip-in-range b2-clip-segment-to-line clipped-to-sides only points-from with-points
-    manifold-of-ends some-below least first-greatest first-least swapped-id with-kind on-face on-other
-    plane-separation plane-middle carried-points world-of-face contact-number-in-range
+    local-normal-in-range contact-point-in-range sines quarter-wave opposite heading vector-at rotation-at
+    placement-at unhex frame-of hex circle-in-range farther with-local-point with-count with-one-point counted-points
+    same-id id-among ids-of ids-in point-state states-of-ids points-in-range manifold-in-range
+    b2-world-manifold-initialize blank-body circle-body placed fresh-pair fresh-world forget-below meet-circle meet
+    skin world-points touches-after states-of touch-of tested-as tested frame-length well-formed frame-refusal
+    circle-change place-change turn-change listed test-refusal test-change change-of-kind change head-bytes
+    point-bytes touch-bytes change-in changed after-frame said-of-frame lines-from printed-lines touches too-near
+    welded comes-before start closer next row edges long-enough fan b2-min outline-of-corners outline-of-welded
+    b2-polygon-shape-set polygon-in-range normal-in-range points-at outline-body outline-change meet-outline
+    b2-cross-vec-by-scalar b2-cross b2-mul-t-rot b2-mul-t-rot-by-vec2 b2-mul-t-transform-by-vec2 b2-mul-t-transform
+    face-separation b2-find-max-separation axis-of polygons-axis incident-place incident-end b2-find-incident-edge
+    local-tangent face-middle face-along outline-face within-skins outline-point outline-manifold polygons-manifold
+    b2-collide-polygons circle-separation circle-at-corner circle-at-face circle-at-best polygon-circle-manifold
+    b2-collide-polygon-and-circle clip-distance crossing clipped-by clipped clip-in-range b2-clip-segment-to-line
+    clipped-to-sides only points-from with-points manifold-of-ends some-below least first-greatest first-least
+    swapped-id with-kind on-face on-other plane-separation plane-middle carried-points world-of-face
+    contact-number-in-range
 outline-heats = record {
   outlines-slide = refl;
   outline-and-circle = refl;
   clipped-away = refl;
+  outline-turned = refl;
   outlines-refused = refl;
   far-centroid = refl;
 }
