@@ -114,8 +114,10 @@ module _ (a b : Body) (pair : Pair) (bytes : List ℕ) where
 
   kind-leaves : (kind : ℕ) → Placing kind → Leaves (change-of-kind kind a b pair bytes)
   unfolding change-of-kind
-  kind-leaves kind (inl four) = rw four (place-cases a pair bytes Leaves (λ n. (refl, refl)) (λ xf inside. (refl, refl)))
-  kind-leaves kind (inr six) = rw six (turn-cases a pair bytes Leaves (λ n. (refl, refl)) (λ xf inside. (refl, refl)))
+  kind-leaves kind (inl four) =
+      rw four (place-cases a pair bytes Leaves (λ n. (refl, refl)) (λ xf inside. (refl, refl)))
+  kind-leaves kind (inr six) =
+      rw six (turn-cases a pair bytes Leaves (λ n. (refl, refl)) (λ xf inside. (refl, refl)))
 
   pub placing-leaves : Placing (byte-at bytes 0) → Leaves (change a b pair bytes)
   unfolding change

@@ -1,6 +1,6 @@
--- The law of a heat on a closed heat of two circles: a push, a rest, the other order, a removal, a second push, a shape
--- that is refused, and a new shape, after which all begins anew. So no hypothesis of the law is empty.
--- Assumes nothing.
+-- The law of a heat on a closed heat of two circles: a push, a rest, the other order, a removal, a second push, placed
+-- by turn number, a shape that is refused, and a new shape, after which all begins anew. So no hypothesis of the law is
+-- empty. Assumes nothing.
 use Prim.Native.Nat.{ℕ}
 use mathlib.Core.Path.{_≡_, refl}
 use mathlib.Core.List.{List, [], _∷_, map}
@@ -12,6 +12,8 @@ use Rattle.floats.specs.B2Math.{b2-sqrt, b2-add, b2-sub, b2-neg, b2-scale, b2-d
 use Rattle.floats.specs.B2Math.{b2-distance-vec2-squared, b2-normalize, b2-mul-rot-by-vec2, b2-mul-transform-by-vec2}
 use Rattle.floats.specs.Ranges.{point-in-range, radius-in-range, rotation-in-range, transform-in-range}
 use Rattle.floats.specs.Ranges.{local-normal-in-range, contact-point-in-range}
+use Rattle.headings.specs.Sines.{sines}
+use Rattle.headings.specs.Headings.{quarter-wave, opposite, heading}
 use Rattle.lines.specs.Fields.{vector-at, rotation-at, placement-at}
 use Rattle.lines.specs.Hex.{unhex, frame-of}
 use Rattle.lines.proofs.Text.{text}
@@ -30,7 +32,7 @@ use Rattle.record_definitions.specs.World.{pair-at, forget-below}
 use Rattle.record_definitions.specs.Touch.{meet-circle, meet, skin, world-points, touches-after, states-of}
 use Rattle.record_definitions.specs.Touch.{touch-of, tested-as, tested}
 use Rattle.record_definitions.specs.Frame.{frame-length, well-formed, frame-refusal, circle-change, place-change}
-use Rattle.record_definitions.specs.Frame.{listed, test-refusal, test-change, change-of-kind, change}
+use Rattle.record_definitions.specs.Frame.{turn-change, listed, test-refusal, test-change, change-of-kind, change}
 use Rattle.record_definitions.specs.Step.{change-in, changed, after-frame, said-of-frame}
 use Rattle.record_definitions.specs.Heat.{after-lines, contact-in, contacts-after, contacts-of, touches-of}
 use Rattle.record_definitions.specs.Heat.{new-ids, NextTest}
@@ -47,7 +49,7 @@ heat = map text (
     "050100" ∷
     "04014110000000000000000000003f800000" ∷
     "050001" ∷
-    "04013fc0000000000000000000003f800000" ∷
+    "06013fc00000000000000000" ∷
     "050001" ∷
     "01010000000000000000bf800000" ∷
     "010100000000000000003f800000" ∷
@@ -85,13 +87,14 @@ pub heat-cases : HeatCases
 unfolding neg add sub mul div le lt eq ofBits toBits root-digits whole-root rounded-root sqrt b2-sqrt b2-add b2-sub
     b2-neg b2-scale b2-dot b2-length-squared b2-length b2-distance-vec2-squared b2-normalize b2-mul-rot-by-vec2
     b2-mul-transform-by-vec2 point-in-range radius-in-range rotation-in-range transform-in-range
-    local-normal-in-range contact-point-in-range vector-at rotation-at placement-at unhex frame-of
-    circle-in-range farther with-local-point with-count with-one-point counted-points same-id id-among counted-ids
-    ids-of ids-in point-state states-of-ids points-in-range manifold-in-range b2-world-manifold-initialize blank-body
-    circle-body placed fresh-pair fresh-world forget-below meet-circle meet skin world-points touches-after states-of
-    touch-of tested-as tested frame-length well-formed frame-refusal circle-change place-change listed test-refusal
-    test-change change-of-kind change change-in changed after-frame said-of-frame circles-manifold b2-collide-circles
-    circles-normal world-of-circles contacts-after touches-of new-ids
+    local-normal-in-range contact-point-in-range sines quarter-wave opposite heading vector-at rotation-at
+    placement-at unhex frame-of circle-in-range farther with-local-point with-count with-one-point counted-points
+    same-id id-among counted-ids ids-of ids-in point-state states-of-ids points-in-range manifold-in-range
+    b2-world-manifold-initialize blank-body circle-body placed fresh-pair fresh-world forget-below meet-circle meet
+    skin world-points touches-after states-of touch-of tested-as tested frame-length well-formed frame-refusal
+    circle-change place-change turn-change listed test-refusal test-change change-of-kind change change-in changed
+    after-frame said-of-frame circles-manifold b2-collide-circles circles-normal world-of-circles contacts-after
+    touches-of new-ids
 heat-cases =
     let law = heat-law 0 1 (omega arith) (omega arith) (lines 5) in
     let next = law .next-test (text "050001") (printed 5) refl refl refl in
