@@ -39,15 +39,14 @@ unfolding placed-normal
 faces-placed xf poly v1 v2 row = row
 
 module _ (edge : B2edgeShape) (edge1 : B2vec2) (xf : B2Transform) (poly : B2polygonShape) (radius : Float) where
-  pub axis-found : (wall face primary axis : Axis)
+  pub axis-found : (wall primary axis : Axis)
       → wall ≡ b2-compute-edge-separation xf poly (edge .«m_vertex1») (right-of edge1)
-      → face ≡ b2-compute-polygon-separation xf poly (edge .«m_vertex1») (edge .«m_vertex2»)
-      → primary ≡ primary-axis radius wall face
+      → primary ≡ primary-axis radius wall
+      (b2-compute-polygon-separation xf poly (edge .«m_vertex1») (edge .«m_vertex2»))
       → axis ≡ smoothed-if (edge .«m_one_sided») edge edge1 wall primary
       → axis ≡ edge-polygon-axis radius edge edge1 xf poly
   unfolding edge-polygon-axis
-  axis-found wall face primary axis wall-is face-is primary-is axis-is =
-      rw (axis-is, primary-is, wall-is, face-is) refl
+  axis-found wall primary axis wall-is primary-is axis-is = rw (axis-is, primary-is, wall-is) refl
 
   -- the wall alone keeps the outline off: one-sided or not, whatever its faces say
   stays-apart : (one-sided : Bool) (wall : Axis) (s : Float)

@@ -15,6 +15,15 @@ use Rattle.contact_definitions.specs.EdgeAxis.{right-of, edge-polygon-axis}
 use Rattle.contact_definitions.specs.EdgeReference.{edge-manifold-on}
 use Rattle.contact_definitions.specs.B2CollideEdge.{edge-polygon-manifold}
 
+-- the axis that the code has found
+module _ (old : B2manifold) (edge : B2edgeShape) (edge1 : B2vec2) (xf : B2Transform) (poly : B2polygonShape)
+    (radius : Float) where
+  pub on-found : (r : B2manifold) (axis : Axis) → axis ≡ edge-polygon-axis radius edge edge1 xf poly
+      → r ≡ edge-manifold-on axis old edge edge1 xf poly radius
+      → r ≡ edge-manifold-on (edge-polygon-axis radius edge edge1 xf poly) old edge edge1 xf poly radius
+  on-found r axis axis-is r-is =
+      r-is ∙ ap (λ (a : Axis). edge-manifold-on a old edge edge1 xf poly radius) axis-is
+
 module _ (m : B2manifold) (edge : B2edgeShape) (edge1 : B2vec2) (xf : B2Transform) (poly : B2polygonShape)
     (behind : Bool)
     (edge1-is : edge1 ≡ b2-normalize (b2-sub (edge .«m_vertex2») (edge .«m_vertex1»)) .v)
@@ -33,12 +42,10 @@ module _ (m : B2manifold) (edge : B2edgeShape) (edge1 : B2vec2) (xf : B2Transfor
       → r ≡ edge-polygon-manifold (with-count m 0) edge xf poly
   none-behind r holds r-is = r-is ∙ by-side (with-count m 0) true holds
 
-  pub in-front : (r : B2manifold) (axis : Axis) → behind ≡ false → axis ≡ edge-polygon-axis total edge edge1 xf poly
-      → r ≡ edge-manifold-on axis (with-count m 0) edge edge1 xf poly total
+  pub in-front : (r : B2manifold) → behind ≡ false
+      → r ≡ edge-manifold-on (edge-polygon-axis total edge edge1 xf poly) (with-count m 0) edge edge1 xf poly total
       → r ≡ edge-polygon-manifold (with-count m 0) edge xf poly
-  in-front r axis fails axis-is r-is =
-      r-is ∙ ap (λ (a : Axis). edge-manifold-on a (with-count m 0) edge edge1 xf poly total) axis-is
-      ∙ by-side (with-count m 0) false fails
+  in-front r fails r-is = r-is ∙ by-side (with-count m 0) false fails
 
 -- the placement of the outline in the wall's frame, as the code has worked it out
 pub at-placement : (m : B2manifold) (edge : B2edgeShape) (xf placed : B2Transform) (poly : B2polygonShape)

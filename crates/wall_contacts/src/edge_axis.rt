@@ -2,28 +2,23 @@
 // wall, which keeps an outline from catching on the seam of two walls. Of the map only the ghost point on the normal's
 // side is looked at, so one root is taken, not two.
 ghost use mathlib.Core.Path.{_≡_};
-ghost use mathlib.Core.Bool.{false};
-ghost use Prim.Native.Nat.{_<_, _≤_};
-ghost use lib.Ieee.{lt};
-ghost use lib.ListN.{length};
+ghost use lib.Ieee.{Float};
+ghost use Rattle.floats.specs.declared.b2_math.B2Transform.{B2Transform};
+ghost use Rattle.shape_definitions.specs.declared.b2_polygon_shape.B2polygonShape.{B2polygonShape};
 ghost use Rattle.contact_definitions.specs.Axis.{separation-of};
-ghost use Rattle.contact_definitions.specs.EdgeAxis.{placed-corner, primary-axis, region-by, region-before};
-ghost use Rattle.contact_definitions.specs.EdgeAxis.{region-after, gauss-region, in-region, smoothed, smoothed-if};
+ghost use Rattle.contact_definitions.specs.EdgeAxis.{right-of, b2-compute-edge-separation};
+ghost use Rattle.contact_definitions.specs.EdgeAxis.{b2-compute-polygon-separation, primary-axis, region-by};
+ghost use Rattle.contact_definitions.specs.EdgeAxis.{region-before, region-after, gauss-region, in-region, smoothed};
 ghost use Rattle.contact_definitions.specs.EdgeAxis.{edge-polygon-axis};
-ghost use Rattle.wall_contacts.specs.PlacedRows.{PointRows};
-ghost use Rattle.wall_contacts.specs.AxisParts.{is-apart, axis-normal, NormalsUnlessApart};
-use crate::edge_separation;
+ghost use Rattle.wall_contacts.specs.AxisParts.{is-apart, axis-normal};
 use contact_definitions::axis::Axis;
 use contact_definitions::b2_collide_edge::GaussRegion;
 use floats::b2_math;
-use floats::b2_math::B2Transform;
 use floats::b2_math::B2vec2;
 use floats::unit;
 use shape_definitions::b2_edge_shape::B2edgeShape;
-use shape_definitions::b2_polygon_shape::B2polygonShape;
-use shape_ranges::places;
 
-fn separation_of(axis: Axis) -> f32
+pub fn separation_of(axis: Axis) -> f32
     ensures { λ r. ⌜ r ≡ separation-of axis ⌝ }
 {
     match axis {
@@ -33,13 +28,15 @@ fn separation_of(axis: Axis) -> f32
     }
 }
 
-// The wall's own axis does not keep the outline off: that is known before the outline's faces are looked at.
-fn primary_axis(radius: f32, edge_axis: Axis, polygon_axis: Axis) -> Axis
-    requires { ⌜ lt radius (separation-of «edge_axis») ≡ false ⌝ }
+// Apart where either keeps the other off by more than the radius; else the outline's axis where it is clearly above.
+pub fn primary_axis(radius: f32, edge_axis: Axis, polygon_axis: Axis) -> Axis
     ensures { λ r. ⌜ r ≡ primary-axis radius «edge_axis» «polygon_axis» ⌝ }
 {
     let wall = separation_of(edge_axis);
     let face = separation_of(polygon_axis);
+    if wall > radius {
+        return Axis::Apart(wall);
+    }
     if face > radius {
         return Axis::Apart(face);
     }
@@ -143,64 +140,17 @@ fn smoothed(edge: B2edgeShape, edge1: B2vec2, edge_axis: Axis, axis: Axis) -> Ax
     )
 }
 
-// The Gauss map is asked of one-sided walls only.
-fn smoothed_if(edge: B2edgeShape, edge1: B2vec2, edge_axis: Axis, axis: Axis) -> Axis
-    ensures { λ r. ⌜ r ≡ smoothed-if (edge .«m_one_sided») edge edge1 «edge_axis» axis ⌝ }
+// What the search answers, of the wall's own axis and the primary one: the Gauss map is asked of one-sided walls only.
+// edge1 is the wall's direction; xf carries the outline to the wall's frame.
+pub fn edge_polygon_axis(edge: B2edgeShape, edge1: B2vec2, edge_axis: Axis, primary: Axis) -> Axis
+    ensures { λ r. ⌜ ((radius : Float) (xf : B2Transform) (polygon : B2polygonShape)
+        → «edge_axis» ≡ b2-compute-edge-separation xf polygon (edge .«m_vertex1») (right-of edge1)
+        → primary ≡ primary-axis radius «edge_axis»
+        (b2-compute-polygon-separation xf polygon (edge .«m_vertex1») (edge .«m_vertex2»))
+        → r ≡ edge-polygon-axis radius edge edge1 xf polygon) ⌝ }
 {
     if edge.m_one_sided {
-        return smoothed(edge, edge1, edge_axis, axis);
+        return smoothed(edge, edge1, edge_axis, primary);
     }
-    axis
-}
-
-// The whole search, in the wall's frame, to which xf carries the outline; edge1 is the wall's direction. The outline's
-// faces are looked at only where the wall's own sides do not keep it off. Its corners in the wall's frame are left in
-// the rows xs and ys, and where it is not apart its normals in nxs and nys.
-pub fn edge_polygon_axis(
-    radius: f32,
-    edge: B2edgeShape,
-    edge1: B2vec2,
-    xf: B2Transform,
-    polygon: B2polygonShape,
-    xs: &mut [f32; 8],
-    ys: &mut [f32; 8],
-    nxs: &mut [f32; 8],
-    nys: &mut [f32; 8],
-) -> Axis
-    requires { ⌜ (polygon .«m_count» ≤ 8) × (length (now xs) ≡ 8) × (length (now ys) ≡ 8) × (length (now nxs) ≡ 8)
-        × (length (now nys) ≡ 8) ⌝ }
-    ensures { λ r. ⌜ (r ≡ edge-polygon-axis radius edge edge1 xf polygon)
-        × PointRows (placed-corner xf polygon) (polygon .«m_count») (now (xs .exit)) (now (ys .exit))
-        × NormalsUnlessApart r xf polygon (now (nxs .exit)) (now (nys .exit)) ⌝ }
-{
-    let count = polygon.m_count;
-    let n = places::padded(count);
-    let vs = polygon.m_vertices;
-    edge_separation::place_rows(xf, vs, n, xs, ys);
-    let v1 = edge.m_vertex1;
-    let normal1 = B2vec2 {
-        x: edge1.y,
-        y: -edge1.x,
-    };
-    let wall = edge_separation::b2_compute_edge_separation(xs, ys, n, count, v1, normal1);
-    let off = separation_of(wall);
-    if off > radius {
-        return Axis::Apart(off);
-    }
-    let mut faces = [0.0f32; 8];
-    let ns = polygon.m_normals;
-    edge_separation::normal_rows(
-        xf.q,
-        ns,
-        xs,
-        ys,
-        n,
-        edge.m_vertex1,
-        edge.m_vertex2,
-        nxs,
-        nys,
-        &mut faces,
-    );
-    let face = edge_separation::b2_compute_polygon_separation(&faces, nxs, nys, count);
-    smoothed_if(edge, edge1, wall, primary_axis(radius, wall, face))
+    primary
 }

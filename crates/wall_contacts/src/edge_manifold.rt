@@ -5,11 +5,11 @@ ghost use Prim.Native.Nat.{_<_, _≤_};
 ghost use lib.Ieee.{le};
 ghost use Rattle.floats.specs.B2Math.{b2-sub, b2-dot};
 ghost use Rattle.contact_definitions.specs.Manifold.{with-count};
-ghost use Rattle.contact_definitions.specs.EdgeAxis.{placed-corner};
+ghost use Rattle.contact_definitions.specs.EdgeAxis.{placed-corner, placed-normal};
 ghost use Rattle.contact_definitions.specs.EdgeReference.{edge-manifold-on};
 ghost use Rattle.wall_contacts.specs.Reference.{placed-end, reference-manifold};
 ghost use Rattle.wall_contacts.specs.PlacedRows.{PointRows};
-ghost use Rattle.wall_contacts.specs.AxisParts.{place-below, NormalsUnlessApart};
+ghost use Rattle.wall_contacts.specs.AxisParts.{place-below};
 use crate::edge_reference;
 use crate::edge_reference::Reference;
 use collision::clip;
@@ -88,7 +88,7 @@ fn reference_manifold(m: B2manifold, f: Reference, xf: B2Transform, radius: f32)
     }
 }
 
-// The rows hold the outline's corners and, unless the axis says apart, its normals in the wall's frame.
+// The rows hold the outline's corners and normals in the wall's frame.
 pub fn edge_manifold_on(
     axis: Axis,
     m: B2manifold,
@@ -104,7 +104,7 @@ pub fn edge_manifold_on(
 ) -> B2manifold
     requires { ⌜ (0 < polygon .«m_count») × (polygon .«m_count» ≤ 8) × place-below (polygon .«m_count») axis
         × PointRows (placed-corner xf polygon) (polygon .«m_count») (now xs) (now ys)
-        × NormalsUnlessApart axis xf polygon (now nxs) (now nys) ⌝ }
+        × PointRows (placed-normal xf polygon) (polygon .«m_count») (now nxs) (now nys) ⌝ }
     ensures { λ r. ⌜ r ≡ edge-manifold-on axis (with-count m 0) edge edge1 xf polygon radius ⌝ }
 {
     let count = polygon.m_count;

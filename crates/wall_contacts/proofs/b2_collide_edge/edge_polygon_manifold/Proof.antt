@@ -1,9 +1,11 @@
--- Behind the wall, or by the axis found. Assumes nothing.
-use mathlib.Core.Path.{_≡_, sym, _∙_, ap}
+-- Behind the wall, kept off by its own sides, or by the axis found with the outline's faces. Assumes nothing.
+use mathlib.Core.Path.{_≡_, refl, sym, _∙_, ap}
 use Rattle.floats.specs.B2Math.{b2-sub, b2-normalize}
 use Rattle.floats.specs.Unit.{unit-scale}
-use Rattle.wall_contacts.proofs.FacePlaces.{found-place}
-use Rattle.wall_contacts.proofs.Manifolds.{none-behind, in-front}
+use Rattle.contact_definitions.specs.Manifold.{with-count}
+use Rattle.contact_definitions.specs.EdgeAxis.{right-of, b2-compute-edge-separation}
+use Rattle.wall_contacts.proofs.AxisFound.{corners-placed, apart-found}
+use Rattle.wall_contacts.proofs.Manifolds.{on-found, none-behind, in-front}
 use borrow.Author.Needs.{needs}
 use Rattle.wall_contacts.proofs.b2_collide_edge.edge_polygon_manifold.Statement.{statement}
 use Rattle.wall_contacts.proofs.b2_collide_edge.edge_polygon_manifold.Tie as tie
@@ -12,7 +14,7 @@ b2-sub-requires : tie.Need-b2-sub-requires
 b2-sub-requires c κs = search needs
 
 scaled-requires : tie.Need-scaled-requires
-scaled-requires c κs = c .before .pre .2 ∙ ap unit-scale (sym (c .b2-sub .ensures))
+scaled-requires c κs = c .before .before .pre .2 ∙ ap unit-scale (sym (c .b2-sub .ensures))
 
 centroid-behind-requires : tie.Need-centroid-behind-requires
 centroid-behind-requires c κs = search needs
@@ -21,7 +23,7 @@ no-points-requires : tie.Need-no-points-requires
 no-points-requires c κs = search needs
 
 abbrev start-of : tie.After-scaled → tie.Start
-start-of w = w .before .before
+start-of w = w .before .before .before
 
 abbrev scaled-of : tie.After-centroid-behind → tie.After-scaled
 scaled-of w = w .before .before
@@ -38,34 +40,71 @@ returns c =
     none-behind (args .m) (args .edge) _ (args .xf) (args .polygon) _ (edge1-is (scaled-of side))
     (side .centroid-behind .ensures) _ (c .before .if1 .taken) (c .no-points .ensures)
 
-edge-polygon-axis-requires : tie.Need-edge-polygon-axis-requires
-edge-polygon-axis-requires c κs = search needs
+padded-requires : tie.Need-padded-requires
+padded-requires c κs = search needs
 
-abbrev in-front-of : tie.After-edge-polygon-axis → tie.Else1
-in-front-of w = w .before .before .before .before .before .before .before
+place-rows-requires : tie.Need-place-rows-requires
+place-rows-requires c κs = search needs
 
-edge-manifold-on-requires : tie.Need-edge-manifold-on-requires
-edge-manifold-on-requires c κs =
-    let axis = c .before .before .before .before in
-    let start = start-of (scaled-of (in-front-of axis .before)) in
-    let found = axis .edge-polygon-axis .ensures in
-    let args = start .args in (
-      start .pre .0,
-      start .pre .1,
-      found-place (args .xf) (args .polygon) _ (args .edge) _ _ (start .pre .0) (found .0),
-      found .1,
-      found .2,
-    )
+b2-compute-edge-separation-requires : tie.Need-b2-compute-edge-separation-requires
+b2-compute-edge-separation-requires c κs = search needs
+
+separation-of-requires : tie.Need-separation-of-requires
+separation-of-requires c κs = search needs
+
+no-points-requires-2 : tie.Need-no-points-requires-2
+no-points-requires-2 c κs = search needs
+
+abbrev placed-of : tie.After-b2-compute-edge-separation → tie.After-place-rows
+placed-of w = w .before .before .before .before .before
+
+abbrev padded-of : tie.After-place-rows → tie.After-padded
+padded-of w = w .before .before .before .before
+
+abbrev front-of : tie.After-b2-compute-edge-separation → tie.Else1
+front-of w = padded-of (placed-of w) .before
+
+abbrev begun-of : tie.After-b2-compute-edge-separation → tie.After-scaled
+begun-of w = scaled-of (front-of w .before)
+
+wall-is : (w : tie.After-b2-compute-edge-separation)
+    → w .b2-compute-edge-separation .result
+    ≡ b2-compute-edge-separation (start-of (begun-of w) .args .xf) (start-of (begun-of w) .args .polygon)
+    (start-of (begun-of w) .args .edge .«m_vertex1») (right-of (begun-of w .scaled .result))
+unfolding right-of
+wall-is w =
+    let args = start-of (begun-of w) .args in
+    w .b2-compute-edge-separation .ensures (args .xf) (args .polygon) refl
+    (corners-placed (args .xf) (args .polygon) (placed-of w .place-rows .ensures))
 
 returns-2 : tie.Need-returns-2
 returns-2 c =
-    let axis = c .before .before .before .before .before in
-    let front = in-front-of axis in
-    let scaled = scaled-of (front .before) in
-    let args = start-of scaled .args in
-    in-front (args .m) (args .edge) _ (args .xf) (args .polygon) _ (edge1-is scaled)
-    (front .before .centroid-behind .ensures) _ _ (front .if1 .left) (axis .edge-polygon-axis .ensures .0)
-    (c .edge-manifold-on .ensures)
+    let wall = c .before .before .before in
+    let args = start-of (begun-of wall) .args in
+    in-front (args .m) (args .edge) _ (args .xf) (args .polygon) _ (edge1-is (begun-of wall))
+    (front-of wall .before .centroid-behind .ensures) _ (front-of wall .if1 .left)
+    (on-found (with-count (args .m) 0) (args .edge) _ (args .xf) (args .polygon) _ _ _
+    (apart-found (args .edge) _ (args .xf) (args .polygon) _ _ _ (wall-is wall) (c .before .before .separation-of .ensures)
+    (c .before .if2 .taken)) (c .no-points2 .ensures))
+
+with-faces-requires : tie.Need-with-faces-requires
+with-faces-requires c κs =
+    let wall = c .before .before .before .before in
+    let start = start-of (begun-of wall) in
+    let few = padded-of (placed-of wall) .padded .ensures in (
+      start .pre .0,
+      few .0,
+      few .1,
+      wall-is wall,
+      corners-placed (start .args .xf) (start .args .polygon) (placed-of wall .place-rows .ensures),
+    )
+
+returns-3 : tie.Need-returns-3
+returns-3 c =
+    let wall = c .before .before .before .before .before in
+    let args = start-of (begun-of wall) .args in
+    in-front (args .m) (args .edge) _ (args .xf) (args .polygon) _ (edge1-is (begun-of wall))
+    (front-of wall .before .centroid-behind .ensures) _ (front-of wall .if1 .left) (c .with-faces .ensures)
 
 pub edge-polygon-manifold-spec : {M : Type 1} → statement M
 edge-polygon-manifold-spec =
@@ -76,6 +115,11 @@ edge-polygon-manifold-spec =
     centroid-behind-requires
     no-points-requires
     returns
-    edge-polygon-axis-requires
-    edge-manifold-on-requires
-    returns-2)
+    padded-requires
+    place-rows-requires
+    b2-compute-edge-separation-requires
+    separation-of-requires
+    no-points-requires-2
+    returns-2
+    with-faces-requires
+    returns-3)

@@ -13,29 +13,31 @@ separation-of-requires-2 c κs = search needs
 returns : tie.Need-returns
 unfolding primary-axis
 returns c =
-    let separation-of2′ = c .before .separation-of2 in
-    let pre′ = c .before .before .before .pre in
-    simp (pre′, ← separation-of2′ .ensures, c .if1 .taken)
+    let wall = c .before .before .separation-of in
+    simp (← wall .ensures, c .if1 .taken)
 
 returns-2 : tie.Need-returns-2
-unfolding primary-axis clearly-above
+unfolding primary-axis
 returns-2 c =
-    let if1′ = c .before .if1 in
-    let separation-of2′ = c .before .before .separation-of2 in
-    let separation-of′ = c .before .before .before .separation-of in
-    let pre′ = c .before .before .before .before .pre in
-    simp (pre′, ← separation-of2′ .ensures, ← separation-of′ .ensures, if1′ .left, c .if2 .taken)
+    let face = c .before .before .separation-of2 in
+    let wall = c .before .before .before .separation-of in
+    simp (← face .ensures, ← wall .ensures, c .before .if1 .left, c .if2 .taken)
 
 returns-3 : tie.Need-returns-3
 unfolding primary-axis clearly-above
 returns-3 c =
-    let if1′ = c .before .if1 in
-    let separation-of2′ = c .before .before .separation-of2 in
-    let separation-of′ = c .before .before .before .separation-of in
-    let pre′ = c .before .before .before .before .pre in
-    simp (pre′, ← separation-of2′ .ensures, ← separation-of′ .ensures, if1′ .left, c .if2 .left)
+    let face = c .before .before .before .separation-of2 in
+    let wall = c .before .before .before .before .separation-of in
+    simp (← face .ensures, ← wall .ensures, c .before .before .if1 .left, c .before .if2 .left, c .if3 .taken)
+
+returns-4 : tie.Need-returns-4
+unfolding primary-axis clearly-above
+returns-4 c =
+    let face = c .before .before .before .separation-of2 in
+    let wall = c .before .before .before .before .separation-of in
+    simp (← face .ensures, ← wall .ensures, c .before .before .if1 .left, c .before .if2 .left, c .if3 .left)
 
 pub primary-axis-spec : {M : Type 1} → statement M
 primary-axis-spec =
     tie.close
-    (tie.spec separation-of-requires separation-of-requires-2 returns returns-2 returns-3)
+    (tie.spec separation-of-requires separation-of-requires-2 returns returns-2 returns-3 returns-4)

@@ -9,7 +9,7 @@ use Rattle.wall_contacts.specs.declared.edge_reference.Reference.{Refere
 use Rattle.contact_definitions.specs.EdgeReference.{edge-manifold-on}
 use Rattle.contact_definitions.specs.Manifold.{with-count}
 use Rattle.wall_contacts.specs.Reference.{reference-manifold}
-use Rattle.wall_contacts.specs.AxisParts.{is-apart, place-below}
+use Rattle.wall_contacts.specs.AxisParts.{place-below}
 use Rattle.wall_contacts.proofs.References.{on-wall, on-face-read}
 use borrow.Author.Needs.{needs}
 use Rattle.wall_contacts.proofs.edge_manifold.edge_manifold_on.Statement.{statement}
@@ -38,9 +38,7 @@ enum-known-axis-2 : tie.Need-enum-known-axis-2
 enum-known-axis-2 c = search needs
 
 reference-a-requires : tie.Need-reference-a-requires
-reference-a-requires c κs =
-    let pre′ = c .before .before .before .before .before .pre in
-    (pre′ .0, pre′ .1, pre′ .4 .x-size, pre′ .4 .y-size, pre′ .3 .x .size, pre′ .3 .y .size)
+reference-a-requires c κs = search needs
 
 enum-known-axis-3 : tie.Need-enum-known-axis-3
 enum-known-axis-3 c = search needs
@@ -83,33 +81,42 @@ reference-b-requires c κs =
     let args′ = c .before .before .before .before .before .before .before .before .before .args in
     let pre′ = c .before .before .before .before .before .before .before .before .before .pre in
     let below = subst (place-below (args′ .polygon .«m_count»)) (axis3′ .given .1) (pre′ .2) in
-    (below, pre′ .1, pre′ .4 .x-size, pre′ .4 .y-size, pre′ .3 .x .size, pre′ .3 .y .size)
+    (below, pre′ .1, pre′ .4 .x .size, pre′ .4 .y .size, pre′ .3 .x .size, pre′ .3 .y .size)
 
 reference-manifold-requires : tie.Need-reference-manifold-requires
 reference-manifold-requires c κs = search needs
 
+abbrev start-of : tie.After-reference-manifold → tie.Start
+start-of c = c .before .before .before .before
+
+abbrev made : tie.After-reference-manifold → Reference → B2manifold
+made c f =
+    let args = start-of c .args in
+    reference-manifold f (args .m) (args .xf) (args .radius)
+
+abbrev on : tie.After-reference-manifold → Axis → B2manifold
+on c axis =
+    let args = start-of c .args in
+    edge-manifold-on axis (with-count (args .m) 0) (args .edge) (args .edge1) (args .xf) (args .polygon) (args .radius)
+
 returns-2 : tie.Need-returns-2
 returns-2 c =
-    let start = c .before .before .before .before in
-    let args = start .args in
-    let pre = start .pre in
-    let two = eight-places start in
-    let made : Reference → B2manifold = λ f. reference-manifold f (args .m) (args .xf) (args .radius) in
-    let on : Axis → B2manifold = λ axis. edge-manifold-on axis (with-count (args .m) 0) (args .edge) (args .edge1)
-    (args .xf) (args .polygon) (args .radius) in
     ⊎-elim
     (λ w.
-    let normals = pre .4 .rows (ap is-apart (w .1 .given .1)) in
-    c .reference-manifold .ensures ∙ ap made (w .4 ∙ w .3 .ensures (args .xf) (args .polygon) refl (pre .3) normals)
+    let args = start-of c .args in
+    let pre = start-of c .pre in
+    c .reference-manifold .ensures ∙ ap (made c) (w .4 ∙ w .3 .ensures (args .xf) (args .polygon) refl (pre .3) (pre .4))
     ∙ on-wall (args .m) (args .edge) (args .xf) (args .polygon) (args .radius) (args .edge1) _
-    ∙ ap on (sym (w .1 .given .1)))
+    ∙ ap (on c) (sym (w .1 .given .1)))
     (λ w.
+    let args = start-of c .args in
+    let pre = start-of c .pre in
+    let two = eight-places (start-of c) in
     let below = subst (place-below (args .polygon .«m_count»)) (w .1 .given .1) (pre .2) in
-    let normals = pre .4 .rows (ap is-apart (w .1 .given .1)) in
-    c .reference-manifold .ensures ∙ ap made (w .8 ∙ w .7 .ensures (args .xf) (args .polygon) refl (pre .3) normals)
+    c .reference-manifold .ensures ∙ ap (made c) (w .8 ∙ w .7 .ensures (args .xf) (args .polygon) refl (pre .3) (pre .4))
     ∙ on-face-read (args .m) (args .edge) (args .xf) (args .polygon) (args .radius) _ _ _ (omega arith) (two .1)
     (two .0)
-    ∙ ap on (sym (w .1 .given .1)))
+    ∙ ap (on c) (sym (w .1 .given .1)))
     (c .before .match .came)
 
 pub edge-manifold-on-spec : {M : Type 1} → statement M
