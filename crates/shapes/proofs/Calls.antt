@@ -20,7 +20,7 @@ use types.Kit.{join, fjoin, pick}
 use types.Kit.{Post, runs, lands, await, frame, done}
 use types.Run.{Opds}
 use denote.RattleType.{owns}
-use denote.Laws.{Is, shows}
+use denote.Laws.{Is, Typed, shows}
 use denote.Plain.{uint-makes}
 use denote.Ref.{RefT, now}
 use denote.Slice.{sliceVal, ShrSlice, shr-slice-copy}
@@ -117,6 +117,9 @@ module _ {M : Type 1} (𝓤 : URA M) (H : Heap 𝓤) (A : Atoms 𝓤) (mem : Mem
         use1 W (raw (fact 𝓤 (p ≡ point-at (now x) i))) (said i p) $
         heard t (p ≡ point-at (now x) i) (λ p-is. split t $ move t (1 ∷ []) $
         peeks t vec.the-row (Is vec.the-row) (shows 𝓤 H A vec.the-row) p (v ∷ []) (λ is. go-on p p-is is)))
+
+    pub point-typed : (a : Read) → Typed (vec.the-row .mir) (a .v ∷ [])
+    point-typed a = laws.lawful vec.the-type vec-laws.the-laws 𝓤 H A W .typed (a .p) _ (a .is)
 
     -- the whole step
     pub reads : {K : Type 0} {Γ : List (Item 𝓤)} {E : Env 𝓤 H} {C : Calls 𝓤 H} {Λ : Loops 𝓤 H} {f : Name}

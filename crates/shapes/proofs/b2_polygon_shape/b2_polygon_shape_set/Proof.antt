@@ -95,7 +95,6 @@ module _ {M : Type 1} (𝓤 : URA M) (H : Heap 𝓤) (A : Atoms 𝓤) (W : Given
           → ent 𝓤 (onEntry 𝓤 H A f.signature (κ, tt) (q, tt) (old, (x, tt)) (value old ∷ [], (slice x ∷ [], tt)))
           (WpFn 𝓤 H C Λ code.function (value old ∷ slice x ∷ []) Post)
       walk room =
-          let typed = laws.lawful vec.the-type vec-laws.the-laws 𝓤 H A W .typed in
           qed W (asks.Token 𝓤 H A mem run W κ q x
           ∷ ‵ (owns (polygon.the-row ∷ ShrSlice (named 0) κ vec.the-row ∷ []) (old, (x, tt))
           (value old ∷ [], (slice x ∷ [], tt))) ∷ []) ∵
@@ -110,28 +109,28 @@ module _ {M : Type 1} (𝓤 : URA M) (H : Heap 𝓤) (A : Atoms 𝓤) (W : Given
           pass1 ! (init ! 18 refl (tt, (tt, (record { fits = room .0 }, tt)))) $ pass0 ! $ move ! (24 ∷ 25 ∷ []) $
           asks.reads 𝓤 H A mem run W κ q x ! fm known 0 (lit< tt)
           (and-then ! (load ! (from ! (stop !)) (look ! 20 refl)) (and-then ! (lit ! tt) (no-more !))) (λ a0 a0-is.
-          land ! (from ! (stop !)) (init ! 19 refl (typed (a0 .p) _ (a0 .is) .0)) $ drop ! $ move ! (1 ∷ []) $
+          land ! (from ! (stop !)) (init ! 19 refl (asks.point-typed 𝓤 H A mem run W κ q x a0 .0)) $ drop ! $ move ! (1 ∷ []) $
           asks.reads 𝓤 H A mem run W κ q x ! fm known 1 (lit< tt)
           (and-then ! (load ! (from ! (stop !)) (look ! 20 refl)) (and-then ! (lit ! tt) (no-more !))) (λ a1 a1-is.
-          land ! (from ! (stop !)) (init ! 17 refl (typed (a1 .p) _ (a1 .is) .0)) $ drop ! $ move ! (1 ∷ []) $
+          land ! (from ! (stop !)) (init ! 17 refl (asks.point-typed 𝓤 H A mem run W κ q x a1 .0)) $ drop ! $ move ! (1 ∷ []) $
           asks.reads 𝓤 H A mem run W κ q x ! fm known 2 (lit< tt)
           (and-then ! (load ! (from ! (stop !)) (look ! 20 refl)) (and-then ! (lit ! tt) (no-more !))) (λ a2 a2-is.
-          land ! (from ! (stop !)) (init ! 15 refl (typed (a2 .p) _ (a2 .is) .0)) $ drop ! $ move ! (1 ∷ []) $
+          land ! (from ! (stop !)) (init ! 15 refl (asks.point-typed 𝓤 H A mem run W κ q x a2 .0)) $ drop ! $ move ! (1 ∷ []) $
           asks.reads 𝓤 H A mem run W κ q x ! fm known 3 (lit< tt)
           (and-then ! (load ! (from ! (stop !)) (look ! 20 refl)) (and-then ! (lit ! tt) (no-more !))) (λ a3 a3-is.
-          land ! (from ! (stop !)) (init ! 13 refl (typed (a3 .p) _ (a3 .is) .0)) $ drop ! $ move ! (1 ∷ []) $
+          land ! (from ! (stop !)) (init ! 13 refl (asks.point-typed 𝓤 H A mem run W κ q x a3 .0)) $ drop ! $ move ! (1 ∷ []) $
           asks.reads 𝓤 H A mem run W κ q x ! fm known 4 (lit< tt)
           (and-then ! (load ! (from ! (stop !)) (look ! 20 refl)) (and-then ! (lit ! tt) (no-more !))) (λ a4 a4-is.
-          land ! (from ! (stop !)) (init ! 11 refl (typed (a4 .p) _ (a4 .is) .0)) $ drop ! $ move ! (1 ∷ []) $
+          land ! (from ! (stop !)) (init ! 11 refl (asks.point-typed 𝓤 H A mem run W κ q x a4 .0)) $ drop ! $ move ! (1 ∷ []) $
           asks.reads 𝓤 H A mem run W κ q x ! fm known 5 (lit< tt)
           (and-then ! (load ! (from ! (stop !)) (look ! 20 refl)) (and-then ! (lit ! tt) (no-more !))) (λ a5 a5-is.
-          land ! (from ! (stop !)) (init ! 9 refl (typed (a5 .p) _ (a5 .is) .0)) $ drop ! $ move ! (1 ∷ []) $
+          land ! (from ! (stop !)) (init ! 9 refl (asks.point-typed 𝓤 H A mem run W κ q x a5 .0)) $ drop ! $ move ! (1 ∷ []) $
           asks.reads 𝓤 H A mem run W κ q x ! fm known 6 (lit< tt)
           (and-then ! (load ! (from ! (stop !)) (look ! 20 refl)) (and-then ! (lit ! tt) (no-more !))) (λ a6 a6-is.
-          land ! (from ! (stop !)) (init ! 7 refl (typed (a6 .p) _ (a6 .is) .0)) $ drop ! $ move ! (1 ∷ []) $
+          land ! (from ! (stop !)) (init ! 7 refl (asks.point-typed 𝓤 H A mem run W κ q x a6 .0)) $ drop ! $ move ! (1 ∷ []) $
           asks.reads 𝓤 H A mem run W κ q x ! fm known 7 (lit< tt)
           (and-then ! (load ! (from ! (stop !)) (look ! 20 refl)) (and-then ! (lit ! tt) (no-more !))) (λ a7 a7-is.
-          land ! (from ! (stop !)) (init ! 5 refl (typed (a7 .p) _ (a7 .is) .0)) $ drop ! $ move ! (1 ∷ []) $
+          land ! (from ! (stop !)) (init ! 5 refl (asks.point-typed 𝓤 H A mem run W κ q x a7 .0)) $ drop ! $ move ! (1 ∷ []) $
           let SetOfEight = asks.SetOfEight 𝓤 H A mem run in
           let to-eight = asks.to-eight 𝓤 H A mem run W κ q x old a0 a1 a2 a3 a4 a5 a6 a7 in
           let answered = asks.answered 𝓤 H A mem run W κ q x old a0 a1 a2 a3 a4 a5 a6 a7 in
