@@ -71,9 +71,9 @@ module _ (a b : Body) (pair : Pair) (bytes : List ℕ) (number : ℕ) (number-is
       turn-is is = kind-6 a b pair bytes kind is ∙ of-kind
 
       pub test-is : (ida idb : ℕ) → ida ≡ byte-at bytes 1 → idb ≡ byte-at bytes 2 → (kind ≡ 1 → ⊥) → (kind ≡ 2 → ⊥)
-          → (kind ≡ 3 → ⊥) → (kind ≡ 4 → ⊥) → (byte-at bytes 0 ≡ 6 → ⊥)
+          → (kind ≡ 3 → ⊥) → (kind ≡ 4 → ⊥) → (kind ≡ 6 → ⊥)
           → test-change ida idb a b pair ≡ change a b pair bytes
       test-is ida idb ida-is idb-is no-1 no-2 no-3 no-4 no-6 =
           ap₂ (λ (i j : ℕ). test-change i j a b pair) ida-is idb-is
-          ∙ other-kind a b pair bytes kind no-1 no-2 no-3 no-4 (λ is. no-6 (sym kind-is ∙ is))
+          ∙ other-kind a b pair bytes kind no-1 no-2 no-3 no-4 no-6
           ∙ of-kind

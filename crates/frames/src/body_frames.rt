@@ -106,7 +106,7 @@ fn turn_number(bytes: &[u8], at: usize) -> usize
 }
 
 // 06 id x y turn number: the heading comes from the lent table.
-pub fn turn_frame(body: Body, pair: Pair, bytes: &[u8], sines: &[f32; 1025]) -> Change
+pub fn turn_frame(body: Body, pair: Pair, bytes: &[u8], sines: &[f32]) -> Change
     requires { ⌜ (length (now bytes) ≡ 12) × (now sines ≡ quarter-waves) ⌝ }
     ensures { λ r. ⌜ r ≡ turn-change body pair (now (bytes .entry)) ⌝ }
 {

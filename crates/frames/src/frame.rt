@@ -89,10 +89,10 @@ fn frame_refusal(bytes: &[u8]) -> u8
     refusal::ACCEPTED
 }
 
-// What a frame of any kind but 06 makes of the body that its first id names and of the pair, and what is said of it. The
-// second body is the one that its third byte names.
-pub fn frame_without_sines(a: Body, b: Body, pair: Pair, bytes: &[u8]) -> Change
-    requires { ⌜ (byte-at (now bytes) 0 ≡ 6 → ⊥) ⌝ }
+// What a frame makes of the body that its first id names and of the pair, and what is said of it. The second body is
+// the one that its third byte names. Frame 06 alone reads the lent table: who sends none may lend an empty one.
+pub fn frame(a: Body, b: Body, pair: Pair, bytes: &[u8], sines: &[f32]) -> Change
+    requires { ⌜ (byte-at (now bytes) 0 ≡ 6 → now sines ≡ quarter-waves) ⌝ }
     ensures { λ r. ⌜ r ≡ definitions.change a b pair (now (bytes .entry)) ⌝ }
 {
     let number = frame_refusal(bytes);
@@ -105,21 +105,7 @@ pub fn frame_without_sines(a: Body, b: Body, pair: Pair, bytes: &[u8]) -> Change
         2 => body_frames::outline_frame(a, pair, bytes),
         3 => body_frames::wall_frame(a, pair, bytes),
         4 => body_frames::place_frame(a, pair, bytes),
+        6 => body_frames::turn_frame(a, pair, bytes, sines),
         _ => { test_frame::test_frame(fields::byte(bytes, 1), fields::byte(bytes, 2), a, b, pair) }
     }
-}
-
-// The same of any frame: 06 takes its heading from the lent table.
-pub fn frame(a: Body, b: Body, pair: Pair, bytes: &[u8], sines: &[f32; 1025]) -> Change
-    requires { ⌜ now sines ≡ quarter-waves ⌝ }
-    ensures { λ r. ⌜ r ≡ definitions.change a b pair (now (bytes .entry)) ⌝ }
-{
-    if fields::byte(bytes, 0) != 6 {
-        return frame_without_sines(a, b, pair, bytes);
-    }
-    let number = frame_refusal(bytes);
-    if number != refusal::ACCEPTED {
-        return world::refused(number, a, pair);
-    }
-    body_frames::turn_frame(a, pair, bytes, sines)
 }

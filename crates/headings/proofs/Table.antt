@@ -17,6 +17,9 @@ pub table-length : length quarter-waves ≡ 1025
 unfolding quarter-waves
 table-length = length-map sines (ofBits binary32) ∙ sines-length
 
+pub lent-length : (row : List Float) → row ≡ quarter-waves → length row ≡ 1025
+lent-length row row-is = ap length row-is ∙ table-length
+
 -- whatever is said to stand past the end
 pub table-entry : (row : List Float) (k : ℕ) (d : Float) → row ≡ quarter-waves → k ≤ 1024 → getD row k d ≡ quarter-wave k
 unfolding quarter-wave quarter-waves

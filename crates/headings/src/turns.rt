@@ -20,7 +20,7 @@ fn opposite(x: f32) -> f32
 }
 
 // The heading of a turn number, from the lent table; from the last quarter on, that of the last quarter.
-pub fn heading(sines: &[f32; 1025], number: usize) -> B2Rot
+pub fn heading(sines: &[f32], number: usize) -> B2Rot
     requires { ⌜ now sines ≡ quarter-waves ⌝ }
     ensures { λ r. ⌜ r ≡ heading number ⌝ }
 {

@@ -70,18 +70,18 @@ fn begin_all(frames: &[u8], first: usize, outline: usize, second: usize) -> bool
     some_first & some_second & f0 & f1 & f2 & f3
 }
 
-// What two frames make of a body: the first defines its shape, the second places it.
+// What two frames make of a body: the first defines its shape, the second places it. Neither needs the table of sines.
 fn both_changes<'a>(shape: &'a [u8], placement: &'a [u8]) -> Change
     requires { ⌜ (byte-at (now shape) 0 ≡ 2) × (byte-at (now placement) 0 ≡ 4) ⌝ }
     ensures { λ r. ⌜ r ≡ both-changes (now (shape .entry)) (now (placement .entry)) ⌝ }
 {
     let blank = world::blank_body();
     let fresh = world::fresh_pair();
-    let c = frame::frame_without_sines(blank, blank, fresh, shape);
+    let c = frame::frame(blank, blank, fresh, shape, &[]);
     if refusal_in(c.said) != 0 {
         return c;
     }
-    frame::frame_without_sines(c.body, blank, fresh, placement)
+    frame::frame(c.body, blank, fresh, placement, &[])
 }
 
 // What a fresh program says of the test of two bodies that four frames define and place, or of the first frame that is
@@ -100,7 +100,7 @@ fn run<'a>(f0: &'a [u8], f1: &'a [u8], f2: &'a [u8], f3: &'a [u8]) -> Said
         return b.said;
     }
     let fresh = world::fresh_pair();
-    let c = frame::frame_without_sines(a.body, b.body, fresh, b"\x05\x00\x01");
+    let c = frame::frame(a.body, b.body, fresh, b"\x05\x00\x01", &[]);
     c.said
 }
 

@@ -1,5 +1,6 @@
 -- Both bodies, and their test. Assumes nothing.
 use Rattle.record.proofs.FiveFrames.{first-body-refused, second-body-refused, bodies-tested}
+use native.Mathlib.Omega.{arith}
 use borrow.Author.Needs.{needs}
 use Rattle.record.proofs.export.run.Statement.{statement}
 use Rattle.record.proofs.export.run.Tie as tie
@@ -45,19 +46,22 @@ returns-2 c =
 fresh-pair-requires : tie.Need-fresh-pair-requires
 fresh-pair-requires c κs = search needs
 
-slice-aggregate-frame-without-sines : tie.Need-slice-aggregate-frame-without-sines
-slice-aggregate-frame-without-sines c = search needs
+slice-aggregate-frame : tie.Need-slice-aggregate-frame
+slice-aggregate-frame c = search needs
 
-frame-without-sines-requires : tie.Need-frame-without-sines-requires
-frame-without-sines-requires c κs = search needs
+slice-aggregate-frame-2 : tie.Need-slice-aggregate-frame-2
+slice-aggregate-frame-2 c = search needs
+
+frame-requires : tie.Need-frame-requires
+frame-requires c κs = λ turned. absurd (omega (arith, turned))
 
 returns-3 : tie.Need-returns-3
 returns-3 c =
-    let frame′ = c .before .frame-without-sines in
-    let fresh-pair′ = c .before .before .before .fresh-pair in
-    let if2′ = c .before .before .before .before .if2 in
-    let refusal-in2′ = c .before .before .before .before .before .refusal-in2 in
-    let at-both-changes2 = c .before .before .before .before .before .before in
+    let frame′ = c .before .frame in
+    let fresh-pair′ = c .before .before .before .before .fresh-pair in
+    let if2′ = c .before .before .before .before .before .if2 in
+    let refusal-in2′ = c .before .before .before .before .before .before .refusal-in2 in
+    let at-both-changes2 = c .before .before .before .before .before .before .before in
     let both-changes2′ = at-both-changes2 .both-changes2 in
     let if1′ = at-both-changes2 .before .if1 in
     let refusal-in′ = at-both-changes2 .before .before .refusal-in in
@@ -81,6 +85,7 @@ run-spec =
     refusal-in-requires-2
     returns-2
     fresh-pair-requires
-    slice-aggregate-frame-without-sines
-    frame-without-sines-requires
+    slice-aggregate-frame
+    slice-aggregate-frame-2
+    frame-requires
     returns-3)

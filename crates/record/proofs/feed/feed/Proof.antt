@@ -2,6 +2,7 @@
 use mathlib.Core.Path.{refl, sym}
 use native.Mathlib.Omega.{arith}
 use lib.Seq.{length-take-le}
+use Rattle.headings.proofs.Table.{lent-length}
 use Rattle.record_definitions.specs.Answer.{said-line}
 use Rattle.record_definitions.proofs.Feeding.{next-character}
 use Rattle.record.proofs.Turns.{line-forgets, line-keeps}
@@ -70,10 +71,15 @@ array-share-prefix-bytes c = search needs
 slice-aggregate-frame : tie.Need-slice-aggregate-frame Inv-loop μ-loop
 slice-aggregate-frame c = sym (length-take-le _ _ (omega arith))
 
+slice-aggregate-frame-2 : tie.Need-slice-aggregate-frame-2 Inv-loop μ-loop
+slice-aggregate-frame-2 c =
+    let at-loop = c .before .before .before .before .before .before .before .before .before .before .before .before .before in
+    sym (lent-length _ (at-loop .before .before .before .before .sines .ensures))
+
 frame-requires : tie.Need-frame-requires Inv-loop μ-loop
 frame-requires c κs =
     let at-loop = c .before .before .before .before .before .before .before .before .before .before .before .before .before in
-    at-loop .before .before .before .before .sines .ensures
+    λ turned. at-loop .before .before .before .before .sines .ensures
 
 part-put-said-line-end : tie.Need-part-put-said-line-end Inv-loop μ-loop
 part-put-said-line-end c = search needs
@@ -195,6 +201,7 @@ feed-spec =
     element-copy-out-frame-3
     array-share-prefix-bytes
     slice-aggregate-frame
+    slice-aggregate-frame-2
     frame-requires
     sub-put-said-line
     part-put-said-line-start

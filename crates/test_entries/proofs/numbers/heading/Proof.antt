@@ -1,8 +1,9 @@
 -- Entry 17 answers the heading's words, 14 to an unknown turn, or nothing to a request of another length. Assumes
 -- nothing.
-use mathlib.Core.Path.{refl, _∙_}
+use mathlib.Core.Path.{refl, sym}
 use mathlib.Core.Bool.{true}
 use borrow.Author.Tests.{lt-ltb, le-ltb}
+use Rattle.headings.proofs.Table.{lent-length}
 use Rattle.wire.proofs.Requests.{other-length, answered}
 use Rattle.test_entries.specs.Numbers.{heading-answer}
 use borrow.Author.Needs.{needs}
@@ -43,6 +44,9 @@ returns-2 c =
 
 sines-requires : tie.Need-sines-requires
 sines-requires c κs = search needs
+
+slice-aggregate-heading : tie.Need-slice-aggregate-heading
+slice-aggregate-heading c = sym (lent-length _ (c .before .sines .ensures))
 
 heading-requires : tie.Need-heading-requires
 heading-requires c κs = search needs
@@ -94,6 +98,7 @@ heading-spec =
     same-length
     returns-2
     sines-requires
+    slice-aggregate-heading
     heading-requires
     f32-to-bits-requires
     f32-to-bits-requires-2
