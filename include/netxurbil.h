@@ -24,7 +24,8 @@ enum netxurbil_refusal {
     NETXURBIL_MALFORMED_FRAME = 10,       /* what was sent is no frame, or not the frames that are asked for */
     NETXURBIL_UNKNOWN_ID = 11,            /* an id above 7 */
     NETXURBIL_NO_SHAPE = 12,              /* no shape under the id */
-    NETXURBIL_PAIR_NOT_LISTED = 13        /* a pair of shapes that is not tested */
+    NETXURBIL_PAIR_NOT_LISTED = 13,       /* a pair of shapes that is not tested */
+    NETXURBIL_UNKNOWN_TURN = 14           /* a turn number above 4,095; this call never returns it */
 };
 
 #define NETXURBIL_VERSION "1.0"
