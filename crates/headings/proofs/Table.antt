@@ -21,7 +21,8 @@ pub lent-length : (row : List Float) → row ≡ quarter-waves → length row �
 lent-length row row-is = ap length row-is ∙ table-length
 
 -- whatever is said to stand past the end
-pub table-entry : (row : List Float) (k : ℕ) (d : Float) → row ≡ quarter-waves → k ≤ 1024 → getD row k d ≡ quarter-wave k
+pub table-entry : (row : List Float) (k : ℕ) (d : Float) → row ≡ quarter-waves → k ≤ 1024
+    → getD row k d ≡ quarter-wave k
 unfolding quarter-wave quarter-waves
 table-entry row k d row-is k-in =
     ap (λ (l : List Float). getD l k d) row-is

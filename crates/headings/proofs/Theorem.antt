@@ -1,5 +1,5 @@
--- Request 01: the whole table obeys its rule; every heading is in range and on the unit circle within 2^-22; the quarter
--- turns are exact. Assumes nothing.
+-- Request 01: the whole table obeys its rule; every heading is in range and on the unit circle within 2^-22; the
+-- quarter turns are exact. Assumes nothing.
 use mathlib.Core.Path.{_≡_, refl, sym, ap, _∙_, subst}
 use mathlib.Core.Bool.{Bool, true, false, cond}
 use Prim.Native.Nat.{ℕ, suc, _+_, _-_, _*_, _/_, _%_, _^_, _≤_, _<_}
@@ -87,7 +87,8 @@ entry-component k k-in = record {
 
 opposite-size : {x : Float} → F32 x → mag (opposite x) ≡ mag x
 unfolding opposite
-opposite-size {x} own = by-test (eq x zero32) (λ (same : T (eq x zero32)). sym (mag-same x zero32 (eq-val own zero-f32 same)))
+opposite-size {x} own =
+    by-test (eq x zero32) (λ (same : T (eq x zero32)). sym (mag-same x zero32 (eq-val own zero-f32 same)))
   where
     by-test : (b : Bool) → (T b → mag zero32 ≡ mag x) → mag (cond b zero32 (neg x)) ≡ mag x
     by-test true same = same tt

@@ -1,6 +1,6 @@
--- The quarter wave of document 02's request 01, by bit patterns: entry k, from 0 to 1,024, is the f32 nearest to the sine
--- of k 4,096ths of a turn. The test `tests/programs/sines` computes every entry with bc and holds this file to it.
--- Definitions only.
+-- The quarter wave of document 02's request 01, by bit patterns: entry k, from 0 to 1,024, is the f32 nearest to the
+-- sine of k 4,096ths of a turn. The test `tests/programs/sines` computes every entry with bc and holds this file to
+-- it. Definitions only.
 use Prim.Native.Nat.{ℕ}
 use mathlib.Core.List.{List, [], _∷_}
 

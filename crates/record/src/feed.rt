@@ -81,7 +81,8 @@ fn keep(line: &mut [u8; KEPT_LENGTH], len: usize, x: u8) -> usize
     len
 }
 
-// The input in a piece, up to where the output has no room for another line.
+// The input in a piece, up to where the output has no room for another line. The table of sines is named once and lent
+// to every frame.
 pub fn feed(s: Reader, chunk: &[u8], out: &mut [u8]) -> Fed
     ensures { λ r. ⌜ FedAs said-line longest-line s (now (chunk .entry)) (now (out .entry)) r (now (out .exit)) ⌝ }
 {

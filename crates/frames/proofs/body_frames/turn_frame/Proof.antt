@@ -47,8 +47,9 @@ returns-3 c =
     let number = known .before in
     c .moved .ensures
     ∙ rw (placed .placed .ensures)
-    (turn-taken _ _ _ _ (number .turn-number .ensures) (number .before .if1 .left) _ _ (turned .before .vector .ensures)
-    (turned .heading .ensures) (known .if2 .left) (sym (tested .transform-in-range .ensures) ∙ placed .before .if3 .taken))
+    (turn-taken _ _ _ _ (number .turn-number .ensures) (number .before .if1 .left) _ _
+    (turned .before .vector .ensures) (turned .heading .ensures) (known .if2 .left)
+    (sym (tested .transform-in-range .ensures) ∙ placed .before .if3 .taken))
 
 refused-requires-3 : tie.Need-refused-requires-3
 refused-requires-3 c κs = search needs
@@ -60,8 +61,9 @@ returns-4 c =
     let known = turned .before .before in
     let number = known .before in
     c .refused3 .ensures
-    ∙ turn-refused _ _ _ _ (number .turn-number .ensures) (number .before .if1 .left) _ _ (turned .before .vector .ensures)
-    (turned .heading .ensures) (known .if2 .left) (sym (tested .transform-in-range .ensures) ∙ c .before .if3 .left)
+    ∙ turn-refused _ _ _ _ (number .turn-number .ensures) (number .before .if1 .left) _ _
+    (turned .before .vector .ensures) (turned .heading .ensures) (known .if2 .left)
+    (sym (tested .transform-in-range .ensures) ∙ c .before .if3 .left)
 
 pub turn-frame-spec : {M : Type 1} → statement M
 turn-frame-spec =

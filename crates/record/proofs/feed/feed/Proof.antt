@@ -73,13 +73,15 @@ slice-aggregate-frame c = sym (length-take-le _ _ (omega arith))
 
 slice-aggregate-frame-2 : tie.Need-slice-aggregate-frame-2 Inv-loop μ-loop
 slice-aggregate-frame-2 c =
-    let at-loop = c .before .before .before .before .before .before .before .before .before .before .before .before .before in
-    sym (lent-length _ (at-loop .before .before .before .before .sines .ensures))
+    let at-if2 = c .before .before .before .before .before .before .before .before .before in
+    let sines′ = at-if2 .before .before .before .before .before .before .before .before .sines in
+    sym (lent-length _ (sines′ .ensures))
 
 frame-requires : tie.Need-frame-requires Inv-loop μ-loop
 frame-requires c κs =
-    let at-loop = c .before .before .before .before .before .before .before .before .before .before .before .before .before in
-    λ turned. at-loop .before .before .before .before .sines .ensures
+    let at-if2 = c .before .before .before .before .before .before .before .before .before in
+    let sines′ = at-if2 .before .before .before .before .before .before .before .before .sines in
+    λ turned. sines′ .ensures
 
 part-put-said-line-end : tie.Need-part-put-said-line-end Inv-loop μ-loop
 part-put-said-line-end c = search needs
