@@ -75,12 +75,12 @@ pub record TurnCases : Type 0 where
       ("06013f800000400000000c00", "00") ∷
       ("050001", "0500010100020002000000000100000000bf8000003f8000003fa00000bf000000") ∷
       [])
-  -- 10: a byte too few, a byte too many, the kind after. 11 before 12, 12 before 14, 14 before 6. 14 from 4,096 on, the
+  -- 10: a byte too few, a byte too many, another kind. 11 before 12, 12 before 14, 14 before 6. 14 from 4,096 on, the
   -- highest byte first: of 0xff0f and of 0x0010 the bytes the other way round are 4,095 and 4,096
   pub refusals-in-order : Runs (
       ("0600000000000000000010", "ff0a") ∷
       ("060000000000000000001000ff", "ff0a") ∷
-      ("070000000000000000000000", "ff0a") ∷
+      ("0a0000000000000000000000", "ff0a") ∷
       ("060800000000000000001000", "ff0b") ∷
       ("060000000000000000000000", "ff0c") ∷
       ("060000000000000000001000", "ff0c") ∷
