@@ -28,7 +28,7 @@ enum netxurbil_refusal {
     NETXURBIL_UNKNOWN_TURN = 14           /* a turn number above 4,095; this call never returns it */
 };
 
-#define NETXURBIL_VERSION "1.0"
+#define NETXURBIL_VERSION "1.1"
 
 /* The longest input: two outlines of eight points, and two placements. */
 #define NETXURBIL_INPUT 170

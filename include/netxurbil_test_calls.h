@@ -39,7 +39,9 @@ extern "C" {
      14, 4 states, MAN, MAN                    states of the old and the new manifold's points: refusal, 4 states
      15, x                                     the square root of x: refusal, root
      16, x, y                                  the vector (x, y) made unit: refusal, length, x, y; a length
-                                               below 2^-23 is given as 0 and changes nothing */
+                                               below 2^-23 is given as 0 and changes nothing
+     17, turn number                           its heading, in 4,096ths of a turn: refusal, sine, cosine; 14, 0, 0
+                                               above 4,095 */
 uint32_t calls(const uint8_t *input, size_t input_length, uint8_t *out, size_t out_length);
 
 /* The records of the outline builder, as the code has them. */
