@@ -38,16 +38,20 @@ pub faces-placed : (xf : B2Transform) (poly : B2polygonShape) (v1 v2 : B2vec2) {
 unfolding placed-normal
 faces-placed xf poly v1 v2 row = row
 
-module _ (edge : B2edgeShape) (edge1 : B2vec2) (xf : B2Transform) (poly : B2polygonShape) (radius : Float) where
-  pub axis-found : (wall primary axis : Axis)
-      → wall ≡ b2-compute-edge-separation xf poly (edge .«m_vertex1») (right-of edge1)
-      → primary ≡ primary-axis radius wall
-      (b2-compute-polygon-separation xf poly (edge .«m_vertex1») (edge .«m_vertex2»))
-      → axis ≡ smoothed-if (edge .«m_one_sided») edge edge1 wall primary
-      → axis ≡ edge-polygon-axis radius edge edge1 xf poly
-  unfolding edge-polygon-axis
-  axis-found wall primary axis wall-is primary-is axis-is = rw (axis-is, primary-is, wall-is) refl
+-- the search's answer, of the wall's own axis and the primary one
+pub searched : (edge : B2edgeShape) (edge1 : B2vec2) (wall primary axis : Axis)
+    → axis ≡ smoothed-if (edge .«m_one_sided») edge edge1 wall primary
+    → (axis ≡ smoothed-if (edge .«m_one_sided») edge edge1 wall primary)
+    × ((radius : Float) (xf : B2Transform) (poly : B2polygonShape)
+    → wall ≡ b2-compute-edge-separation xf poly (edge .«m_vertex1») (right-of edge1)
+    → primary ≡ primary-axis radius wall
+    (b2-compute-polygon-separation xf poly (edge .«m_vertex1») (edge .«m_vertex2»))
+    → axis ≡ edge-polygon-axis radius edge edge1 xf poly)
+unfolding edge-polygon-axis
+searched edge edge1 wall primary axis axis-is =
+    (axis-is, λ radius xf poly wall-is primary-is. rw (axis-is, primary-is, wall-is) refl)
 
+module _ (edge : B2edgeShape) (edge1 : B2vec2) (xf : B2Transform) (poly : B2polygonShape) (radius : Float) where
   -- the wall alone keeps the outline off: one-sided or not, whatever its faces say
   stays-apart : (one-sided : Bool) (wall : Axis) (s : Float)
       → Apart s ≡ smoothed-if one-sided edge edge1 wall (Apart s)

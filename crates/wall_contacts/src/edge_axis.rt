@@ -9,7 +9,7 @@ ghost use Rattle.contact_definitions.specs.Axis.{separation-of};
 ghost use Rattle.contact_definitions.specs.EdgeAxis.{right-of, b2-compute-edge-separation};
 ghost use Rattle.contact_definitions.specs.EdgeAxis.{b2-compute-polygon-separation, primary-axis, region-by};
 ghost use Rattle.contact_definitions.specs.EdgeAxis.{region-before, region-after, gauss-region, in-region, smoothed};
-ghost use Rattle.contact_definitions.specs.EdgeAxis.{edge-polygon-axis};
+ghost use Rattle.contact_definitions.specs.EdgeAxis.{smoothed-if, edge-polygon-axis};
 ghost use Rattle.wall_contacts.specs.AxisParts.{is-apart, axis-normal};
 use contact_definitions::axis::Axis;
 use contact_definitions::b2_collide_edge::GaussRegion;
@@ -143,7 +143,8 @@ fn smoothed(edge: B2edgeShape, edge1: B2vec2, edge_axis: Axis, axis: Axis) -> Ax
 // What the search answers, of the wall's own axis and the primary one: the Gauss map is asked of one-sided walls only.
 // edge1 is the wall's direction; xf carries the outline to the wall's frame.
 pub fn edge_polygon_axis(edge: B2edgeShape, edge1: B2vec2, edge_axis: Axis, primary: Axis) -> Axis
-    ensures { λ r. ⌜ ((radius : Float) (xf : B2Transform) (polygon : B2polygonShape)
+    ensures { λ r. ⌜ (r ≡ smoothed-if (edge .«m_one_sided») edge edge1 «edge_axis» primary)
+        × ((radius : Float) (xf : B2Transform) (polygon : B2polygonShape)
         → «edge_axis» ≡ b2-compute-edge-separation xf polygon (edge .«m_vertex1») (right-of edge1)
         → primary ≡ primary-axis radius «edge_axis»
         (b2-compute-polygon-separation xf polygon (edge .«m_vertex1») (edge .«m_vertex2»))

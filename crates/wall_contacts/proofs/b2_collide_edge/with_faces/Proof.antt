@@ -46,7 +46,7 @@ axis-is w =
     let normals = points-fewer few (normals-placed (args .xf) (args .polygon) (rows .0)) in
     let face-is = w .before .before .b2-compute-polygon-separation .ensures (args .xf) (args .polygon) _ _ refl faces
     normals in
-    w .edge-polygon-axis .ensures (args .radius) (args .xf) (args .polygon) (start .pre .3)
+    w .edge-polygon-axis .ensures .1 (args .radius) (args .xf) (args .polygon) (start .pre .3)
     (w .before .primary-axis .ensures ∙ ap (primary-axis (args .radius) _) face-is)
 
 edge-manifold-on-requires : tie.Need-edge-manifold-on-requires

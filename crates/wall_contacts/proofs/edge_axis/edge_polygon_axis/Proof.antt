@@ -1,5 +1,5 @@
 -- By whether the wall is one-sided. Assumes nothing.
-use Rattle.wall_contacts.proofs.AxisFound.{axis-found}
+use Rattle.wall_contacts.proofs.AxisFound.{searched}
 use borrow.Author.Needs.{needs}
 use Rattle.wall_contacts.proofs.edge_axis.edge_polygon_axis.Statement.{statement}
 use Rattle.wall_contacts.proofs.edge_axis.edge_polygon_axis.Tie as tie
@@ -8,15 +8,15 @@ smoothed-requires : tie.Need-smoothed-requires
 smoothed-requires c κs = search needs
 
 returns : tie.Need-returns
-returns c radius xf polygon wall-is primary-is =
+returns c =
     let args = c .before .before .args in
-    axis-found (args .edge) (args .edge1) xf polygon radius _ _ _ wall-is primary-is
+    searched (args .edge) (args .edge1) (args .edge-axis) (args .primary) _
     (simp (c .before .if1 .taken, c .smoothed .ensures))
 
 returns-2 : tie.Need-returns-2
-returns-2 c radius xf polygon wall-is primary-is =
+returns-2 c =
     let args = c .before .args in
-    axis-found (args .edge) (args .edge1) xf polygon radius _ _ _ wall-is primary-is (simp (c .if1 .left))
+    searched (args .edge) (args .edge1) (args .edge-axis) (args .primary) _ (simp (c .if1 .left))
 
 pub edge-polygon-axis-spec : {M : Type 1} → statement M
 edge-polygon-axis-spec = tie.close (tie.spec smoothed-requires returns returns-2)
