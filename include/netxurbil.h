@@ -28,7 +28,7 @@ enum netxurbil_refusal {
     NETXURBIL_UNKNOWN_TURN = 14           /* a turn number above 4,095; this call never returns it */
 };
 
-#define NETXURBIL_VERSION "1.1"
+#define NETXURBIL_VERSION "1.2"
 
 /* The longest input: two outlines of eight points, and two placements. */
 #define NETXURBIL_INPUT 170
@@ -64,8 +64,8 @@ enum netxurbil_state {
 
        05 00 01, the number of points (0 to 2), the kind (0 where there is no point, 1 for a face of robot 0, 2 for one of
        robot 1), the states of two old points (0) and of two new ones (1 where there is a point), the number of touches
-       (4 bytes); with points: the normal's x and y, from robot 0 to robot 1, then x, y and separation of each point,
-       below 0 where they overlap
+       (4 bytes: 1 where there are points, one or two, else 0); with points: the normal's x and y, from robot 0 to robot
+       1, then x, y and separation of each point, below 0 where they overlap
 
    Returns the number of bytes written: 13, 33 or 45 with 0, 1 or 2 points; or 256 plus a refusal, and then `out` is
    untouched: 9 for an output under 45 bytes, tried first; 10 where `frames` is anything but these four; else 1 to 6.

@@ -98,6 +98,35 @@ pub record WallHeats : Type 0 where
       ("04010000000000000000000000003f800000", "00") ∷
       ("050001", "ff08") ∷
       [])
+  -- a box on a wall rolls from corner to corner, comes to lie on both, is lifted off and put down again: the states
+  -- change at each test, and two touches begin, one with one point and one with two
+  pub rolling-box : Runs (
+      ("030000c0000000000000004000000000000000", "00") ∷
+      ("04000000000000000000000000003f800000", "00") ∷
+      ("020104bf800000bf8000003f800000bf8000003f8000003f800000bf8000003f800000", "00") ∷
+      ("0401000000003fb000003f19999a3f4ccccd", "00") ∷
+      ("050001", "") ∷
+      ("0401000000003fb00000bf19999a3f4ccccd", "00") ∷
+      ("050001", "") ∷
+      ("0401000000003f800000000000003f800000", "00") ∷
+      ("050001", "") ∷
+      ("04010000000040000000000000003f800000", "00") ∷
+      ("050001", "") ∷
+      ("0401000000003f800000000000003f800000", "00") ∷
+      ("050001", "") ∷
+      [])
+  -- a test that is refused with 8 is no last test: the circle is at the wall's end, then over its middle, and back
+  pub refused-between : Runs (
+      ("03000000000000000000001a0000001a000000", "00") ∷
+      ("04000000000000000000000000003f800000", "00") ∷
+      ("01011a400000998000003f800000", "00") ∷
+      ("0401000000003f000000000000003f800000", "00") ∷
+      ("050001", "") ∷
+      ("04010000000000000000000000003f800000", "00") ∷
+      ("050001", "") ∷
+      ("0401000000003f000000000000003f800000", "00") ∷
+      ("050001", "") ∷
+      [])
   -- a squared length whose reciprocal is infinite: a point at any distance
   pub far-circle : Runs (
       ("03000000000000000000001c80000000000000", "00") ∷
@@ -135,5 +164,7 @@ wall-heats = record {
   wall-and-outline = refl;
   walls-refused = refl;
   short-wall = refl;
+  rolling-box = refl;
+  refused-between = refl;
   far-circle = refl;
 }

@@ -87,7 +87,7 @@ fn tested(ida: u8, idb: u8, a: Body, b: Body, pair: Pair) -> TestAnswer
     let old = pair.ids;
     let new = b2_collision::counted_ids(m);
     let states = b2_collision::states_of_ids(old, new);
-    let touches = test_result::touches_after(pair.touches, states);
+    let touches = test_result::touches_after(pair.touches, old.count, new.count);
     let w = points.world;
     TestAnswer {
         refusal: first_refusal(met.refusal, points.refusal),

@@ -1,42 +1,27 @@
 // The result of a test: its touches, and what is printed of its contact.
 ghost use mathlib.Core.Path.{_≡_};
-ghost use Prim.Native.Nat.{_≤_};
 ghost use Rattle.contact_definitions.specs.Manifold.{kind-number};
 ghost use Rattle.record_definitions.specs.Touch as results;
 use contact_definitions::b2_collision::B2manifold;
 use contact_definitions::b2_collision::B2manifoldType;
-use contact_definitions::b2_collision::B2pointState;
 use contact_definitions::b2_collision::B2worldManifold;
 use contact_definitions::b2_collision::PointStates;
 use record_definitions::touch::Touch;
 use record_definitions::touch::TouchPoint;
 
 // A touch count holds here.
-const LARGEST_COUNT: u64 = 4294967295;
+const LARGEST_COUNT: u32 = 4294967295;
 
-// What a new point's state adds to the touches.
-fn added(state: B2pointState) -> u64
-    ensures { λ r. ⌜ (r ≡ results.added state) × (r ≤ 1) ⌝ }
+// By the number of points before and now: one more touch where a pair that had no point gets one.
+pub fn touches_after(touches: u32, before: usize, now: usize) -> u32
+    ensures { λ r. ⌜ r ≡ results.touches-after touches before now ⌝ }
 {
-    match state {
-        B2pointState::B2NullState => 0,
-        B2pointState::B2AddState => 1,
-        B2pointState::B2PersistState => 0,
-        B2pointState::B2RemoveState => 0,
+    let goes_on = before > 0;
+    let apart = now == 0;
+    if goes_on | apart | (touches == LARGEST_COUNT) {
+        return touches;
     }
-}
-
-// One more touch for each point in state add, up to the largest count.
-pub fn touches_after(touches: u32, states: PointStates) -> u32
-    ensures { λ r. ⌜ r ≡ results.touches-after touches states ⌝ }
-{
-    let new0 = states.new0;
-    let new1 = states.new1;
-    let sum = touches as u64 + (added(new0) + added(new1));
-    if sum > LARGEST_COUNT {
-        return LARGEST_COUNT as u32;
-    }
-    sum as u32
+    touches + 1
 }
 
 // 00 circles, 01 face A, 02 face B.

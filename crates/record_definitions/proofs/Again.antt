@@ -1,10 +1,9 @@
--- A test that answers, sent again at once: it answers again, and counts nothing more, for every point persists.
+-- A test that answers, sent again at once: it answers again, and counts nothing more, for it finds as many points.
 -- Assumes nothing.
-use Prim.Native.Nat.{ℕ, _+_, min}
+use Prim.Native.Nat.{ℕ}
 use mathlib.Core.Path.{_≡_, refl}
 use mathlib.Core.Bool.{Bool, true, false, cond}
 use mathlib.Core.List.{List}
-use native.Mathlib.Omega.{arith}
 use lib.Dec.{eqb}
 use borrow.Author.Tests.{eqb-true, eqb-false}
 use Rattle.algebra.proofs.Booleans.{by-test}
@@ -16,12 +15,11 @@ use Rattle.record_definitions.specs.declared.world.Pair.{Pair}
 use Rattle.record_definitions.specs.declared.touch.Touch.{Touch}
 use Rattle.record_definitions.specs.declared.frame.Answer.the-variants.{Tested}
 use Rattle.record_definitions.specs.declared.frame.Change.{Change}
-use Rattle.record_definitions.specs.Touch.{meet, largest-count, touches-after, states-of, touch-of, tested-as}
-use Rattle.record_definitions.specs.Touch.{tested}
+use Rattle.record_definitions.specs.Touch.{meet, touch-of, tested-as, tested}
 use Rattle.record_definitions.specs.Frame.{frame-refusal, refused, test-refusal, test-change, change-of-kind}
 use Rattle.record_definitions.specs.Frame.{change}
 use Rattle.record_definitions.proofs.Changes.{Untested, refused-untested, kind-untested}
-use Rattle.record_definitions.proofs.States.{repeated-adds-none}
+use Rattle.record_definitions.proofs.Rulebook.{stays}
 
 -- ---- whether a test answers does not hang on the pair
 module _ (a b : Body) (pair pair′ : Pair) (bytes : List ℕ) where
@@ -75,12 +73,7 @@ module _ (a b : Body) (pair pair′ : Pair) (bytes : List ℕ) where
       (λ not-taken. rw not-taken (refused-again number (refused number a pair′)))
 
 -- ---- and it counts nothing more
-held-again : (n limit : ℕ) → min (min n limit + 0) limit ≡ min n limit
-held-again n limit = omega arith
-
 pub counts-no-more : (ida idb : ℕ) (a b : Body) (pair : Pair)
     → tested ida idb a b (tested ida idb a b pair .pair) .touch .touches ≡ tested ida idb a b pair .touch .touches
-unfolding tested tested-as touch-of touches-after states-of
-counts-no-more ida idb a b pair =
-    let ids = ids-of (meet a b .manifold) in
-    rw (repeated-adds-none ids) (held-again _ largest-count)
+unfolding tested tested-as touch-of ids-of
+counts-no-more ida idb a b pair = stays _ (meet a b .manifold .«point_count»)

@@ -56,7 +56,7 @@ module _ (a b : Body) where
     states-printed = refl
 
     pub touches-printed : tested ida idb a b pair .touch .touches
-        ≡ touches-after (pair .touches) (tested ida idb a b pair .touch .states)
+        ≡ touches-after (pair .touches) (pair .ids .count) (meet a b .manifold .«point_count»)
     unfolding tested tested-as touch-of
     touches-printed = refl
 

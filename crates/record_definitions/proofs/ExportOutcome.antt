@@ -1,5 +1,6 @@
 -- The export's five frames from a fresh start end with a test that answers, or with the first refusal: for any law that
--- frames keep of a world (`Kept`), and any numbers that they may be refused with (`Number`). Assumes nothing.
+-- accepted frames keep of a world (`Kept`), what a test's result then has (`Result`), and any numbers that frames may be
+-- refused with (`Number`). Assumes nothing.
 use Prim.Native.Nat.{ℕ, _≤_}
 use mathlib.Core.Path.{_≡_, sym, _∙_, ap, subst}
 use mathlib.Core.Bool.{true}
@@ -9,6 +10,8 @@ use lib.ListN.{length}
 use Rattle.shape_definitions.specs.Refusal.{placement-out-of-range}
 use Rattle.record_definitions.specs.declared.world.Body.{Body}
 use Rattle.record_definitions.specs.declared.world.World.{World}
+use Rattle.record_definitions.specs.declared.touch.Touch.{Touch}
+use Rattle.record_definitions.specs.declared.frame.Answer.the-variants.{Accepted, Tested}
 use Rattle.record_definitions.specs.World.{outline-kind, fresh-world, body-at, pair-at}
 use Rattle.record_definitions.specs.Touch.{tested}
 use Rattle.record_definitions.specs.Frame.{largest-id}
@@ -30,34 +33,38 @@ later-frames input =
     ∷ test-frame
     ∷ []
 
-module _ (Number : ℕ → Type 0) (Kept : World → Type 0) (kept-sound : (w : World) → Kept w → Sound w)
-    (keeps : (w : World) (frame : List ℕ) → Kept w → Kept (after-frame w frame)) (begins : Kept fresh-world)
+module _ (Result : Touch → Type 0) (Number : ℕ → Type 0) (Kept : World → Type 0)
+    (kept-sound : (w : World) → Kept w → Sound w)
+    (keeps : (w : World) (frame : List ℕ) → said-of-frame w frame .answer ≡ Accepted → Kept w
+    → Kept (after-frame w frame)) (begins : Kept fresh-world)
+    (of-answer : (w : World) → Kept w → (t : Touch) → said-of-frame w test-frame .answer ≡ Tested t → Result t)
     (of-outline : (n : ℕ) → (n ≡ 0 → ⊥) → n ≤ 5 → Number n) (of-placement : Number placement-out-of-range)
     (of-test : (w : World) → Kept w → body-at w 0 .kind ≡ outline-kind → body-at w 1 .kind ≡ outline-kind
     → (tested 0 1 (body-at w 0) (body-at w 1) (pair-at w 0 1) .refusal ≡ 0 → ⊥)
     → Number (tested 0 1 (body-at w 0) (body-at w 1) (pair-at w 0 1) .refusal)) where
   -- the test
   from-test : (w : World) → Kept w → body-at w 0 .kind ≡ outline-kind → body-at w 1 .kind ≡ outline-kind
-      → Outcome Number w test-frame []
+      → Outcome Result Number w test-frame []
   from-test w kept first second = by-answer (test-step w first second)
     where
       by-answer : TestedOr (tested 0 1 (body-at w 0) (body-at w 1) (pair-at w 0 1) .refusal)
           (said-of-frame w test-frame .answer)
-          → Outcome Number w test-frame []
-      by-answer (answers t is) = ends Number w test-frame t is
+          → Outcome Result Number w test-frame []
+      by-answer (answers t is) = ends Result Number w test-frame t is (of-answer w kept t is)
       by-answer (refused-so is nonzero) =
-          stops Number w test-frame [] _ is nonzero (of-test w kept first second nonzero)
+          stops Result Number w test-frame [] _ is nonzero (of-test w kept first second nonzero)
 
   -- a frame of one of the bodies, from what comes after it
   from-frame : (P : ℕ → Type 0) (w : World) (kept : Kept w) (id : ℕ) (known : id ≤ largest-id) (frame next : List ℕ)
       (frames : List (List ℕ)) → InWorld w (kept-sound w kept) id known frame P
       → ((n : ℕ) → (n ≡ 0 → ⊥) → P n → Number n)
-      → (body-at (after-frame w frame) id .kind ≡ outline-kind → Outcome Number (after-frame w frame) next frames)
-      → Outcome Number w frame (next ∷ frames)
+      → (Kept (after-frame w frame) → body-at (after-frame w frame) id .kind ≡ outline-kind
+      → Outcome Result Number (after-frame w frame) next frames)
+      → Outcome Result Number w frame (next ∷ frames)
   from-frame P w kept id known frame next frames (taken is outline) number later =
-      goes-on Number w frame next frames is (later outline)
+      goes-on Result Number w frame next frames is (later (keeps w frame is kept) outline)
   from-frame P w kept id known frame next frames (refused n is nonzero good) number later =
-      stops Number w frame (next ∷ frames) n is nonzero (number n nonzero good)
+      stops Result Number w frame (next ∷ frames) n is nonzero (number n nonzero good)
 
   module _ (f0 f1 f2 f3 : List ℕ) (given-0 : ExportFrame 2 0 f0) (given-1 : ExportFrame 4 0 f1)
       (given-2 : ExportFrame 2 1 f2) (given-3 : ExportFrame 4 1 f3) where
@@ -70,33 +77,33 @@ module _ (Number : ℕ → Type 0) (Kept : World → Type 0) (kept-sound : (w : 
         ∙ is
 
     from-3 : (w : World) → Kept w → body-at w 0 .kind ≡ outline-kind → body-at w 1 .kind ≡ outline-kind
-        → Outcome Number w f3 (test-frame ∷ [])
+        → Outcome Result Number w f3 (test-frame ∷ [])
     from-3 w kept first second =
         from-frame (λ (n : ℕ). n ≡ placement-out-of-range) w kept 1 (omega arith) f3 test-frame []
         (place-step w (kept-sound w kept) 1 (omega arith) f3 second given-3)
         (λ n nonzero is. subst Number (sym is) of-placement)
-        (from-test (after-frame w f3) (keeps w f3 kept) (still w kept f3 4 given-3 first))
+        (λ next. from-test (after-frame w f3) next (still w kept f3 4 given-3 first))
 
-    from-2 : (w : World) → Kept w → body-at w 0 .kind ≡ outline-kind → Outcome Number w f2 (f3 ∷ test-frame ∷ [])
+    from-2 : (w : World) → Kept w → body-at w 0 .kind ≡ outline-kind → Outcome Result Number w f2 (f3 ∷ test-frame ∷ [])
     from-2 w kept first =
         from-frame (λ (n : ℕ). n ≤ 5) w kept 1 (omega arith) f2 f3 (test-frame ∷ [])
         (outline-step w (kept-sound w kept) 1 (omega arith) f2 given-2) of-outline
-        (from-3 (after-frame w f2) (keeps w f2 kept) (still w kept f2 2 given-2 first))
+        (λ next. from-3 (after-frame w f2) next (still w kept f2 2 given-2 first))
 
-    from-1 : (w : World) → Kept w → body-at w 0 .kind ≡ outline-kind → Outcome Number w f1 (f2 ∷ f3 ∷ test-frame ∷ [])
+    from-1 : (w : World) → Kept w → body-at w 0 .kind ≡ outline-kind → Outcome Result Number w f1 (f2 ∷ f3 ∷ test-frame ∷ [])
     from-1 w kept first =
         from-frame (λ (n : ℕ). n ≡ placement-out-of-range) w kept 0 (omega arith) f1 f2 (f3 ∷ test-frame ∷ [])
         (place-step w (kept-sound w kept) 0 (omega arith) f1 first given-1)
         (λ n nonzero is. subst Number (sym is) of-placement)
-        (from-2 (after-frame w f1) (keeps w f1 kept))
+        (from-2 (after-frame w f1))
 
-    from-0 : Outcome Number fresh-world f0 (f1 ∷ f2 ∷ f3 ∷ test-frame ∷ [])
+    from-0 : Outcome Result Number fresh-world f0 (f1 ∷ f2 ∷ f3 ∷ test-frame ∷ [])
     from-0 =
         from-frame (λ (n : ℕ). n ≤ 5) fresh-world begins 0 (omega arith) f0 f1 (f2 ∷ f3 ∷ test-frame ∷ [])
         (outline-step fresh-world (kept-sound fresh-world begins) 0 (omega arith) f0 given-0) of-outline
-        (from-1 (after-frame fresh-world f0) (keeps fresh-world f0 begins))
+        (from-1 (after-frame fresh-world f0))
 
   pub export-outcome : (input : List ℕ) → in-order input ≡ true
-      → Outcome Number fresh-world (between input 0 (first-placement input)) (later-frames input)
+      → Outcome Result Number fresh-world (between input 0 (first-placement input)) (later-frames input)
   export-outcome input ordered =
       from-0 _ _ _ _ (frame-0 input ordered) (frame-1 input ordered) (frame-2 input ordered) (frame-3 input ordered)

@@ -21,15 +21,16 @@ unfoldable pub printed-frames : World → List (List ℕ) → List ℕ
 printed-frames w [] = []
 printed-frames w (frame ∷ frames) = said-line (said-of-frame w frame) ++ printed-frames (after-frame w frame) frames
 
--- ---- how they end, with a number of these where one is refused
-pub data Outcome (Number : ℕ → Type 0) (w : World) (frame : List ℕ) (frames : List (List ℕ)) : Type 0 where
-  answered : (t : Touch) → last-said w frame frames .answer ≡ Tested t
+-- ---- how they end, with such a result where the test answers, with a number of these where one is refused
+pub data Outcome (Result : Touch → Type 0) (Number : ℕ → Type 0) (w : World) (frame : List ℕ)
+    (frames : List (List ℕ)) : Type 0 where
+  answered : (t : Touch) → last-said w frame frames .answer ≡ Tested t → Result t
       → printed-frames w (frame ∷ frames) ≡ accepted-lines (length frames) ++ said-line (last-said w frame frames)
-      → Outcome Number w frame frames
+      → Outcome Result Number w frame frames
   turned-down : (n : ℕ) → last-said w frame frames .answer ≡ Refused n → (n ≡ 0 → ⊥) → Number n
-      → FirstRefused n (printed-frames w (frame ∷ frames)) → Outcome Number w frame frames
+      → FirstRefused n (printed-frames w (frame ∷ frames)) → Outcome Result Number w frame frames
 
-module _ (Number : ℕ → Type 0) (w : World) (frame : List ℕ) where
+module _ (Result : Touch → Type 0) (Number : ℕ → Type 0) (w : World) (frame : List ℕ) where
   -- a frame is refused
   refused-line : (n : ℕ) → said-of-frame w frame .answer ≡ Refused n
       → said-line (said-of-frame w frame) ≡ line-of (255 ∷ n ∷ [])
@@ -50,7 +51,7 @@ module _ (Number : ℕ → Type 0) (w : World) (frame : List ℕ) where
   stopped next frames n is some = rw is (simp (ne-eqb n accepted some))
 
   pub stops : (frames : List (List ℕ)) (n : ℕ) → said-of-frame w frame .answer ≡ Refused n → (n ≡ 0 → ⊥) → Number n
-      → Outcome Number w frame frames
+      → Outcome Result Number w frame frames
   unfolding last-said
   stops [] n is some good = turned-down n is some good (refused-at n [] is)
   stops (next ∷ frames) n is some good =
@@ -58,9 +59,9 @@ module _ (Number : ℕ → Type 0) (w : World) (frame : List ℕ) where
       (refused-at n (next ∷ frames) is)
 
   -- the last is a test that answers
-  pub ends : (t : Touch) → said-of-frame w frame .answer ≡ Tested t → Outcome Number w frame []
+  pub ends : (t : Touch) → said-of-frame w frame .answer ≡ Tested t → Result t → Outcome Result Number w frame []
   unfolding last-said printed-frames accepted-lines
-  ends t is = answered t is (append-nil (said-line (said-of-frame w frame)))
+  ends t is good = answered t is good (append-nil (said-line (said-of-frame w frame)))
 
   -- a frame is accepted
   module _ (next : List ℕ) (frames : List (List ℕ)) (is : said-of-frame w frame .answer ≡ Accepted) where
@@ -79,9 +80,10 @@ module _ (Number : ℕ → Type 0) (w : World) (frame : List ℕ) where
         ap₂ (λ (a b : List ℕ). a ++ b) accepted-line later
         ∙ sym (append-assoc (line-of (0 ∷ [])) (accepted-lines n) rest)
 
-    pub goes-on : Outcome Number (after-frame w frame) next frames → Outcome Number w frame (next ∷ frames)
-    goes-on (answered t said printed) =
-        answered t (ap (λ (s : Said). s .answer) went-on ∙ said)
+    pub goes-on : Outcome Result Number (after-frame w frame) next frames
+        → Outcome Result Number w frame (next ∷ frames)
+    goes-on (answered t said good printed) =
+        answered t (ap (λ (s : Said). s .answer) went-on ∙ said) good
         (one-more (length frames) (said-line (last-said (after-frame w frame) next frames)) printed
         ∙ ap (λ (s : Said). accepted-lines (suc (length frames)) ++ said-line s) (sym went-on))
     goes-on (turned-down n said some good printed) =

@@ -32,8 +32,8 @@ use Rattle.record_definitions.proofs.ExportOutcome.{later-frames, expor
 abbrev pub said-last : List ℕ → Said
 said-last input = last-said fresh-world (between input 0 (first-placement input)) (later-frames input)
 
-abbrev pub Ends : (ℕ → Type 0) → List ℕ → Type 0
-Ends Number input = Outcome Number fresh-world (between input 0 (first-placement input)) (later-frames input)
+abbrev pub Ends : (Touch → Type 0) → (ℕ → Type 0) → List ℕ → Type 0
+Ends Result Number input = Outcome Result Number fresh-world (between input 0 (first-placement input)) (later-frames input)
 
 -- a test that answers returns its length and leaves its bytes; a refusal its number
 pub returned-tested : (said : Said) (t : Touch) → said .answer ≡ Tested t → returned said ≡ length (said-bytes said)
@@ -56,8 +56,8 @@ module _ (input out : List ℕ) (room : longest-answer ≤ length out) (ordered 
   output-is = rw (le-ltb (length out) longest-answer room, ordered) refl
 
   module _ (bytes : (b : ℕ) → List·Memᴰ b input → b < 256) where
-    by-outcome : Ends (λ (n : ℕ). Unit {0}) input → ExportPrints input out
-    by-outcome (answered t is printed) =
+    by-outcome : Ends (λ (t : Touch). Unit {0}) (λ (n : ℕ). Unit {0}) input → ExportPrints input out
+    by-outcome (answered t is good printed) =
         let said = said-last input in
         let number : export-number input out ≡ length (said-bytes said) = number-is ∙ returned-tested said t is in
         let wrote : take (export-number input out) (export-output input out) ≡ said-bytes said =
@@ -79,5 +79,6 @@ module _ (input out : List ℕ) (room : longest-answer ≤ length out) (ordered 
 
     pub export-prints : ExportPrints input out
     export-prints =
-        by-outcome (export-outcome (λ (n : ℕ). Unit {0}) Sound (λ w sound. sound) frame-keeps-sound fresh-sound
+        by-outcome (export-outcome (λ (t : Touch). Unit {0}) (λ (n : ℕ). Unit {0}) Sound (λ w sound. sound)
+        (λ w frame taken sound. frame-keeps-sound w frame sound) fresh-sound (λ w sound t is. tt)
         (λ n nonzero few. tt) tt (λ w sound first second nonzero. tt) input ordered)

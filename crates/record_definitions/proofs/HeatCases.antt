@@ -34,8 +34,8 @@ use Rattle.record_definitions.specs.Touch.{touch-of, tested-as, tested}
 use Rattle.record_definitions.specs.Frame.{frame-length, well-formed, frame-refusal, circle-change, place-change}
 use Rattle.record_definitions.specs.Frame.{turn-change, listed, test-refusal, test-change, change-of-kind, change}
 use Rattle.record_definitions.specs.Step.{change-in, changed, after-frame, said-of-frame}
-use Rattle.record_definitions.specs.Heat.{after-lines, contact-in, contacts-after, contacts-of, touches-of}
-use Rattle.record_definitions.specs.Heat.{new-ids, NextTest}
+use Rattle.record_definitions.specs.Heat.{after-lines, contact-in, contacts-after, contacts-of, touches-begun}
+use Rattle.record_definitions.specs.Heat.{NextTest}
 use Rattle.record_definitions.proofs.HeatLaw.{heat-law}
 
 abbrev heat : List (List ℕ)
@@ -64,9 +64,9 @@ lines n = take n heat
 abbrev world : ℕ → World
 world n = after-lines fresh-world (lines n)
 
--- the contacts of the pair 0 1 that count there, and its touches
+-- the contacts of the pair 0 1 that count there, and the touches begun
 abbrev counted : ℕ → ℕ × ℕ
-counted n = let contacts = contacts-of 0 1 (lines n) in (length contacts, touches-of contacts)
+counted n = let contacts = contacts-of 0 1 (lines n) in (length contacts, touches-begun contacts)
 
 -- the test of the pair there
 abbrev printed : ℕ → Touch
@@ -82,6 +82,8 @@ pub record HeatCases : Type 0 where
   pub second-test : NextTest (contacts-of 0 1 (lines 5)) (contact-in 0 1 (world 5)) (printed 5)
   pub point-rests : printed 5 .states .new0 ≡ B2PersistState
   pub count-stays : printed 5 .touches ≡ 1
+  -- and of the one after the two were apart: a touch begins
+  pub touch-again : printed 10 .touches ≡ 2
 
 pub heat-cases : HeatCases
 unfolding neg add sub mul div le lt eq ofBits toBits root-digits whole-root rounded-root sqrt b2-sqrt b2-add b2-sub
@@ -94,14 +96,16 @@ unfolding neg add sub mul div le lt eq ofBits toBits root-digits whole-root roun
     skin world-points touches-after states-of touch-of tested-as tested frame-length well-formed frame-refusal
     circle-change place-change turn-change listed test-refusal test-change change-of-kind change change-in changed
     after-frame said-of-frame circles-manifold b2-collide-circles circles-normal world-of-circles contacts-after
-    touches-of new-ids
+    touches-begun
 heat-cases =
     let law = heat-law 0 1 (omega arith) (omega arith) (lines 5) in
     let next = law .next-test (text "050001") (printed 5) refl refl refl in
+    let later = heat-law 0 1 (omega arith) (omega arith) (lines 10) .next-test (text "050001") (printed 10) refl refl refl in
     record {
       counts = refl;
       other-order = refl;
       second-test = next;
       point-rests = next .first-rests (omega arith) refl;
-      count-stays = next .all-rest refl;
+      count-stays = next .rulebook .goes-on (omega arith);
+      touch-again = later .rulebook .begins refl (omega arith);
     }

@@ -13,7 +13,7 @@ use Rattle.record_definitions.specs.declared.world.World.{World}
 use Rattle.record_definitions.specs.World.{fresh-pair, fresh-world, pair-at, pair-place}
 use Rattle.record_definitions.specs.Frame.{largest-id}
 use Rattle.record_definitions.specs.Step.{after-line, said-of-line}
-use Rattle.record_definitions.specs.Heat.{after-lines, with-line, contacts-after, contacts-of, touches-of}
+use Rattle.record_definitions.specs.Heat.{after-lines, with-line, contacts-after, contacts-of, touches-begun}
 use Rattle.record_definitions.specs.Heat.{HeatLaw}
 use Rattle.record_definitions.proofs.FreshPairs.{get-same}
 use Rattle.record_definitions.proofs.SoundKept.{fresh-sound}
@@ -35,8 +35,8 @@ module _ (a b : ℕ) (a-small : a ≤ largest-id) (b-small : b ≤ largest-id) w
   unfolding fresh-world
   fresh-at = get-same fresh-pair 64 (pair-place a b)
 
-  fresh-remembered : Remembers a b fresh-world []
-  unfolding fresh-pair ids-of touches-of
+  pub fresh-remembered : Remembers a b fresh-world []
+  unfolding fresh-pair ids-of touches-begun
   fresh-remembered = record {
     sound = fresh-sound;
     whole = record { two = refl; few = omega arith };

@@ -1,5 +1,5 @@
 -- What one frame does to what a pair remembers (`Remembers`): an accepted shape of either id leaves a fresh pair, an
--- accepted test of the pair leaves its contact and one count more, and no other frame changes the pair.
+-- accepted test of the pair leaves its contact and its count, and no other frame changes the pair.
 -- Assumes nothing.
 use Prim.Native.Nat.{ℕ, _≤_}
 use mathlib.Core.Path.{_≡_, refl, sym, _∙_, ap}
@@ -29,7 +29,7 @@ use Rattle.record_definitions.specs.Frame.{largest-id, test-refusal, tes
 use Rattle.record_definitions.specs.Step.{first-place, second-place, change-in, after-frame, said-of-frame}
 use Rattle.record_definitions.specs.Export.{answer-refusal}
 use Rattle.record_definitions.specs.Heat.{defines-shape, with-answer, contact-in}
-use Rattle.record_definitions.specs.Heat.{touches-of}
+use Rattle.record_definitions.specs.Heat.{touches-begun}
 use Rattle.record_definitions.proofs.HeatTests.{Remembers, test-remembered}
 use Rattle.record_definitions.proofs.Refusing.{after-refused}
 use Rattle.record_definitions.proofs.Changes.{NewShape, Placing, by-choice, is-of-kind, both}
@@ -121,7 +121,7 @@ module _ (a b : ℕ) (a-small : a ≤ largest-id) (b-small : b ≤ largest-id) (
 
   -- a new shape of either id
   forgotten : pair-at (after-frame w frame) a b ≡ fresh-pair → After []
-  unfolding fresh-pair ids-of touches-of
+  unfolding fresh-pair ids-of touches-begun
   forgotten fresh = record {
     sound = frame-keeps-sound w frame (before .sound);
     whole = record { two = refl; few = omega arith };

@@ -1,37 +1,36 @@
 -- A test of a pair that answers, after tests that met some contacts (`Remembers`): its states and its count are those
--- of these contacts and its own, the pair then remembers its own, and points that rest are not counted.
--- Assumes nothing.
-use Prim.Native.Nat.{ℕ, suc, _+_, _≤_, _<_, min}
+-- of these contacts and its own, by the rulebook, and the pair then remembers its own. Assumes nothing.
+use Prim.Native.Nat.{ℕ, _≤_, _<_}
 use mathlib.Core.Path.{_≡_, refl, sym, _∙_, ap, ap₂, subst}
-use mathlib.Core.Bool.{Bool, true, false, cond}
-use mathlib.Core.List.{List, [], _∷_}
-use native.Mathlib.Nat.{add-zero}
-use native.Mathlib.Omega.{arith}
-use lib.ListN.{length, length-map, length-take}
+use mathlib.Core.Bool.{true}
+use mathlib.Core.List.{List, _∷_}
+use lib.ListN.{length}
 use Rattle.lines.specs.Fields.{byte-at}
 use Rattle.shape_definitions.specs.Refusal.{accepted}
 use Rattle.contact_definitions.specs.declared.b2_collision.B2contactId.{B2contactId}
 use Rattle.contact_definitions.specs.declared.b2_collision.B2manifold.{B2manifold}
-use Rattle.contact_definitions.specs.declared.b2_collision.B2pointState.the-variants.{B2PersistState, B2AddState}
+use Rattle.contact_definitions.specs.declared.b2_collision.B2pointState.the-variants.{B2PersistState}
+use Rattle.contact_definitions.specs.declared.b2_collision.CountedIds.{CountedIds}
 use Rattle.contact_definitions.specs.declared.b2_collision.PointStates.{PointStates}
-use Rattle.contact_definitions.specs.Manifold.{counted-points, manifold-point}
-use Rattle.contact_definitions.specs.PointStates.{counted-ids, id-among, ids-of, ids-in, states-of-ids, point-state}
+use Rattle.contact_definitions.specs.Manifold.{manifold-point}
+use Rattle.contact_definitions.specs.PointStates.{counted-ids, id-among, ids-of, ids-in, states-of-ids}
 use Rattle.record_definitions.specs.declared.world.World.{World}
 use Rattle.record_definitions.specs.declared.touch.Touch.{Touch}
 use Rattle.record_definitions.specs.declared.frame.Answer.the-variants.{Tested}
 use Rattle.record_definitions.specs.World.{body-at, pair-at}
-use Rattle.record_definitions.specs.Touch.{added, largest-count, touches-after, states-of}
+use Rattle.record_definitions.specs.Touch.{touches-after, states-of}
 use Rattle.record_definitions.specs.Step.{change-in, after-frame, said-of-frame}
-use Rattle.record_definitions.specs.Heat.{contact-in, last-contact, states-between, touches-of, new-ids}
-use Rattle.record_definitions.specs.Heat.{new-points, NextTest}
+use Rattle.record_definitions.specs.Rulebook.{Rulebook}
+use Rattle.record_definitions.specs.Heat.{contact-in, last-contact, touches-begun, touches-of, NextTest}
 use Rattle.record_definitions.proofs.Changes.{WasTested}
 use Rattle.record_definitions.proofs.Pairs.{test-seen}
 use Rattle.record_definitions.proofs.States.{ids-of-points, states-are-box2ds, first-state, second-state}
 use Rattle.record_definitions.proofs.Counting.{states-printed, touches-printed, contact-taken, met-few}
+use Rattle.record_definitions.proofs.Rulebook.{counted-by-rulebook, held-begun}
 use Rattle.record_definitions.proofs.MetPlaces.{met-two}
 use Rattle.record_definitions.proofs.Sound.{Sound}
 use Rattle.record_definitions.proofs.SoundKept.{frame-keeps-sound}
-use Rattle.record_definitions.proofs.Theorem.{test-keeps-ids, touches-counted}
+use Rattle.record_definitions.proofs.Theorem.{test-keeps-ids, test-keeps-touches}
 
 -- ---- a contact as tests meet it: two places for points, and at most two of them
 pub record Whole (contact : B2manifold) : Type 0 where
@@ -43,27 +42,6 @@ pub record Remembers (a b : ℕ) (w : World) (contacts : List B2manifold) : Type
   pub whole : Whole (last-contact contacts)
   pub ids : pair-at w a b .ids ≡ ids-of (last-contact contacts)
   pub touches : pair-at w a b .touches ≡ touches-of contacts
-
--- ---- the counting rule counts new points only
-first-added : (t : Bool) (n : ℕ) → added (cond t B2PersistState B2AddState) + n ≡ cond t n (suc n)
-first-added true n = omega arith
-first-added false n = omega arith
-
-new-counted : (old new : List B2contactId) → length new ≤ 2
-    → added (states-of-ids old new .new0) + added (states-of-ids old new .new1) ≡ new-ids old new
-unfolding states-of-ids point-state new-ids
-new-counted old [] few = refl
-new-counted old (p ∷ []) few = first-added (id-among p old) 0
-new-counted old (p ∷ q ∷ []) few =
-    ap (λ (n : ℕ). added (cond (id-among p old) B2PersistState B2AddState) + n)
-    (sym (add-zero (added (cond (id-among q old) B2PersistState B2AddState))) ∙ first-added (id-among q old) 0)
-    ∙ first-added (id-among p old) _
-new-counted old (p ∷ q ∷ r ∷ rest) few = absurd (omega arith)
-
-held : (contacts : List B2manifold) → touches-of contacts ≤ largest-count
-unfolding touches-of touches-after
-held [] = omega arith
-held (contact ∷ earlier) = omega arith
 
 -- ---- the test
 module _ (a b : ℕ) (w : World) (contacts : List B2manifold) (before : Remembers a b w contacts) (frame : List ℕ)
@@ -84,22 +62,31 @@ module _ (a b : ℕ) (w : World) (contacts : List B2manifold) (before : Remember
   ids-counted m h = ids-of-points m (m .points) refl (h .two) (h .few)
 
   against-last : states-of (pair-at w a b) (contact-in a b w)
-      ≡ states-between (last-contact contacts) (contact-in a b w)
+      ≡ states-of-ids (counted-ids (last-contact contacts)) (counted-ids (contact-in a b w))
   unfolding states-of
   against-last =
       rw (before .ids, ids-counted (last-contact contacts) (before .whole), ids-counted (contact-in a b w) whole) refl
 
-  states-are : t .states ≡ states-between (last-contact contacts) (contact-in a b w)
+  states-are : t .states ≡ states-of-ids (counted-ids (last-contact contacts)) (counted-ids (contact-in a b w))
   states-are =
       ap (λ (s : Touch). s .states) (seen .touch-is)
       ∙ states-printed (body-at w a) (body-at w b) a b (pair-at w a b) ∙ against-last
 
-  touches-are : t .touches ≡ touches-of (contact-in a b w ∷ contacts)
-  unfolding touches-of
-  touches-are =
+  points-before : pair-at w a b .ids .count ≡ last-contact contacts .«point_count»
+  unfolding ids-of
+  points-before = ap (λ (ids : CountedIds). ids .count) (before .ids)
+
+  counted : t .touches
+      ≡ touches-after (touches-of contacts) (last-contact contacts .«point_count») (contact-in a b w .«point_count»)
+  counted =
       ap (λ (s : Touch). s .touches) (seen .touch-is)
       ∙ touches-printed (body-at w a) (body-at w b) a b (pair-at w a b)
-      ∙ ap₂ touches-after (before .touches) (ap (λ (s : Touch). s .states) (sym (seen .touch-is)) ∙ states-are)
+      ∙ ap₂ (λ (touches points : ℕ). touches-after touches points (contact-in a b w .«point_count»)) (before .touches)
+      points-before
+
+  touches-are : t .touches ≡ touches-of (contact-in a b w ∷ contacts)
+  unfolding touches-begun
+  touches-are = counted ∙ held-begun (touches-begun contacts) _ _
 
   ids-after : pair-at (after-frame w frame) (byte-at frame 1) (byte-at frame 2) .ids
       ≡ ids-of (contact-in (byte-at frame 1) (byte-at frame 2) w)
@@ -117,7 +104,7 @@ module _ (a b : ℕ) (w : World) (contacts : List B2manifold) (before : Remember
         sound = frame-keeps-sound w frame (before .sound);
         whole = whole;
         ids = ids-after (test-keeps-ids w frame t is size);
-        touches = sym (rw (a-is, b-is) at (touches-counted w frame t is size .1)) ∙ touches-are;
+        touches = rw (a-is, b-is) at (test-keeps-touches w frame t is size) ∙ touches-are;
       }
 
   -- a point's state, from its id
@@ -141,18 +128,6 @@ module _ (a b : ℕ) (w : World) (contacts : List B2manifold) (before : Remember
       ap (λ (s : PointStates). s .new1) from-ids
       ∙ second-state old (ids-of (contact-in a b w)) (contact-in a b w .«point_count») refl some ∙ rw rests refl
 
-  -- the rise of the count
-  few-ids : length (counted-ids (contact-in a b w)) ≤ 2
-  unfolding counted-ids counted-points
-  few-ids = simp (length-map, length-take) (omega (arith, whole .few))
-
-  rise : t .touches ≡ min (touches-of contacts + new-points (last-contact contacts) (contact-in a b w)) largest-count
-  unfolding touches-of touches-after
-  rise =
-      touches-are
-      ∙ ap (λ (n : ℕ). min (touches-of contacts + n) largest-count)
-      (new-counted old (counted-ids (contact-in a b w)) few-ids)
-
   -- and prints it
   pub test-printed : NextTest contacts (contact-in a b w) t
   test-printed = record {
@@ -161,9 +136,10 @@ module _ (a b : ℕ) (w : World) (contacts : List B2manifold) (before : Remember
         ∙ ap (λ (states : PointStates). record { states = states; refusal = accepted })
         (ap₂ states-of-ids (ids-counted (last-contact contacts) (before .whole)) (ids-counted (contact-in a b w) whole)
         ∙ sym states-are);
-    count = touches-are;
     first-rests = first-resting;
     second-rests = second-resting;
-    only-new-points = omega (arith, rise);
-    all-rest = λ none. omega (arith, rise, held contacts);
+    count = touches-are;
+    rulebook = subst
+        (Rulebook (last-contact contacts .«point_count») (contact-in a b w .«point_count») (touches-of contacts))
+        (sym counted) (counted-by-rulebook (touches-of contacts) _ _);
   }

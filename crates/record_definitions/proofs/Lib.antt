@@ -11,6 +11,7 @@ pub mod Changes
 pub mod Pairs
 pub mod States
 pub mod Counting
+pub mod Rulebook
 pub mod AnswerLengths
 pub mod MetPlaces
 pub mod Sound
@@ -23,6 +24,7 @@ pub mod Theorem
 pub mod HeatTests
 pub mod HeatSteps
 pub mod HeatLaw
+pub mod FirstTests
 pub mod HeatCases
 pub mod ExportRuns
 pub mod ExportLines

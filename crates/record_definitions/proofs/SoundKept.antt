@@ -3,7 +3,6 @@ use Prim.Native.Nat.{ℕ, zero, suc, _≤_}
 use mathlib.Core.Path.{_≡_, refl, _∙_}
 use mathlib.Core.Bool.{Bool, true, false}
 use mathlib.Core.List.{List, [], _∷_}
-use native.Mathlib.Omega.{arith}
 use lib.Dec.{eqb}
 use lib.ListN.{length, getD, set, replicate, length-set}
 use borrow.Author.Tests.{eqb-true}
@@ -11,7 +10,6 @@ use Rattle.lines.specs.Fields.{byte-at, points-at}
 use Rattle.shape_definitions.specs.Circle.{circle-in-range}
 use Rattle.shape_definitions.specs.Polygon.{b2-polygon-shape-set}
 use Rattle.shape_definitions.specs.Refusal.{accepted}
-use Rattle.contact_definitions.specs.declared.b2_collision.PointStates.{PointStates}
 use Rattle.contact_definitions.proofs.Counts.{either}
 use Rattle.record_definitions.specs.declared.world.Body.{Body}
 use Rattle.record_definitions.specs.declared.world.Pair.{Pair}
@@ -22,11 +20,12 @@ use Rattle.record_definitions.specs.World.{body-at, pair-at, pair-place,
 use Rattle.record_definitions.specs.Frame.{frame-refusal, circle-at, circle-change, outline-change, wall-at}
 use Rattle.record_definitions.specs.Frame.{wall-change, place-change, turn-change, test-refusal, test-change}
 use Rattle.record_definitions.specs.Frame.{change-of-kind, change}
-use Rattle.record_definitions.specs.Touch.{tested, meet, largest-count, touches-after, tested-as}
+use Rattle.record_definitions.specs.Touch.{tested, meet, tested-as}
 use Rattle.record_definitions.specs.Step.{first-place, second-place, pairs-after, changed, change-in, after-frame}
 use Rattle.record_definitions.proofs.Placements.{place-cases, turn-cases}
 use Rattle.record_definitions.proofs.Changes.{by-choice}
 use Rattle.record_definitions.proofs.OneLine.{length-forget}
+use Rattle.record_definitions.proofs.Rulebook.{held}
 use Rattle.record_definitions.proofs.Counting.{contact-taken, met-few}
 use Rattle.record_definitions.proofs.MetPlaces.{met-two}
 use Rattle.record_definitions.proofs.Sound.{SoundBody, SoundPair, Sound, fresh-pair-sound, blank-sound}
@@ -92,10 +91,6 @@ module _ (a b : Body) (pair : Pair) (bytes : List ℕ) (sound : SoundPair pair) 
   abbrev PairKept : Change → Type 0
   PairKept c = SoundPair (c .pair)
 
-  held-after : (touches : ℕ) (states : PointStates) → touches-after touches states ≤ largest-count
-  unfolding touches-after
-  held-after touches states = omega arith
-
   tested-pair : (ida idb : ℕ) → tested ida idb a b pair .refusal ≡ accepted → SoundPair (tested ida idb a b pair .pair)
   unfolding tested tested-as
   tested-pair ida idb taken =
@@ -105,7 +100,7 @@ module _ (a b : Body) (pair : Pair) (bytes : List ℕ) (sound : SoundPair pair) 
         two-places = met-two a b met .two;
         few = met-few a b met .at-most-two;
         ids-are = refl;
-        held = held-after _ _;
+        held = held (pair .touches) _ _ (sound .held);
       }
 
   test-pair-kept : (ida idb : ℕ) → PairKept (test-change ida idb a b pair)

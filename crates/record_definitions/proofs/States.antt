@@ -1,14 +1,14 @@
 -- Point states from the ids that a pair keeps. They are those that b2_get_point_states gives of the two manifolds; a
 -- counted point is in state persist where its id is among the ids of the pair's last contact, and else in state add.
 -- Assumes nothing.
-use Prim.Native.Nat.{ℕ, zero, suc, _+_, _≤_, _<_}
+use Prim.Native.Nat.{ℕ, zero, suc, _≤_, _<_}
 use mathlib.Core.Path.{_≡_, refl}
-use mathlib.Core.Bool.{Bool, true, false, cond, _||_}
+use mathlib.Core.Bool.{cond}
 use mathlib.Core.List.{List, [], _∷_, map}
 use native.Mathlib.Omega.{arith}
 use lib.Dec.{eqb}
 use lib.ListN.{length, take}
-use borrow.Author.Tests.{eq-eqb, ne-eqb, le-ltb}
+use borrow.Author.Tests.{ne-eqb, le-ltb}
 use Rattle.shape_definitions.specs.Refusal.{accepted}
 use Rattle.contact_definitions.specs.declared.b2_collision.B2contactId.{B2contactId}
 use Rattle.contact_definitions.specs.declared.b2_collision.B2manifold.{B2manifold}
@@ -18,9 +18,8 @@ use Rattle.contact_definitions.specs.declared.b2_collision.B2pointState.the-var
 use Rattle.contact_definitions.specs.declared.b2_collision.CountedIds.{CountedIds}
 use Rattle.contact_definitions.specs.declared.b2_collision.PointStates.{PointStates}
 use Rattle.contact_definitions.specs.Manifold.{counted-points}
-use Rattle.contact_definitions.specs.PointStates.{same-id, id-among, counted-ids, ids-of, ids-in, point-state}
+use Rattle.contact_definitions.specs.PointStates.{id-among, counted-ids, ids-of, ids-in, point-state}
 use Rattle.contact_definitions.specs.PointStates.{states-of-ids, b2-get-point-states}
-use Rattle.record_definitions.specs.Touch.{added}
 
 -- ---- the ids of a manifold are those of the points that it counts
 ids-by-count : (count : ℕ) (p q : B2manifoldPoint) → count ≤ 2
@@ -82,35 +81,3 @@ module _ (old : List B2contactId) (ids : CountedIds) where
   no-second-state zero is few = rw is refl
   no-second-state (suc zero) is few = rw is refl
   no-second-state (suc (suc n)) is few = absurd (omega arith)
-
--- ---- against itself every point persists
-same-itself : (id : B2contactId) → same-id id id ≡ true
-unfolding same-id
-same-itself id =
-    simp (
-      eq-eqb (id .cf .«index_a») (id .cf .«index_a») refl,
-      eq-eqb (id .cf .«index_b») (id .cf .«index_b») refl,
-      eq-eqb (id .cf .«type_a») (id .cf .«type_a») refl,
-      eq-eqb (id .cf .«type_b») (id .cf .«type_b») refl,
-    )
-
-or-true : (t : Bool) → t || true ≡ true
-or-true true = refl
-or-true false = refl
-
-added-against : List B2contactId → ℕ
-added-against ids = added (states-of-ids ids ids .new0) + added (states-of-ids ids ids .new1)
-
-adds-none : (n : ℕ) (ids : CountedIds) → ids .count ≡ n → added-against (ids-in ids) ≡ 0
-unfolding added-against states-of-ids point-state ids-in id-among
-adds-none zero ids is = rw is refl
-adds-none (suc zero) ids is = rw (is, same-itself (ids .first)) refl
-adds-none (suc (suc n)) ids is =
-    let second-there : same-id (ids .first) (ids .second) || true ≡ true =
-    or-true (same-id (ids .first) (ids .second)) in
-    rw (two-ids n ids is, same-itself (ids .first), same-itself (ids .second), second-there) refl
-
-pub repeated-adds-none : (ids : CountedIds)
-    → added (states-of-ids (ids-in ids) (ids-in ids) .new0) + added (states-of-ids (ids-in ids) (ids-in ids) .new1) ≡ 0
-unfolding added-against
-repeated-adds-none ids = adds-none (ids .count) ids refl

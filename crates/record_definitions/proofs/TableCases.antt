@@ -1,29 +1,35 @@
 -- Closed cases of small tables: the length of each frame, the pairs that are tested, the places of pairs, the kind that
--- is printed, and the count that holds at its largest. What they give is read off document 01. Assumes nothing.
+-- is printed, and the touches by the points before and now. What they give is read off documents 01 and 02.
+-- Assumes nothing.
 use Prim.Native.Nat.{ℕ, _-_}
 use mathlib.Core.Path.{_≡_, refl}
 use mathlib.Core.Bool.{true, false}
 use mathlib.Core.List.{[], _∷_, map}
-use Rattle.contact_definitions.specs.declared.b2_collision.B2pointState.the-variants.{B2NullState, B2AddState}
-use Rattle.contact_definitions.specs.declared.b2_collision.B2pointState.the-variants.{B2PersistState, B2RemoveState}
-use Rattle.contact_definitions.specs.declared.b2_collision.PointStates.{PointStates}
+use Rattle.shape_definitions.specs.Refusal.{accepted}
+use Rattle.contact_definitions.specs.declared.b2_collision.B2manifold.{B2manifold}
 use Rattle.contact_definitions.specs.declared.b2_collision.B2manifoldType.the-variants.{EFaceB}
-use Rattle.contact_definitions.specs.Manifold.{default-manifold, with-count, with-kind}
+use Rattle.contact_definitions.specs.declared.b2_collision.B2pointState.the-variants.{B2NullState, B2AddState}
+use Rattle.contact_definitions.specs.declared.b2_collision.B2pointState.the-variants.{B2RemoveState}
+use Rattle.contact_definitions.specs.Manifold.{contact-id, default-id, default-manifold, with-count, with-kind}
+use Rattle.contact_definitions.specs.PointStates.{same-id, id-among, ids-of, ids-in, point-state, states-of-ids}
+use Rattle.contact_definitions.specs.WorldManifold.{default-world-manifold}
+use Rattle.contact_definitions.proofs.StateCases.{counting}
+use Rattle.record_definitions.specs.declared.touch.Touch.{Touch}
 use Rattle.record_definitions.specs.World.{no-body, circle-kind, outline-kind, wall-kind, pair-place}
-use Rattle.record_definitions.specs.Touch.{shown-kind, largest-count, touches-after}
+use Rattle.record_definitions.specs.Touch.{states-of, largest-count, touches-after, shown-kind, touch-of, tested-as}
 use Rattle.record_definitions.specs.Frame.{frame-length, listed}
 use Rattle.record_definitions.specs.Answer.{longest-answer, longest-line}
 use Rattle.record_definitions.specs.Reading.{kept-length}
 
--- two points that are new, two that rest, and one that is new beside one that was removed
-abbrev both-new : PointStates
-both-new = record { old0 = B2NullState; old1 = B2NullState; new0 = B2AddState; new1 = B2AddState }
+-- one point, of an outline's corner on a wall's face
+abbrev one-point : ℕ → B2manifold
+one-point corner = counting 1 (contact-id 0 corner 1 0) default-id
 
-abbrev both-rest : PointStates
-both-rest = record { old0 = B2PersistState; old1 = B2PersistState; new0 = B2PersistState; new1 = B2PersistState }
-
-abbrev one-new : PointStates
-one-new = record { old0 = B2RemoveState; old1 = B2NullState; new0 = B2NullState; new1 = B2AddState }
+-- a test that meets this contact, of a pair that kept that one and four touches: what it prints
+abbrev tested-after : B2manifold → B2manifold → Touch
+tested-after kept contact =
+    tested-as 0 1 (record { ids = ids-of kept; touches = 4 }) (record { manifold = contact; refusal = accepted })
+    (record { world = default-world-manifold; refusal = accepted }) .touch
 
 pub record TableCases : Type 0 where
   -- by the kind, 0 to 7, where the third byte is 0
@@ -42,15 +48,25 @@ pub record TableCases : Type 0 where
   -- by the count of a manifold of kind face B: without a point the kind is not printed
   pub kinds-shown : map (λ (n : ℕ). shown-kind (with-kind (with-count default-manifold n) EFaceB)) (0 ∷ 1 ∷ 2 ∷ [])
       ≡ 0 ∷ 2 ∷ 2 ∷ []
-  -- new points are counted, and the count holds at 2^32 - 1
-  pub counted : map (touches-after 4) (both-new ∷ both-rest ∷ one-new ∷ []) ≡ 6 ∷ 4 ∷ 5 ∷ []
+  -- from no point to none, one and two; from one point; from two
+  pub counted-from-none : map (touches-after 4 0) (0 ∷ 1 ∷ 2 ∷ []) ≡ 4 ∷ 5 ∷ 5 ∷ []
+  pub counted-from-one : map (touches-after 4 1) (0 ∷ 1 ∷ 2 ∷ []) ≡ 4 ∷ 4 ∷ 4 ∷ []
+  pub counted-from-two : map (touches-after 4 2) (0 ∷ 1 ∷ 2 ∷ []) ≡ 4 ∷ 4 ∷ 4 ∷ []
+  -- a roll from corner 3 to corner 0: the old point is removed and the new one added, and no touch begins
+  pub roll-states : tested-after (one-point 3) (one-point 0) .states
+      ≡ record { old0 = B2RemoveState; old1 = B2NullState; new0 = B2AddState; new1 = B2NullState }
+  pub roll-touches : tested-after (one-point 3) (one-point 0) .touches ≡ 4
+  -- the same point where there was none
+  pub begun-touches : tested-after default-manifold (one-point 0) .touches ≡ 5
+  -- the count holds at 2^32 - 1
   pub largest : largest-count ≡ 0xffff_ffff
-  pub held-by-one : touches-after (largest-count - 1) both-new ≡ largest-count
-  pub held : touches-after largest-count one-new ≡ largest-count
+  pub last-counted : touches-after (largest-count - 1) 0 1 ≡ largest-count
+  pub held : touches-after largest-count 0 2 ≡ largest-count
   pub sizes : longest-answer ∷ longest-line ∷ kept-length ∷ [] ≡ 45 ∷ 91 ∷ 135 ∷ []
 
 pub table-cases : TableCases
-unfolding frame-length listed with-kind with-count touches-after
+unfolding frame-length listed with-kind with-count same-id id-among ids-of ids-in point-state states-of-ids touches-after
+    states-of touch-of tested-as
 table-cases = record {
   lengths = refl;
   outline-lengths = refl;
@@ -61,9 +77,14 @@ table-cases = record {
   after-wall = refl;
   places = refl;
   kinds-shown = refl;
-  counted = refl;
+  counted-from-none = refl;
+  counted-from-one = refl;
+  counted-from-two = refl;
+  roll-states = refl;
+  roll-touches = refl;
+  begun-touches = refl;
   largest = refl;
-  held-by-one = refl;
+  last-counted = refl;
   held = refl;
   sizes = refl;
 }

@@ -1,9 +1,9 @@
 -- The headline laws of the touch record, document 01: what is printed is `touches` of the input however it is split; a
--- refusal changes no state; a touch is counted for each point in state add, and none for a point that rests; which
--- frame changes which pair; what an answer's bytes are; which refusals a test cannot meet. Bodies only cite.
+-- refusal changes no state; a touch is counted by the rulebook; which frame changes which pair; what an answer's bytes
+-- are; which refusals a test cannot meet. Bodies only cite.
 -- Assumes nothing.
-use Prim.Native.Nat.{ℕ, _+_, _≤_, _<_, min}
-use mathlib.Core.Path.{_≡_, refl, sym, _∙_, ap}
+use Prim.Native.Nat.{ℕ, _≤_, _<_}
+use mathlib.Core.Path.{_≡_, refl, sym, _∙_, ap, subst}
 use mathlib.Core.Bool.{cond}
 use mathlib.Core.List.{List, [], _∷_}
 use lib.Dec.{eqb}
@@ -23,7 +23,8 @@ use Rattle.record_definitions.specs.declared.touch.Touch.{Touch}
 use Rattle.record_definitions.specs.declared.frame.Answer.the-variants.{Accepted, Refused, Tested}
 use Rattle.record_definitions.specs.declared.frame.Said.{Said}
 use Rattle.record_definitions.specs.World.{pair-place, blank-body, fresh-pair, fresh-world, body-at, pair-at}
-use Rattle.record_definitions.specs.Touch.{meet, added, largest-count, touches-after, states-of, tested}
+use Rattle.record_definitions.specs.Touch.{meet, touches-after, states-of, tested}
+use Rattle.record_definitions.specs.Rulebook.{Rulebook}
 use Rattle.record_definitions.specs.Frame.{largest-id, change}
 use Rattle.record_definitions.specs.Answer.{touch-bytes, said-bytes, said-line, longest-answer, longest-line}
 use Rattle.record_definitions.specs.Step.{first-place, second-place, change-in, after-frame, said-of-frame}
@@ -42,6 +43,7 @@ use Rattle.record_definitions.proofs.States.{no-second-state}
 use Rattle.record_definitions.proofs.Counting.{states-printed, touches-printed, count-printed, ids-kept}
 use Rattle.record_definitions.proofs.Counting.{touches-kept, first-printed, second-printed, contact-taken}
 use Rattle.record_definitions.proofs.Counting.{met-few}
+use Rattle.record_definitions.proofs.Rulebook.{counted-by-rulebook}
 use Rattle.record_definitions.proofs.MetPlaces.{met-two}
 use Rattle.record_definitions.proofs.Again.{change-again, counts-no-more}
 use Rattle.record_definitions.proofs.AnswerLengths.{touch-size, said-within, line-within}
@@ -116,21 +118,25 @@ module _ (w : World) (frame : List ℕ) (t : Touch) (is : said-of-frame w frame 
   test-keeps-ids size =
       rw (test-writes-its-pair w frame t is size) (ids-kept (body-at w a) (body-at w b) a b (pair-at w a b))
 
-  -- a touch is counted for each point in state add, up to the largest count, and that number is printed
-  pub touches-counted : length (w .pairs) ≡ 64
-      → (pair-at (after-frame w frame) a b .touches
-      ≡ min (pair-at w a b .touches + (added (t .states .new0) + added (t .states .new1))) largest-count)
-      × (t .touches ≡ pair-at (after-frame w frame) a b .touches)
-  unfolding touches-after
-  touches-counted size =
-      let seen = test-seen w frame t is in
-      let kept : pair-at (after-frame w frame) a b .touches ≡ t .touches =
+  -- the count is the rulebook's, from the points and the count that the pair kept and the points of this contact; the
+  -- pair keeps the count that is printed
+  touches-so : t .touches ≡ touches-after (pair-at w a b .touches) (pair-at w a b .ids .count) (contact .«point_count»)
+  touches-so =
+      ap (λ (s : Touch). s .touches) (test-seen w frame t is .touch-is)
+      ∙ touches-printed (body-at w a) (body-at w b) a b (pair-at w a b)
+
+  pub touch-by-rulebook : Rulebook (pair-at w a b .ids .count) (contact .«point_count») (pair-at w a b .touches)
+      (t .touches)
+  touch-by-rulebook =
+      let pair = pair-at w a b in
+      subst (Rulebook (pair .ids .count) (contact .«point_count») (pair .touches)) (sym touches-so)
+      (counted-by-rulebook (pair .touches) (pair .ids .count) (contact .«point_count»))
+
+  pub test-keeps-touches : length (w .pairs) ≡ 64 → pair-at (after-frame w frame) a b .touches ≡ t .touches
+  test-keeps-touches size =
       ap (λ (p : Pair). p .touches) (test-writes-its-pair w frame t is size)
       ∙ touches-kept (body-at w a) (body-at w b) a b (pair-at w a b)
-      ∙ ap (λ (s : Touch). s .touches) (sym (seen .touch-is)) in
-      let counted : t .touches ≡ touches-after (pair-at w a b .touches) (t .states) =
-      rw (seen .touch-is) (touches-printed (body-at w a) (body-at w b) a b (pair-at w a b)) in
-      (kept ∙ counted, sym kept)
+      ∙ ap (λ (s : Touch). s .touches) (sym (test-seen w frame t is .touch-is))
 
   -- the ids of the two bodies are printed, and as many points as the contact counts, at most two
   pub names-printed : (t .a ≡ a) × (t .b ≡ b)
@@ -147,8 +153,7 @@ module _ (w : World) (frame : List ℕ) (t : Touch) (is : said-of-frame w frame 
       let printed = count-printed (body-at w a) (body-at w b) a b (pair-at w a b) (seen .not-refused) in
       (ap (λ (s : Touch). s .count) (seen .touch-is) ∙ printed .0, printed .1)
 
-  -- a point's state: persist, so that it is not counted, where its id is among those of the pair's last contact; else
-  -- add
+  -- a point's state: persist where its id is among those of the pair's last contact, else add
   states-so : t .states ≡ states-of (pair-at w a b) contact
   states-so =
       ap (λ (s : Touch). s .states) (test-seen w frame t is .touch-is)

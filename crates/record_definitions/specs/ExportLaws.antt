@@ -6,8 +6,8 @@ use mathlib.Core.Bool.{false, cond}
 use mathlib.Core.List.{List, [], _∷_, _++_, map, List·Memᴰ}
 use mathlib.Core.Logic.{_↔_}
 use lib.Dec.{eqb}
-use lib.ListN.{length, take}
-use Rattle.lines.specs.Fields.{byte-at}
+use lib.ListN.{length, take, drop}
+use Rattle.lines.specs.Fields.{byte-at, number-bytes}
 use Rattle.lines.specs.Hex.{line-of}
 use Rattle.record_definitions.specs.Answer.{longest-answer}
 use Rattle.record_definitions.specs.Touches.{touches}
@@ -28,6 +28,10 @@ pub record ExportReturns (input out : List ℕ) : Type 0 where
   -- where it is no refusal it tells the number of points, which is the fourth byte of the answer
   pub sized : export-number input out < refusal-base
       → export-number input out ≡ test-size (byte-at (export-output input out) 3)
+  -- and the touches that it wrote, behind the states, are one where there are points
+  pub counted : export-number input out < refusal-base
+      → take 4 (drop 9 (export-output input out))
+      ≡ number-bytes (cond (eqb (byte-at (export-output input out) 3) 0) 0 1)
   -- 9 where the output has not room for the longest test line, and only there
   pub nine : export-number input out ≡ refusal-base + 9 ↔ length out < longest-answer
   -- 10 where it has and the input is not the four frames, and only there

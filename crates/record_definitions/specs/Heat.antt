@@ -1,7 +1,7 @@
 -- Document 01, "The touch record", over a whole heat: what an ordered pair of ids remembers, counts and prints hangs on
 -- the contacts of its accepted tests since the last accepted new shape under either id, and on nothing else. So "a
 -- resting contact recorded as a fresh push" is ruled out over a heat, not a step. Definitions only.
-use Prim.Native.Nat.{ℕ, suc, _+_, _≤_, _<_}
+use Prim.Native.Nat.{ℕ, suc, _<_, min}
 use mathlib.Core.Path.{_≡_}
 use mathlib.Core.Bool.{Bool, true, cond, _&&_, _||_}
 use mathlib.Core.List.{List, [], _∷_}
@@ -9,18 +9,18 @@ use lib.Dec.{eqb}
 use Rattle.lines.specs.Fields.{byte-at}
 use Rattle.lines.specs.Hex.{frame-of}
 use Rattle.shape_definitions.specs.Refusal.{accepted}
-use Rattle.contact_definitions.specs.declared.b2_collision.B2contactId.{B2contactId}
 use Rattle.contact_definitions.specs.declared.b2_collision.B2manifold.{B2manifold}
 use Rattle.contact_definitions.specs.declared.b2_collision.B2pointState.the-variants.{B2PersistState}
 use Rattle.contact_definitions.specs.declared.b2_collision.PointStates.{PointStates}
 use Rattle.contact_definitions.specs.Manifold.{default-manifold, manifold-point}
-use Rattle.contact_definitions.specs.PointStates.{counted-ids, id-among, ids-of, states-of-ids, b2-get-point-states}
+use Rattle.contact_definitions.specs.PointStates.{counted-ids, id-among, ids-of, b2-get-point-states}
 use Rattle.record_definitions.specs.declared.world.World.{World}
 use Rattle.record_definitions.specs.declared.touch.Touch.{Touch}
 use Rattle.record_definitions.specs.declared.frame.Answer.{Answer}
 use Rattle.record_definitions.specs.declared.frame.Answer.the-variants.{Accepted, Refused, Tested}
 use Rattle.record_definitions.specs.World.{circle-kind, outline-kind, wall-kind, fresh-world, body-at, pair-at}
-use Rattle.record_definitions.specs.Touch.{meet, touches-after}
+use Rattle.record_definitions.specs.Touch.{meet, touch-begins, largest-count}
+use Rattle.record_definitions.specs.Rulebook.{Rulebook}
 use Rattle.record_definitions.specs.Step.{after-line, said-of-line}
 
 -- the world after some lines
@@ -62,45 +62,38 @@ abbrev pub last-contact : List B2manifold → B2manifold
 last-contact [] = default-manifold
 last-contact (contact ∷ earlier) = contact
 
--- the point states of a contact against the one before
-abbrev pub states-between : B2manifold → B2manifold → PointStates
-states-between old new = states-of-ids (counted-ids old) (counted-ids new)
+-- how many of these tests found points where the test before found none, or where there was no test before
+unfoldable pub touches-begun : List B2manifold → ℕ
+touches-begun [] = 0
+touches-begun (contact ∷ earlier) =
+    cond (touch-begins (last-contact earlier .«point_count») (contact .«point_count»)) (suc (touches-begun earlier))
+    (touches-begun earlier)
 
--- the touches: the counting rule, from 0, test after test
-unfoldable pub touches-of : List B2manifold → ℕ
-touches-of [] = 0
-touches-of (contact ∷ earlier) = touches-after (touches-of earlier) (states-between (last-contact earlier) contact)
-
--- how many of the ids are new
-unfoldable pub new-ids : List B2contactId → List B2contactId → ℕ
-new-ids old [] = 0
-new-ids old (id ∷ ids) = cond (id-among id old) (new-ids old ids) (suc (new-ids old ids))
-
--- the points of a contact that the one before had not: all others rest
-abbrev pub new-points : B2manifold → B2manifold → ℕ
-new-points old new = new-ids (counted-ids old) (counted-ids new)
+-- the touches: that number, as far as 32 bits hold it
+abbrev pub touches-of : List B2manifold → ℕ
+touches-of contacts = min (touches-begun contacts) largest-count
 
 -- ---- a test of the pair that met this contact and printed t, after tests that met the earlier ones
 pub record NextTest (earlier : List B2manifold) (contact : B2manifold) (t : Touch) : Type 0 where
   -- its states, old and new, are those of Box2D's b2GetPointStates on the contact of the test before and on this one
   pub states : (given : PointStates)
       → b2-get-point-states given (last-contact earlier) contact ≡ record { states = t .states; refusal = accepted }
-  -- its count is the counting rule's, test after test
-  pub count : t .touches ≡ touches-of (contact ∷ earlier)
-  -- a resting point is no fresh push: where the test before had a point of its id, it persists
+  -- where the test before had a point of its id, it persists
   pub first-rests : 0 < contact .«point_count»
       → id-among (manifold-point contact 0 .id) (counted-ids (last-contact earlier)) ≡ true
       → t .states .new0 ≡ B2PersistState
   pub second-rests : 1 < contact .«point_count»
       → id-among (manifold-point contact 1 .id) (counted-ids (last-contact earlier)) ≡ true
       → t .states .new1 ≡ B2PersistState
-  -- and it is not counted: the count rises at most by the number of new points, and not at all where every point rests
-  pub only-new-points : t .touches ≤ touches-of earlier + new-points (last-contact earlier) contact
-  pub all-rest : new-points (last-contact earlier) contact ≡ 0 → t .touches ≡ touches-of earlier
+  -- its count is the number of touches begun, with the one that it begins
+  pub count : t .touches ≡ touches-of (contact ∷ earlier)
+  -- and it begins one by the rulebook: only where the test before found no point, so a resting point is no fresh push
+  pub rulebook : Rulebook (last-contact earlier .«point_count») (contact .«point_count») (touches-of earlier)
+      (t .touches)
 
 -- ---- the law of a heat, for an ordered pair of ids and any lines from a fresh start
 pub record HeatLaw (a b : ℕ) (lines : List (List ℕ)) : Type 0 where
-  -- the pair remembers the last of these contacts, and their count
+  -- the pair remembers the last of these contacts, and the touches begun
   pub remembered : pair-at (after-lines fresh-world lines) a b .ids ≡ ids-of (last-contact (contacts-of a b lines))
   pub counted : pair-at (after-lines fresh-world lines) a b .touches ≡ touches-of (contacts-of a b lines)
   -- and so it prints, whatever line comes next

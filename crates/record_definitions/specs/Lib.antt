@@ -1,5 +1,6 @@
 pub mod World
 pub mod Touch
+pub mod Rulebook
 pub mod Frame
 pub mod Answer
 pub mod Step

@@ -1,17 +1,15 @@
--- Document 01, "The touch record": a test of two bodies. The contact call from a default manifold, the world points,
--- the point states against the pair's last contact, and the touches: one for each point in state add. Definitions only.
+-- Document 01, "The touch record", with document 02's request 02: a test of two bodies. The contact call from a default
+-- manifold, the world points, the point states against the pair's last contact, and the touches: one more where a pair
+-- that had no point gets one. Definitions only.
 use Prim.Native.Nat.{ℕ, _+_, _-_, _^_, min}
-use mathlib.Core.Bool.{cond}
-use lib.Dec.{eqb}
+use mathlib.Core.Bool.{Bool, cond, _&&_}
+use lib.Dec.{eqb, ltb}
 use lib.ListN.{getD}
 use lib.Ieee.{Float}
 use Rattle.rounding.specs.Literals.{zero32}
 use Rattle.shape_definitions.specs.Refusal.{accepted}
 use Rattle.shape_definitions.specs.Outline.{point-at}
 use Rattle.contact_definitions.specs.declared.b2_collision.B2manifold.{B2manifold}
-use Rattle.contact_definitions.specs.declared.b2_collision.B2pointState.{B2pointState}
-use Rattle.contact_definitions.specs.declared.b2_collision.B2pointState.the-variants.{B2NullState, B2AddState}
-use Rattle.contact_definitions.specs.declared.b2_collision.B2pointState.the-variants.{B2PersistState, B2RemoveState}
 use Rattle.contact_definitions.specs.declared.b2_collision.B2worldManifold.{B2worldManifold}
 use Rattle.contact_definitions.specs.declared.b2_collision.ManifoldAnswer.{ManifoldAnswer}
 use Rattle.contact_definitions.specs.declared.b2_collision.PointStates.{PointStates}
@@ -59,22 +57,21 @@ world-points a b m = b2-world-manifold-initialize default-world-manifold m (a .x
 abbrev pub refusal-of : ManifoldAnswer → WorldAnswer → ℕ
 refusal-of met world = cond (eqb (met .refusal) accepted) (world .refusal) (met .refusal)
 
--- ---- touches: the 32-bit count holds at its largest
-abbrev pub added : B2pointState → ℕ
-added B2NullState = 0
-added B2AddState = 1
-added B2PersistState = 0
-added B2RemoveState = 0
+-- ---- the states against the pair's last contact
+unfoldable pub states-of : Pair → B2manifold → PointStates
+states-of pair m = states-of-ids (ids-in (pair .ids)) (ids-in (ids-of m))
 
+-- ---- touches: one begins at a test that finds points where the pair's last test found none, or where there was no last
+-- test. That needs no flag: a pair without one is fresh, and a fresh pair's contact has no points
+abbrev pub touch-begins : ℕ → ℕ → Bool
+touch-begins before now = eqb before 0 && ltb 0 now
+
+-- the 32-bit count holds at its largest
 abbrev pub largest-count : ℕ
 largest-count = 2 ^ 32 - 1
 
-unfoldable pub touches-after : ℕ → PointStates → ℕ
-touches-after touches states = min (touches + (added (states .new0) + added (states .new1))) largest-count
-
--- the states against the pair's last contact
-unfoldable pub states-of : Pair → B2manifold → PointStates
-states-of pair m = states-of-ids (ids-in (pair .ids)) (ids-in (ids-of m))
+unfoldable pub touches-after : ℕ → ℕ → ℕ → ℕ
+touches-after touches before now = cond (touch-begins before now) (min (touches + 1) largest-count) touches
 
 -- ---- the result as printed: the kind is 0 where there is no point
 abbrev pub shown-kind : B2manifold → ℕ
@@ -101,7 +98,7 @@ unfoldable pub tested-as : ℕ → ℕ → Pair → ManifoldAnswer → WorldAnsw
 tested-as ida idb pair met world =
     let m = met .manifold in
     let states = states-of pair m in
-    let touches = touches-after (pair .touches) states in
+    let touches = touches-after (pair .touches) (pair .ids .count) (m .«point_count») in
     record {
       refusal = refusal-of met world;
       touch = touch-of ida idb m states touches (world .world);

@@ -1,15 +1,16 @@
 -- The numbers that the export returns (`export-returns`): 13, 33 or 45, or 256 and one of 1 to 6; 256 and 9 just where
--- the output is too short, 256 and 10 just where it is not and the input is not in order. Assumes nothing.
+-- the output is too short, 256 and 10 just where it is not and the input is not in order; and the touches that it writes.
+-- Assumes nothing.
 use Prim.Native.Nat.{ℕ, zero, suc, _+_, _≤_, _<_}
 use mathlib.Core.Path.{_≡_, refl, sym, _∙_, ap}
-use mathlib.Core.Bool.{Bool, true, false, not, _&&_, _||_, false≢true}
+use mathlib.Core.Bool.{Bool, true, false, cond, not, _&&_, _||_, false≢true}
 use mathlib.Core.List.{List, [], _∷_, _++_, List·Memᴰ}
 use mathlib.Core.List as L
 use mathlib.Core.Logic.{_⊎_, inl, inr}
 use native.Mathlib.Omega.{arith}
 use lib.Dec.{eqb, ltb}
-use lib.ListN.{length, getD, drop}
-use Rattle.lines.specs.Fields.{byte-at}
+use lib.ListN.{length, getD, take, drop}
+use Rattle.lines.specs.Fields.{byte-at, number-bytes}
 use Rattle.algebra.proofs.Booleans.{less-or-not}
 use Rattle.floats.specs.Ranges.{transform-in-range, radius-in-range}
 use Rattle.shape_definitions.specs.Validate.{polygon-in-range}
@@ -33,13 +34,14 @@ use Rattle.record_definitions.specs.World.{outline-kind, body-at, pair-at}
 use Rattle.record_definitions.specs.Touch.{meet-outline, meet, skin, world-points, tested-as, tested}
 use Rattle.record_definitions.specs.Frame.{listed}
 use Rattle.record_definitions.specs.Answer.{head-bytes, touch-bytes, answer-bytes, longest-answer}
-use Rattle.record_definitions.specs.Export.{in-order, refusal-base, left-in, export-number, export-output}
+use Rattle.record_definitions.specs.Export.{test-frame, in-order, refusal-base, left-in, export-number, export-output}
 use Rattle.record_definitions.specs.ExportLaws.{test-size, export-numbers, ExportReturns}
 use Rattle.record_definitions.proofs.Exported.{too-short, out-of-order, was-refused}
-use Rattle.record_definitions.proofs.Sound.{Sound}
-use Rattle.record_definitions.proofs.SoundKept.{fresh-sound, frame-keeps-sound}
 use Rattle.record_definitions.proofs.SoundTests.{NotOfHost, test-fine}
 use Rattle.record_definitions.proofs.Theorem.{result-bytes, answers-fit}
+use Rattle.record_definitions.proofs.HeatTests.{Remembers}
+use Rattle.record_definitions.proofs.HeatLaw.{fresh-remembered}
+use Rattle.record_definitions.proofs.FirstTests.{accepted-keeps-fresh, first-count}
 use Rattle.record_definitions.proofs.ExportRuns.{answered, turned-down}
 use Rattle.record_definitions.proofs.ExportOutcome.{export-outcome}
 use Rattle.record_definitions.proofs.ExportTheorem.{said-last, Ends, returned-tested, returned-refused}
@@ -93,8 +95,9 @@ module _ (a b : Body) (a-is : a .kind ≡ outline-kind) (b-is : b .kind ≡ outl
 OneToSix : ℕ → Type 0
 OneToSix n = (1 ≤ n) × (n ≤ 6)
 
+-- no test of 0 against 1 so far
 Kept : World → Type 0
-Kept w = Sound w × CappedWorld w
+Kept w = Remembers 0 1 w [] × CappedWorld w
 
 two-left : (n : ℕ) → (n ≡ 0 → ⊥) → NotOfHost n → (n ≡ contact-out-of-range → ⊥) → TestNumber n → OneToSix n
 unfolding TestNumber OneToSix
@@ -113,16 +116,24 @@ test-refused w kept a-is b-is nonzero =
     let b = body-at w 1 in
     let pair = pair-at w 0 1 in
     two-left (tested 0 1 a b pair .refusal) nonzero
-    (test-fine a b (kept .0 .each 0) (kept .0 .each 1) 0 1 pair (both-listed a b a-is b-is))
+    (test-fine a b (kept .0 .sound .each 0) (kept .0 .sound .each 1) 0 1 pair (both-listed a b a-is b-is))
     (test-not-nine a b (kept .1 .each 0) (kept .1 .each 1) 0 1 pair) (of-test a b a-is b-is pair)
 
-outcome : (input : List ℕ) → in-order input ≡ true → Ends OneToSix input
-unfolding OneToSix Kept
+-- and the test counts one touch or none
+OneOrNone : Touch → Type 0
+OneOrNone t = t .touches ≡ cond (eqb (t .count) 0) 0 1
+
+outcome : (input : List ℕ) → in-order input ≡ true → Ends OneOrNone OneToSix input
+unfolding OneOrNone OneToSix Kept
 outcome input ordered =
-    export-outcome OneToSix Kept (λ w kept. kept .0)
-    (λ w frame kept. (frame-keeps-sound w frame (kept .0), frame-keeps-capped w frame (kept .1)))
-    (fresh-sound, fresh-capped) (λ n nonzero few. (omega arith, omega arith)) (omega arith, omega arith) test-refused
-    input ordered
+    export-outcome OneOrNone OneToSix Kept (λ w kept. kept .0 .sound)
+    (λ w frame taken kept. (
+      accepted-keeps-fresh 0 1 (omega arith) (omega arith) w (kept .0) frame taken,
+      frame-keeps-capped w frame (kept .1),
+    ))
+    (fresh-remembered 0 1 (omega arith) (omega arith), fresh-capped)
+    (λ w kept t is. first-count w test-frame t is (kept .0)) (λ n nonzero few. (omega arith, omega arith))
+    (omega arith, omega arith) test-refused input ordered
 
 -- ---- the list of numbers
 abbrev Listed : ℕ → Type 0
@@ -154,6 +165,7 @@ test-listed t =
 record Ran (n : ℕ) (output : List ℕ) : Type 0 where
   is-listed : Listed n
   is-sized : n < refusal-base → n ≡ test-size (byte-at output 3)
+  is-counted : n < refusal-base → take 4 (drop 9 output) ≡ number-bytes (cond (eqb (byte-at output 3) 0) 0 1)
   below : n ≤ refusal-base + 6
 
 points-byte : (t : Touch) (rest : List ℕ) → byte-at (touch-bytes t ++ rest) 3 ≡ t .count
@@ -162,17 +174,25 @@ points-byte t rest =
     either (λ (l : List ℕ). byte-at (l ++ rest) 3 ≡ t .count) (eqb (t .count) 0) _ _ refl
     (either (λ (l : List ℕ). byte-at (l ++ rest) 3 ≡ t .count) (eqb (t .count) 1) _ _ refl refl)
 
+touches-bytes : (t : Touch) (rest : List ℕ) → take 4 (drop 9 (touch-bytes t ++ rest)) ≡ number-bytes (t .touches)
+unfolding touch-bytes head-bytes
+touches-bytes t rest =
+    either Good (eqb (t .count) 0) _ _ refl (either Good (eqb (t .count) 1) _ _ refl refl)
+  where
+    Good : List ℕ → Type 0
+    Good l = take 4 (drop 9 (l ++ rest)) ≡ number-bytes (t .touches)
+
 left-by-test : (said : Said) (out : List ℕ) (t : Touch) → said .answer ≡ Tested t
     → left-in said out ≡ touch-bytes t ++ drop (length (touch-bytes t)) out
 left-by-test said out t is = rw is refl
 
 ran : (input out : List ℕ) → longest-answer ≤ length out → in-order input ≡ true
     → Ran (export-number input out) (export-output input out)
-unfolding OneToSix
+unfolding OneOrNone OneToSix
 ran input out room ordered = by-outcome (outcome input ordered)
   where
-    by-outcome : Ends OneToSix input → Ran (export-number input out) (export-output input out)
-    by-outcome (answered t is printed) =
+    by-outcome : Ends OneOrNone OneToSix input → Ran (export-number input out) (export-output input out)
+    by-outcome (answered t is one-or-none printed) =
         let said = said-last input in
         let number : export-number input out ≡ length (touch-bytes t) =
         number-is input out room ordered ∙ returned-tested said t is
@@ -181,10 +201,14 @@ ran input out room ordered = by-outcome (outcome input ordered)
         answers-fit (record { answer = Tested t }) .0 in
         let left : export-output input out ≡ touch-bytes t ++ drop (length (touch-bytes t)) out =
         output-is input out room ordered ∙ left-by-test said out t is in
+        let points : byte-at (export-output input out) 3 ≡ t .count =
+        ap (λ (l : List ℕ). byte-at l 3) left ∙ points-byte t (drop (length (touch-bytes t)) out) in
         record {
           is-listed = rw number (test-listed t);
-          is-sized = λ written. number ∙ result-bytes t ∙ ap test-size (sym (ap (λ (l : List ℕ). byte-at l 3) left
-              ∙ points-byte t (drop (length (touch-bytes t)) out)));
+          is-sized = λ written. number ∙ result-bytes t ∙ ap test-size (sym points);
+          is-counted = λ written. ap (λ (l : List ℕ). take 4 (drop 9 l)) left
+              ∙ touches-bytes t (drop (length (touch-bytes t)) out)
+              ∙ ap number-bytes (one-or-none ∙ ap (λ (n : ℕ). cond (eqb n 0) 0 1) (sym points));
           below = omega (arith, number, few);
         }
     by-outcome (turned-down n is nonzero good first) =
@@ -193,6 +217,7 @@ ran input out room ordered = by-outcome (outcome input ordered)
         record {
           is-listed = rw number (refusal-listed n (good .0) (good .1));
           is-sized = λ written. absurd (omega (arith, number));
+          is-counted = λ written. absurd (omega (arith, number));
           below = omega (arith, number, good .1);
         }
 
@@ -206,6 +231,7 @@ export-returns input out = by-room (less-or-not (length out) longest-answer) (in
         record {
           listed = rw (← number) (at-place export-numbers 9 (omega arith));
           sized = λ written. absurd (omega (arith, number));
+          counted = λ written. absurd (omega (arith, number));
           nine = (λ same. short, λ less. sym number);
           ten = (λ same. absurd (omega arith), λ both. absurd (omega (arith, both .0)));
         }
@@ -215,6 +241,7 @@ export-returns input out = by-room (less-or-not (length out) longest-answer) (in
         record {
           listed = rw (← number) (at-place export-numbers 10 (omega arith));
           sized = λ written. absurd (omega (arith, number));
+          counted = λ written. absurd (omega (arith, number));
           nine = (λ same. absurd (omega arith), λ less. absurd (omega arith));
           ten = (λ same. (room, is), λ both. sym number);
         }
@@ -223,6 +250,7 @@ export-returns input out = by-room (less-or-not (length out) longest-answer) (in
         record {
           listed = done .is-listed;
           sized = done .is-sized;
+          counted = done .is-counted;
           nine = (λ same. absurd (omega (arith, done .below)), λ less. absurd (omega arith));
           ten = (λ same. absurd (omega (arith, done .below)), λ both. absurd (false≢true (sym (both .1) ∙ is)));
         }
