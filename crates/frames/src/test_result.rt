@@ -16,9 +16,13 @@ const LARGEST_COUNT: u32 = 4294967295;
 pub fn touches_after(touches: u32, before: usize, now: usize) -> u32
     ensures { λ r. ⌜ r ≡ results.touches-after touches before now ⌝ }
 {
-    let goes_on = before > 0;
-    let apart = now == 0;
-    if goes_on | apart | (touches == LARGEST_COUNT) {
+    if before > 0 {
+        return touches;
+    }
+    if now == 0 {
+        return touches;
+    }
+    if touches == LARGEST_COUNT {
         return touches;
     }
     touches + 1

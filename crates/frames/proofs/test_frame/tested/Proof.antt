@@ -1,4 +1,5 @@
 -- Contact, world points, states and touches, one after the other. Assumes nothing.
+use Rattle.contact_definitions.specs.PointStates.{ids-of}
 use Rattle.record_definitions.specs.Touch.{tested, tested-as, states-of}
 use borrow.Author.Needs.{needs}
 use Rattle.frames.proofs.test_frame.tested.Statement.{statement}
@@ -26,7 +27,7 @@ touch-of-requires : tie.Need-touch-of-requires
 touch-of-requires c κs = search needs
 
 returns : tie.Need-returns
-unfolding tested tested-as states-of
+unfolding tested tested-as states-of ids-of
 returns c =
     let first-refusal = c .before .first-refusal in
     let touches-after = c .before .before .before .touches-after in
