@@ -20,6 +20,7 @@ struct Body {
     float radius() const { return kind == CIRCLE ? circle.m_radius : b2_polygonRadius; }
 };
 
+// An ordered pair's contact at its last accepted test, without points where there was none, and its touches so far.
 struct Pair {
     b2Manifold last;
     uint32_t touches = 0;
@@ -138,7 +139,7 @@ struct Program {
         return accepted();
     }
 
-    // 05 a b
+    // 05 a b. A touch begins where a pair that had no point gets one.
     size_t test(const uint8_t *frame) {
         uint32_t ida = frame[1], idb = frame[2];
         Body &a = bodies[ida], &b = bodies[idb];
@@ -164,7 +165,7 @@ struct Program {
         Pair &pair = pairs[ida][idb];
         b2PointState states[4];
         b2GetPointStates(states, states + 2, &pair.last, &m);
-        for (int i = 2; i < 4; i++) pair.touches += states[i] == b2_addState && pair.touches < UINT32_MAX;
+        if (pair.last.pointCount == 0 && m.pointCount > 0 && pair.touches < UINT32_MAX) pair.touches++;
         pair.last = m;
 
         Line to{answer};

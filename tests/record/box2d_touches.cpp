@@ -1,5 +1,6 @@
-// A second `touches` over Box2D 2.4.1, written from document 01's "The touch record" and document 02's frame 06:
-// box2d_touches on a whole input, and box2d_export. A kind of frame is a row of KINDS and a member of Program.
+// A second `touches` over Box2D 2.4.1, written from document 01's "The touch record" and document 02's frame 06 and its
+// count of touches: box2d_touches on a whole input, and box2d_export. A kind of frame is a row of KINDS and a member of
+// Program.
 #include "box2d_frames.hpp"
 
 namespace {

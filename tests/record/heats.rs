@@ -191,31 +191,6 @@ pub fn heat(random: &mut Random, length: usize) -> Vec<u8> {
     text
 }
 
-/// Heats of the papers and of what was found by running, each once.
-pub const FIXED: &[(&str, &[u8])] = &[
-    ("the papers' whole case", b"010000000000000000003f800000\n01013fc00000000000003f800000\n050001\n"),
-    (
-        "a centroid beyond the range: built, and each test of it refused",
-        b"020004490a1fa5492cfc44c89c4a18c8c3bc7749282b0749529ceac81ff02fc8484e51\n010100000000000000003f800000\n\
-          050001\n0202040000000000000000\n02020300000000000000003f80000000000000000000003f800000\n050002\n050200\n\
-          03030000000000000000003f80000000000000\n050300\n050301\n050302\n",
-    ),
-    ("a walk that does not come back", b"0200034908a19dc921e97d46a3364ec6c1693fc90066554918284c\n"),
-    (
-        "a wall whose squared length is 0",
-        b"03000000000000000000001a0000001a000000\n01011a400000998000003f800000\n050001\n01011a400000998000003f800000\n\
-          050001\n",
-    ),
-    (
-        "a wall with an infinite reciprocal: a touch at any distance",
-        b"03000000000000000000001c80000000000000\n01011c000000447a000000000000\n050001\n050001\n",
-    ),
-    ("nothing", b""),
-    ("one line feed", b"\n"),
-    ("a character", b"0"),
-    ("a frame with CR", b"050001\r\n050001\n"),
-];
-
 /// The four frames of the export: two outlines that meet, overlap or are apart, or that are refused.
 pub fn export_frames(random: &mut Random) -> [Vec<u8>; 4] {
     let scale = random.of(&[0.0, 0.0, 1.0, 1.0, 4.0, 100.0, 131072.0]);

@@ -1,6 +1,7 @@
 //! The touch record: our program and our export beside second programs over the unmodified Rust and over Box2D 2.4.1,
 //! bytes against bytes. Built with `--cfg papers` where the Rust is at hand and `--cfg box2d` where Box2D is.
 //! usage: record heats PROGRAM HEATS LENGTH SEED   compares PROGRAM on HEATS heats of about LENGTH lines, fed in pieces
+//!                                                 and holds the touches to the rulebook
 //!        record export CASES SEED                 compares the export
 //!        record limits CASES SEED                 searches for what docs/LIMITS.md says does not happen
 //!        record store FOLDER HEATS LENGTH SEED    writes heats and their answers for tests/stored, which both share
@@ -11,6 +12,7 @@
 mod census;
 mod damage;
 mod export;
+mod fixed;
 #[allow(dead_code)]
 #[path = "../shared/generators.rs"]
 mod generators;
@@ -22,20 +24,22 @@ mod pieces;
 #[path = "../shared/ranges.rs"]
 mod ranges;
 mod robots;
+mod rulebook;
 #[cfg(papers)]
 mod rust_touches;
 mod second;
 #[allow(dead_code)]
 #[path = "../shared/support.rs"]
 mod support;
-use heats::{heat, FIXED};
+use fixed::FIXED;
+use heats::heat;
 use std::io::{Read, Write};
 use support::{Random, Tally};
 
 /// Our program on heats, each in a process of its own: the fixed ones, then random ones, a tenth of them ten times as
 /// long and a few of them 300 times.
 fn compare_heats(program: &str, heats: u64, length: usize, seed: u64) -> bool {
-    let mut tally = Tally::new("heats");
+    let (mut tally, mut touches) = (Tally::new("heats"), Tally::new("touches by the rulebook"));
     for i in 0..FIXED.len() as u64 + heats {
         let mut random = Random::new(seed.wrapping_mul(1 << 32).wrapping_add(i));
         let fixed = FIXED.get(i as usize);
@@ -44,17 +48,18 @@ fn compare_heats(program: &str, heats: u64, length: usize, seed: u64) -> bool {
         let input = fixed.map_or_else(|| heat(&mut random, lines), |(_, text)| text.to_vec());
         let (wanted, agree) = second::touches(&input);
         let (ours, ended, pieces) = pieces::run(program, &input, &mut random);
+        let name = || fixed.map_or_else(|| format!("'record heat {lines}' from seed {seed}, heat {i}"), |f| f.0.into());
         tally.case(agree && ended && ours == wanted, || {
-            let name =
-                fixed.map_or_else(|| format!("'record heat {lines}' from seed {seed}, heat {i}"), |f| f.0.into());
             let first = census::difference(&input, &wanted, &ours);
             let references = if agree { "" } else { "the references do not agree; " };
-            format!("{name}: {references}{}{first}", if ended { "" } else { "the program ended badly; " })
+            format!("{}: {references}{}{first}", name(), if ended { "" } else { "the program ended badly; " })
         });
         census::pieces(pieces, input.len(), &mut tally);
         census::add(&input, &wanted, &mut tally);
+        rulebook::follow(&input, &wanted, name, fixed.is_none(), &mut touches);
     }
-    tally.report(&census::wanted())
+    let ruled = touches.report(&rulebook::WANTED.map(String::from));
+    tally.report(&census::wanted()) && ruled
 }
 
 /// The fixed heats and random ones, the last of them a hundred times as long, each with its answers.

@@ -1,7 +1,7 @@
 //! A second `touches` over the unmodified Rust, written from document 01's "The touch record", from document 02's frame
-//! 06 and from nothing of ours: what the program prints for an input, and the export. The Rust's panics are refusals 3,
-//! 4, 5 and 8; 1, 2, 6, 9 and 10 to 14 are tested here. A kind of frame is a row of KINDS and a function in the file of
-//! its like.
+//! 06 and its count of touches, and from nothing of ours: what the program prints for an input, and the export. The
+//! Rust's panics are refusals 3, 4, 5 and 8; 1, 2, 6, 9 and 10 to 14 are tested here. A kind of frame is a row of KINDS
+//! and a function in the file of its like.
 mod placing;
 mod shapes;
 mod testing;
@@ -45,10 +45,10 @@ struct Body {
     place: B2Transform,
 }
 
-/// An ordered pair's last contact and its touches so far.
+/// An ordered pair's contact at its last accepted test, if there was one, and its touches so far.
 #[derive(Clone, Copy, Default)]
 struct Pair {
-    last: B2manifold,
+    last: Option<B2manifold>,
     touches: u32,
 }
 

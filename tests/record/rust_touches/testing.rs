@@ -63,7 +63,8 @@ fn given(m: &B2manifold) -> Result<(), u8> {
     }
 }
 
-/// 05 a b: 12, 13, then the contact's refusals; a touch is counted for each point in state add.
+/// 05 a b: 12, 13, then the contact's refusals. A touch begins at a test that finds points where the pair's last test
+/// found none, or where there was no last test; a refused test is none.
 pub fn test(program: &mut Program, frame: &[u8]) -> Answer {
     let (ida, idb) = (frame[1] as usize, frame[2] as usize);
     let (a, b) = (program.bodies[ida].ok_or(12)?, program.bodies[idb].ok_or(12)?);
@@ -76,9 +77,9 @@ pub fn test(program: &mut Program, frame: &[u8]) -> Answer {
     world.initialize(&m, a.place, a.shape.radius(), b.place, b.shape.radius());
     let (mut old, mut new) = ([B2pointState::B2NullState; 2], [B2pointState::B2NullState; 2]);
     let pair = &mut program.pairs[ida][idb];
-    b2_get_point_states(&mut old, &mut new, &pair.last, &m);
-    let added = new.iter().filter(|state| **state == B2pointState::B2AddState).count();
-    *pair = Pair { last: m, touches: pair.touches.saturating_add(added as u32) };
+    b2_get_point_states(&mut old, &mut new, &pair.last.unwrap_or_default(), &m);
+    let begins = m.point_count > 0 && pair.last.map_or(true, |last| last.point_count == 0);
+    *pair = Pair { last: Some(m), touches: pair.touches.saturating_add(begins as u32) };
 
     let kind = if m.point_count == 0 { 0 } else { m.manifold_type as u8 };
     let mut line = vec![5, ida as u8, idb as u8, m.point_count as u8, kind];
