@@ -63,7 +63,7 @@ unmoved-1 = "04010000000000000000000000003f800000"
 pub record ExportCases : Type 0 where
   -- 45 bytes for two points, 33 for one, 13 for none; the byte past the longest answer stays
   pub two-points : Exports (triangle-0 ∷ unmoved-0 ∷ triangle-1 ∷ unmoved-1 ∷ []) 46 45
-      "050001020100000101000000023f3504f33f3504f3000000003f800000bca3d6fb3e7ffffe3e7ffffebf3a23aa"
+      "050001020100000101000000013f3504f33f3504f3000000003f800000bca3d6fb3e7ffffe3e7ffffebf3a23aa"
   pub one-point : Exports (triangle-0 ∷ unmoved-0 ∷ triangle-1 ∷ "04013f00000000000000000000003f800000" ∷ []) 45 33
       "050001010100000100000000013f3504f33f3504f33f2000003dffffffbebf4262"
   pub no-point : Exports (triangle-0 ∷ unmoved-0 ∷ triangle-1 ∷ "04014110000000000000000000003f800000" ∷ []) 46 13

@@ -33,7 +33,7 @@ pub record ExportLawCases : Type 0 where
       ("04000000000000000000000000003f800000", "00") ∷
       ("02010300000000000000003f80000000000000000000003f800000", "00") ∷
       ("04010000000000000000000000003f800000", "00") ∷
-      ("050001", "050001020100000101000000023f3504f33f3504f3000000003f800000bca3d6fb3e7ffffe3e7ffffebf3a23aa") ∷
+      ("050001", "050001020100000101000000013f3504f33f3504f3000000003f800000bca3d6fb3e7ffffe3e7ffffebf3a23aa") ∷
       [])
   -- the first placement is out of range, and the second outline has two points: 6 is the first refusal
   pub placement-first : FirstRefused 6 (program-output (bytes-of (
