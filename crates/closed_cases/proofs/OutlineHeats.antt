@@ -50,7 +50,7 @@ use Rattle.record_definitions.specs.Touches.{lines-from, printed-lines, touches
 use Rattle.record_definitions.proofs.Heats.{Runs}
 
 pub record OutlineHeats : Type 0 where
-  -- two boxes: two points and two touches; slid along, one point is gone, one rests and one is new
+  -- two boxes: two points at once are one touch; slid along, one point is gone, one rests and one is new, and none begins
   pub outlines-slide : Runs (
       ("020004bf800000bf8000003f800000bf8000003f8000003f800000bf8000003f800000", "00") ∷
       ("04000000000000000000000000003f800000", "00") ∷
@@ -79,7 +79,8 @@ pub record OutlineHeats : Type 0 where
       ("04010000000000000000000000003f800000", "00") ∷
       ("050001", "05000100000000000000000000") ∷
       [])
-  -- a triangle beside a box, by a turn number in each quarter: an eighth of a turn, and three times a quarter more
+  -- a triangle beside a box, by a turn number in each quarter: an eighth of a turn, and three times a quarter more; it
+  -- rolls from corner to corner in one touch
   pub outline-turned : Runs (
       ("020004bf800000bf8000003f800000bf8000003f8000003f800000bf8000003f800000", "00") ∷
       ("04000000000000000000000000003f800000", "00") ∷

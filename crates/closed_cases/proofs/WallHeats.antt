@@ -29,6 +29,7 @@ use Rattle.contact_definitions.specs.Searches.{some-below, least, first-greates
 use Rattle.contact_definitions.specs.Manifold.{swapped-id, counted-points, with-local-point, with-count, with-kind}
 use Rattle.contact_definitions.specs.Manifold.{with-one-point}
 use Rattle.contact_definitions.specs.PointStates.{same-id, id-among, ids-of, ids-in, point-state, states-of-ids}
+use Rattle.contact_definitions.specs.WorldManifold.{circles-normal, world-of-circles}
 use Rattle.contact_definitions.specs.WorldManifold.{on-face, on-other, plane-separation, plane-middle, carried-points}
 use Rattle.contact_definitions.specs.WorldManifold.{world-of-face, points-in-range, manifold-in-range}
 use Rattle.contact_definitions.specs.WorldManifold.{b2-world-manifold-initialize}
@@ -157,7 +158,8 @@ unfolding neg add sub mul div le lt eq ofBits toBits root-digits whole-root roun
     outline-edge point-in-frame wall-manifold wall-edge point-as-it-is placed-face face-manifold clip-distance
     crossing clipped-by clipped clip-in-range b2-clip-segment-to-line clipped-to-sides only points-from with-points
     manifold-of-ends some-below least first-greatest first-least swapped-id with-kind on-face on-other
-    plane-separation plane-middle carried-points world-of-face contact-number-in-range
+    plane-separation plane-middle carried-points world-of-face contact-number-in-range circles-normal
+    world-of-circles
 wall-heats = record {
   wall-and-circle = refl;
   one-sided-wall = refl;
