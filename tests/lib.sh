@@ -23,6 +23,9 @@ if [ -z "$TMPDIR" ] && in_memory; then export TMPDIR=/dev/shm; fi
 papers=${PAPERS:-$PWD/../shared/docs/src}
 box2d=/usr/include/box2d/box2d.h
 
+# The pages whose heats are run.
+pages="README.md docs/LIMITS.md"
+
 build=target/tests
 oracle=$PWD/target/oracle
 warnings="-Wall -Wextra -Werror -O2"
@@ -111,13 +114,16 @@ add_up() {
     fi
 }
 
-# pinned NAME: a file or folder of tests/stored has the content that its COUNTS names by a digest: of the file; of a
-# folder, of the digests and names of its files
+# digest NAME: of a file of tests/stored; of a folder there, of the digests and names of its files
+digest() {
+    (cd tests/stored && if [ -d "$1" ]; then sha256sum "$1"/* | sha256sum; else sha256sum < "$1"; fi) | cut -d ' ' -f 1
+}
+
+# pinned NAME: a file or folder of tests/stored has the content that its COUNTS names by a digest
 pinned() {
     local wanted here
-    wanted=$(awk -v name="$1" '$1 == name { print $3 }' tests/stored/COUNTS)
-    here=$(cd tests/stored && if [ -d "$1" ]; then sha256sum "$1"/* | sha256sum; else sha256sum < "$1"; fi)
-    [ -n "$wanted" ] && [ "${here%% *}" = "$wanted" ] || { echo "$1: ${here%% *}, not ${wanted:-pinned}"; return 1; }
+    wanted=$(awk -v name="$1" '$1 == name { print $3 }' tests/stored/COUNTS) here=$(digest "$1")
+    [ -n "$wanted" ] && [ "$here" = "$wanted" ] || { echo "$1: $here, not ${wanted:-pinned}"; return 1; }
 }
 
 # summary: the last two lines of a suite, its seconds and its count, and its status
