@@ -114,6 +114,13 @@ impl Heat<'_> {
         self.place(b);
     }
 
+    fn put(&mut self, id: usize, at: [f32; 2]) {
+        if let Some(body) = &mut self.bodies[id] {
+            body.at = at;
+        }
+        self.place(id);
+    }
+
     /// Two bodies, mostly in an order that is tested.
     fn pair(&mut self) -> Option<(usize, usize)> {
         for _ in 0..40 {
@@ -146,25 +153,39 @@ impl Heat<'_> {
                 2 => self.meet(a, b),
                 3 => {
                     let far = point(self.random, if self.scale == 0.0 { 4.0 } else { self.scale });
-                    if let Some(body) = &mut self.bodies[b] {
-                        body.at = far;
-                    }
-                    self.place(b);
+                    self.put(b, far);
                 }
                 4 => self.nudge(a),
                 _ => self.nudge(b),
             }
         }
     }
+
+    /// A pair meets and parts again and again, so that its touches add up, now and then to more than a byte holds.
+    fn bounces(&mut self) {
+        let Some((a, b)) = self.pair() else { return self.new_shape() };
+        self.meet(a, b);
+        let Some(near) = self.bodies[b].as_ref().map(|body| body.at) else { return };
+        let size = if self.scale == 0.0 { 4.0 } else { self.scale };
+        let far = [(near[0] + 8.0 * size).clamp(-SIZE, SIZE), near[1]];
+        let often = if self.random.once_in(20) { 300 } else { self.random.of(&[2, 2, 2, 30]) };
+        for _ in 0..often {
+            for at in [near, far] {
+                self.put(b, at);
+                self.frame(&[5, a as u8, b as u8]);
+            }
+        }
+    }
 }
 
 /// What a heat does next: how often, whether a calm heat does it too, and what.
-const ACTIONS: [(usize, bool, fn(&mut Heat)); 5] = [
+const ACTIONS: [(usize, bool, fn(&mut Heat)); 6] = [
     (2, true, |heat| heat.new_shape()),
     (2, false, |heat| heat.refused()),
     (2, false, |heat| heat.damaged()),
     (1, false, |heat| heat.tiny_wall()),
     (17, true, |heat| heat.scene()),
+    (1, true, |heat| heat.bounces()),
 ];
 
 /// A heat of about this many lines.

@@ -93,8 +93,8 @@ fn met(pair: &Pair, answer: &[u8], tally: &mut Tally) {
     if pair.points() > 0 && points > 0 && pair.refused_since {
         tally.met("on after a refused test");
     }
-    if count(answer) > 20 {
-        tally.met("more than 20 touches");
+    if count(answer) > 255 {
+        tally.met("more than 255 touches");
     }
 }
 
@@ -108,5 +108,5 @@ pub const WANTED: [&str; 9] = [
     "a point added",
     "rolled to another point",
     "on after a refused test",
-    "more than 20 touches",
+    "more than 255 touches",
 ];

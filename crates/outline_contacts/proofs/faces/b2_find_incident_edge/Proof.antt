@@ -64,7 +64,8 @@ loop-again c =
     let i = loop .i in
     let inv = loop .inv in
     let best : Best = record { place = loop .index; value = loop .min-dot } in
-    let value-is = dot-is (args .n) (args .t2) (loop .i) _ (omega (arith, inv .3)) in
+    let within : i < length (args .t2) = omega (arith, inv .3) in
+    let value-is = dot-is (args .n) (args .t2) i in
     ⊎-elim
     (λ w. rw (w .1, w .2) (
       omega arith,
@@ -73,8 +74,8 @@ loop-again c =
       inv .3,
       inv .4,
       replaced-by is-less (valued f) best _ i (args .count) (inv .5) _ (omega arith)
-          (ap (λ (x : Float). lt x (loop .min-dot)) (sym value-is) ∙ w .0 .taken)
-          (ap (λ (x : Float). record { place = i; value = x }) value-is),
+          (ap (λ (x : Float). lt x (loop .min-dot)) (sym (value-is _ within)) ∙ w .0 .taken)
+          (ap (λ (x : Float). record { place = i; value = x }) (value-is _ within)),
     ))
     (λ w. rw (w .1, w .2) (
       omega arith,
@@ -83,7 +84,7 @@ loop-again c =
       inv .3,
       inv .4,
       kept-over is-less (valued f) best _ i (args .count) (inv .5) (omega arith)
-          (ap (λ (x : Float). lt x (loop .min-dot)) (sym value-is) ∙ w .0 .left),
+          (ap (λ (x : Float). lt x (loop .min-dot)) (sym (value-is _ within)) ∙ w .0 .left),
     ))
     (c .if1 .came)
 
