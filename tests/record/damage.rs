@@ -6,18 +6,26 @@ use crate::robots::{body_of, floats, hex, point, shape_frame, Body, Kind};
 impl Heat<'_> {
     /// A wall so short that its squared length is 0 or has no finite reciprocal, and a circle over its middle.
     pub fn tiny_wall(&mut self) {
-        let power = self.random.of(&[76, 76, 75, 70, 64]);
+        let refused = self.random.once_in(3);
+        let power = if refused { 76 } else { self.random.of(&[76, 76, 75, 70, 64]) };
         let step = f32::from_bits((127 - power) << 23);
         let mut tiny = |most: u64| (self.random.below(2 * most + 1) as f32 - most as f32) * step;
-        let (v1, side, from) = ([tiny(1), tiny(1)], [tiny(2), tiny(2)], [tiny(3), tiny(3)]);
+        let (mut v1, mut side, mut from) = ([tiny(1), tiny(1)], [tiny(2), tiny(2)], [tiny(3), tiny(3)]);
+        let (mut far, mut radius) = (self.random.of(&[0.0, 0.0, 1000.0]), self.random.of(&[0.0, 1.0]));
+        if refused {
+            // refusal 8: the products of 2 and 2 round to 0, and those of 2 and 3 do not
+            let [x, y] = [0, 1].map(|_| self.random.of(&[step, -step]));
+            (v1, side, from) = ([0.0, 0.0], [2.0 * x, 2.0 * y], [3.0 * x, -y]);
+            (far, radius) = (0.0, 1.0);
+        }
         self.frame(&floats(&[3, 0, 0], &[v1[0], v1[1], v1[0] + side[0], v1[1] + side[1]]));
-        let (far, radius) = (self.random.of(&[0.0, 0.0, 1000.0]), self.random.of(&[0.0, 1.0]));
         self.frame(&floats(&[1, 1], &[v1[0] + from[0], v1[1] + from[1] + far, radius]));
         self.frame(&[5, 0, 1]);
-        // a contact before and after a test that may be refused
+        // a contact before and after a test that may be refused: half a metre off, the circle is at one of the wall's ends
         for _ in 0..self.random.below(6) {
             let mut tiny = |most: u64| (self.random.below(2 * most + 1) as f32 - most as f32) * step;
-            let at = [tiny(4), tiny(4)];
+            let beside = [tiny(4), tiny(4)];
+            let at = self.random.of(&[beside, [0.0, 0.0], [0.0, 0.5]]);
             self.frame(&floats(&[4, 1], &[at[0], at[1], 0.0, 1.0]));
             self.frame(&[5, 0, 1]);
         }
