@@ -21,7 +21,7 @@ impl Heat<'_> {
         self.frame(&floats(&[3, 0, 0], &[v1[0], v1[1], v1[0] + side[0], v1[1] + side[1]]));
         self.frame(&floats(&[1, 1], &[v1[0] + from[0], v1[1] + from[1] + far, radius]));
         self.frame(&[5, 0, 1]);
-        // a contact before and after a test that may be refused: half a metre off, the circle is at one of the wall's ends
+        // a contact before and after a test that may be refused: half a metre off the circle is at one of the wall's ends
         for _ in 0..self.random.below(6) {
             let mut tiny = |most: u64| (self.random.below(2 * most + 1) as f32 - most as f32) * step;
             let beside = [tiny(4), tiny(4)];

@@ -50,7 +50,8 @@ use Rattle.record_definitions.specs.Touches.{lines-from, printed-lines, touches
 use Rattle.record_definitions.proofs.Heats.{Runs}
 
 pub record OutlineHeats : Type 0 where
-  -- two boxes: two points at once are one touch; slid along, one point is gone, one rests and one is new, and none begins
+  -- two boxes: two points at once are one touch; slid along, one point is gone, one rests and one is new, and no touch
+  -- begins
   pub outlines-slide : Runs (
       ("020004bf800000bf8000003f800000bf8000003f8000003f800000bf8000003f800000", "00") ∷
       ("04000000000000000000000000003f800000", "00") ∷

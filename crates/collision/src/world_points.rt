@@ -16,18 +16,24 @@ use floats::b2_math::b2_mul_rot_by_vec2;
 use floats::b2_math::b2_mul_transform_by_vec2;
 use floats::b2_math::b2_neg;
 use floats::b2_math::b2_scale;
+use floats::b2_math::b2_sqrt;
 use floats::b2_math::b2_sub;
-use floats::unit;
 
 const EPSILON_SQUARED: f32 = B2_EPSILON * B2_EPSILON;
 
-// From centre a to centre b, or (1, 0) where they are hardly apart.
+// From centre a to centre b, or (1, 0) where they are hardly apart. Else the distance is never below B2_EPSILON, so that
+// normalising needs no test of its own.
 fn circles_normal(a: B2vec2, b: B2vec2) -> B2vec2
     ensures { λ r. ⌜ r ≡ circles-normal a b ⌝ }
 {
     let d = b2_sub(b, a);
-    if b2_dot(d, d) > EPSILON_SQUARED {
-        return unit::unit(d);
+    let squared = b2_dot(d, d);
+    if squared > EPSILON_SQUARED {
+        let inv_length = 1.0 / b2_sqrt(squared);
+        return B2vec2 {
+            x: d.x * inv_length,
+            y: d.y * inv_length,
+        };
     }
     B2vec2 { x: 1.0, y: 0.0 }
 }

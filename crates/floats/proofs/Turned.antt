@@ -1,5 +1,6 @@
--- The normal of an edge that is long enough: turning keeps the squared length, bit for bit, and the root of a squared
--- length above 2^-46 is not below 2^-23, so that normalising acts. Assumes nothing.
+-- Vectors that are long enough: the root of a squared length above 2^-46 is not below 2^-23, so that normalising acts
+-- (`long-is`); of the turned edge too, since turning keeps the squared length, bit for bit (`normal-is`).
+-- Assumes nothing.
 use mathlib.Core.Path.{_≡_, refl, sym, ap, ap₂, _∙_, subst}
 use mathlib.Core.Bool.{Bool, true, false, not, cond}
 use Prim.Native.Nat.{ℕ, _-_, _*_, _^_, _≤_}
@@ -69,28 +70,34 @@ long-root (inf false) in-format long = refl
 long-root (fin s m e) in-format long =
     is-false _ (root-long (fin s m e) (record { in-format = in-format; is-finite = tt }) (subst T (sym long) tt))
 
--- ---- the normal: the turned edge, times the reciprocal of the root
-module _ (e : B2vec2) (squared : Float) (x-fits : T (fits binary32 (e .x))) (y-fits : T (fits binary32 (e .y)))
-    (squared-is : squared ≡ b2-length-squared e) (long : lt epsilon-squared squared ≡ true) where
-  length-is : b2-length (b2-cross-vec-by-scalar e one32) ≡ b2-sqrt squared
+-- ---- so a vector of such a squared length is made unit by the reciprocal of the root
+module _ (v : B2vec2) (squared : Float) (squared-is : squared ≡ b2-length-squared v)
+    (long : lt epsilon-squared squared ≡ true) where
+  length-is : b2-length v ≡ b2-sqrt squared
   unfolding b2-length
-  length-is = ap b2-sqrt (turned-squared e x-fits y-fits ∙ sym squared-is)
+  length-is = ap b2-sqrt (sym squared-is)
 
   squared-fits : T (fits binary32 squared)
   unfolding b2-length-squared
   squared-fits = subst (λ (l : Float). T (fits binary32 l)) (sym squared-is) (add-fits binary32 _ _)
 
-  acts : lt (b2-length (b2-cross-vec-by-scalar e one32)) b2-epsilon ≡ false
+  acts : lt (b2-length v) b2-epsilon ≡ false
   unfolding b2-sqrt
   acts = ap (λ (l : Float). lt l b2-epsilon) length-is ∙ long-root squared squared-fits long
 
-  pub normal-is : (turned : B2vec2) (root : Float) → turned ≡ b2-cross-vec-by-scalar e one32 → root ≡ b2-sqrt squared
-      → times-reciprocal turned root ≡ b2-normalize (b2-cross-vec-by-scalar e one32) .v
+  pub long-is : (root : Float) → root ≡ b2-sqrt squared → times-reciprocal v root ≡ b2-normalize v .v
   unfolding b2-normalize
-  normal-is turned root turned-is root-is =
-      ap₂ times-reciprocal turned-is (root-is ∙ sym length-is)
-      ∙ sym (ap (λ (t : Bool). cond {A = Normalized} t (record { length = zero32; v = b2-cross-vec-by-scalar e one32 })
-      (record {
-        length = b2-length (b2-cross-vec-by-scalar e one32);
-        v = times-reciprocal (b2-cross-vec-by-scalar e one32) (b2-length (b2-cross-vec-by-scalar e one32));
-      }) .v) acts)
+  long-is root root-is =
+      ap (times-reciprocal v) (root-is ∙ sym length-is)
+      ∙ sym (ap (λ (t : Bool). cond {A = Normalized} t (record { length = zero32; v = v })
+      (record { length = b2-length v; v = times-reciprocal v (b2-length v) }) .v) acts)
+
+-- ---- and so is the turned edge
+pub normal-is : (e : B2vec2) (squared : Float) → T (fits binary32 (e .x)) → T (fits binary32 (e .y))
+    → squared ≡ b2-length-squared e → lt epsilon-squared squared ≡ true
+    → (turned : B2vec2) (root : Float) → turned ≡ b2-cross-vec-by-scalar e one32 → root ≡ b2-sqrt squared
+    → times-reciprocal turned root ≡ b2-normalize (b2-cross-vec-by-scalar e one32) .v
+normal-is e squared x-fits y-fits squared-is long turned root turned-is root-is =
+    ap (λ (v : B2vec2). times-reciprocal v root) turned-is
+    ∙ long-is (b2-cross-vec-by-scalar e one32) squared (squared-is ∙ sym (turned-squared e x-fits y-fits)) long root
+    root-is

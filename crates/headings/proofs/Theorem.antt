@@ -17,7 +17,6 @@ use Rattle.rounding.specs.Literals.{zero32, one32}
 use Rattle.rounding.proofs.Value.{metre-is, abs-mag, neg-f32, mag-neg, mag-same}
 use Rattle.rounding.proofs.Comparison.{eq-val}
 use Rattle.rounding.proofs.Literals.{zero-f32, bits-units, bits-f32, bits-mag, bits-val}
-use Rattle.floats.specs.declared.b2_math.B2Rot.{B2Rot}
 use Rattle.floats.specs.B2Math.{rot}
 use Rattle.floats.specs.Ranges.{within, rotation-in-range}
 use Rattle.floats.proofs.RangeValue.{one-limit-is, value-limit}

@@ -1,13 +1,16 @@
--- The bytes of an answer: 1, 2, 13, 33 or 45. Assumes nothing.
+-- The bytes of an answer: 1, 2, 13, 33 or 45; and where a test's answer has its number of points and its touches.
+-- Assumes nothing.
 use Prim.Native.Nat.{ℕ, _≤_}
 use mathlib.Core.Path.{_≡_, refl}
 use mathlib.Core.Bool.{Bool, true, false, cond}
-use mathlib.Core.List.{List, [], _∷_}
+use mathlib.Core.List.{List, [], _∷_, _++_}
 use native.Mathlib.Omega.{arith}
 use lib.Dec.{eqb}
-use lib.ListN.{length, length-append}
+use lib.ListN.{length, take, drop, length-append}
+use Rattle.lines.specs.Fields.{byte-at, number-bytes}
 use Rattle.lines.specs.Hex.{hex, line-feed}
 use Rattle.lines.proofs.Writing.{length-hex}
+use Rattle.contact_definitions.proofs.Counts.{either}
 use Rattle.record_definitions.specs.declared.touch.Touch.{Touch}
 use Rattle.record_definitions.specs.declared.frame.Answer.{Answer}
 use Rattle.record_definitions.specs.declared.frame.Answer.the-variants.{Accepted, Refused, Tested}
@@ -47,3 +50,19 @@ line-within said =
       length-append (hex (said-bytes said)) (line-feed ∷ []),
       length-hex (said-bytes said),
     )
+
+-- ---- a test's answer, whatever stands behind it
+module _ (t : Touch) (rest : List ℕ) where
+  pub points-byte : byte-at (touch-bytes t ++ rest) 3 ≡ t .count
+  unfolding touch-bytes head-bytes
+  points-byte = either Good (eqb (t .count) 0) _ _ refl (either Good (eqb (t .count) 1) _ _ refl refl)
+    where
+      Good : List ℕ → Type 0
+      Good l = byte-at (l ++ rest) 3 ≡ t .count
+
+  pub touches-bytes : take 4 (drop 9 (touch-bytes t ++ rest)) ≡ number-bytes (t .touches)
+  unfolding touch-bytes head-bytes
+  touches-bytes = either Good (eqb (t .count) 0) _ _ refl (either Good (eqb (t .count) 1) _ _ refl refl)
+    where
+      Good : List ℕ → Type 0
+      Good l = take 4 (drop 9 (l ++ rest)) ≡ number-bytes (t .touches)

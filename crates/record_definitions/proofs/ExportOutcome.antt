@@ -1,6 +1,6 @@
 -- The export's five frames from a fresh start end with a test that answers, or with the first refusal: for any law that
--- accepted frames keep of a world (`Kept`), what a test's result then has (`Result`), and any numbers that frames may be
--- refused with (`Number`). Assumes nothing.
+-- accepted frames keep of a world (`Kept`), what a test's result then has (`Result`), and any numbers that frames may
+-- be refused with (`Number`). Assumes nothing.
 use Prim.Native.Nat.{ℕ, _≤_}
 use mathlib.Core.Path.{_≡_, sym, _∙_, ap, subst}
 use mathlib.Core.Bool.{true}
@@ -90,7 +90,8 @@ module _ (Result : Touch → Type 0) (Number : ℕ → Type 0) (Kept : World →
         (outline-step w (kept-sound w kept) 1 (omega arith) f2 given-2) of-outline
         (λ next. from-3 (after-frame w f2) next (still w kept f2 2 given-2 first))
 
-    from-1 : (w : World) → Kept w → body-at w 0 .kind ≡ outline-kind → Outcome Result Number w f1 (f2 ∷ f3 ∷ test-frame ∷ [])
+    from-1 : (w : World) → Kept w → body-at w 0 .kind ≡ outline-kind
+        → Outcome Result Number w f1 (f2 ∷ f3 ∷ test-frame ∷ [])
     from-1 w kept first =
         from-frame (λ (n : ℕ). n ≡ placement-out-of-range) w kept 0 (omega arith) f1 f2 (f3 ∷ test-frame ∷ [])
         (place-step w (kept-sound w kept) 0 (omega arith) f1 first given-1)

@@ -33,7 +33,8 @@ abbrev pub said-last : List ℕ → Said
 said-last input = last-said fresh-world (between input 0 (first-placement input)) (later-frames input)
 
 abbrev pub Ends : (Touch → Type 0) → (ℕ → Type 0) → List ℕ → Type 0
-Ends Result Number input = Outcome Result Number fresh-world (between input 0 (first-placement input)) (later-frames input)
+Ends Result Number input =
+    Outcome Result Number fresh-world (between input 0 (first-placement input)) (later-frames input)
 
 -- a test that answers returns its length and leaves its bytes; a refusal its number
 pub returned-tested : (said : Said) (t : Touch) → said .answer ≡ Tested t → returned said ≡ length (said-bytes said)

@@ -100,7 +100,8 @@ unfolding neg add sub mul div le lt eq ofBits toBits root-digits whole-root roun
 heat-cases =
     let law = heat-law 0 1 (omega arith) (omega arith) (lines 5) in
     let next = law .next-test (text "050001") (printed 5) refl refl refl in
-    let later = heat-law 0 1 (omega arith) (omega arith) (lines 10) .next-test (text "050001") (printed 10) refl refl refl in
+    let law-later = heat-law 0 1 (omega arith) (omega arith) (lines 10) in
+    let later = law-later .next-test (text "050001") (printed 10) refl refl refl in
     record {
       counts = refl;
       other-order = refl;

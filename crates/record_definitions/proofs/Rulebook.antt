@@ -1,6 +1,6 @@
--- The counting rule is the rulebook's (`counted-by-rulebook`): a touch begins exactly where a pair that had no point gets
--- one. A test with as many points as the one before counts nothing; the count is held; and from the touches begun, as
--- far as 32 bits hold them, the rule gives the next such number. Assumes nothing.
+-- The counting rule is the rulebook's (`counted-by-rulebook`): a touch begins exactly where a pair that had no point
+-- gets one. A test with as many points as the one before counts nothing; the count is held; and from the touches begun,
+-- as far as 32 bits hold them, the rule gives the next such number. Assumes nothing.
 use Prim.Native.Nat.{ℕ, zero, suc, _+_, _≤_, _<_, min}
 use mathlib.Core.Path.{_≡_, refl}
 use mathlib.Core.Bool.{Bool, true, false, cond, and-false}

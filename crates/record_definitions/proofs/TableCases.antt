@@ -16,7 +16,8 @@ use Rattle.contact_definitions.specs.WorldManifold.{default-world-manifold}
 use Rattle.contact_definitions.proofs.StateCases.{counting}
 use Rattle.record_definitions.specs.declared.touch.Touch.{Touch}
 use Rattle.record_definitions.specs.World.{no-body, circle-kind, outline-kind, wall-kind, pair-place}
-use Rattle.record_definitions.specs.Touch.{states-of, largest-count, touches-after, shown-kind, touch-of, tested-as}
+use Rattle.record_definitions.specs.Touch.{states-of, largest-count, touches-after, shown-kind, touch-of}
+use Rattle.record_definitions.specs.Touch.{tested-as}
 use Rattle.record_definitions.specs.Frame.{frame-length, listed}
 use Rattle.record_definitions.specs.Answer.{longest-answer, longest-line}
 use Rattle.record_definitions.specs.Reading.{kept-length}
@@ -65,8 +66,8 @@ pub record TableCases : Type 0 where
   pub sizes : longest-answer ∷ longest-line ∷ kept-length ∷ [] ≡ 45 ∷ 91 ∷ 135 ∷ []
 
 pub table-cases : TableCases
-unfolding frame-length listed with-kind with-count same-id id-among ids-of ids-in point-state states-of-ids touches-after
-    states-of touch-of tested-as
+unfolding frame-length listed with-kind with-count same-id id-among ids-of ids-in point-state states-of-ids
+    touches-after states-of touch-of tested-as
 table-cases = record {
   lengths = refl;
   outline-lengths = refl;

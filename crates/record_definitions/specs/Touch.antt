@@ -61,8 +61,8 @@ refusal-of met world = cond (eqb (met .refusal) accepted) (world .refusal) (met 
 unfoldable pub states-of : Pair → B2manifold → PointStates
 states-of pair m = states-of-ids (ids-in (pair .ids)) (ids-in (ids-of m))
 
--- ---- touches: one begins at a test that finds points where the pair's last test found none, or where there was no last
--- test. That needs no flag: a pair without one is fresh, and a fresh pair's contact has no points
+-- ---- touches: one begins at a test that finds points where the pair's last test found none, or where there was no
+-- last test. That needs no flag: a pair without one is fresh, and a fresh pair's contact has no points
 abbrev pub touch-begins : ℕ → ℕ → Bool
 touch-begins before now = eqb before 0 && ltb 0 now
 

@@ -1,5 +1,5 @@
--- The numbers that the export returns (`export-returns`): 13, 33 or 45, or 256 and one of 1 to 6; 256 and 9 just where
--- the output is too short, 256 and 10 just where it is not and the input is not in order; and the touches that it writes.
+-- What the export returns (`export-returns`): 13, 33 or 45, or 256 and one of 1 to 6; 256 and 9 just where the output is
+-- too short, 256 and 10 just where it is not and the input is not in order; and the touches that it writes.
 -- Assumes nothing.
 use Prim.Native.Nat.{ℕ, zero, suc, _+_, _≤_, _<_}
 use mathlib.Core.Path.{_≡_, refl, sym, _∙_, ap}
@@ -33,9 +33,10 @@ use Rattle.record_definitions.specs.declared.frame.Answer.the-variants.{Tested}
 use Rattle.record_definitions.specs.World.{outline-kind, body-at, pair-at}
 use Rattle.record_definitions.specs.Touch.{meet-outline, meet, skin, world-points, tested-as, tested}
 use Rattle.record_definitions.specs.Frame.{listed}
-use Rattle.record_definitions.specs.Answer.{head-bytes, touch-bytes, answer-bytes, longest-answer}
+use Rattle.record_definitions.specs.Answer.{touch-bytes, answer-bytes, longest-answer}
 use Rattle.record_definitions.specs.Export.{test-frame, in-order, refusal-base, left-in, export-number, export-output}
 use Rattle.record_definitions.specs.ExportLaws.{test-size, export-numbers, ExportReturns}
+use Rattle.record_definitions.proofs.AnswerLengths.{points-byte, touches-bytes}
 use Rattle.record_definitions.proofs.Exported.{too-short, out-of-order, was-refused}
 use Rattle.record_definitions.proofs.SoundTests.{NotOfHost, test-fine}
 use Rattle.record_definitions.proofs.Theorem.{result-bytes, answers-fit}
@@ -167,20 +168,6 @@ record Ran (n : ℕ) (output : List ℕ) : Type 0 where
   is-sized : n < refusal-base → n ≡ test-size (byte-at output 3)
   is-counted : n < refusal-base → take 4 (drop 9 output) ≡ number-bytes (cond (eqb (byte-at output 3) 0) 0 1)
   below : n ≤ refusal-base + 6
-
-points-byte : (t : Touch) (rest : List ℕ) → byte-at (touch-bytes t ++ rest) 3 ≡ t .count
-unfolding touch-bytes head-bytes
-points-byte t rest =
-    either (λ (l : List ℕ). byte-at (l ++ rest) 3 ≡ t .count) (eqb (t .count) 0) _ _ refl
-    (either (λ (l : List ℕ). byte-at (l ++ rest) 3 ≡ t .count) (eqb (t .count) 1) _ _ refl refl)
-
-touches-bytes : (t : Touch) (rest : List ℕ) → take 4 (drop 9 (touch-bytes t ++ rest)) ≡ number-bytes (t .touches)
-unfolding touch-bytes head-bytes
-touches-bytes t rest =
-    either Good (eqb (t .count) 0) _ _ refl (either Good (eqb (t .count) 1) _ _ refl refl)
-  where
-    Good : List ℕ → Type 0
-    Good l = take 4 (drop 9 (l ++ rest)) ≡ number-bytes (t .touches)
 
 left-by-test : (said : Said) (out : List ℕ) (t : Touch) → said .answer ≡ Tested t
     → left-in said out ≡ touch-bytes t ++ drop (length (touch-bytes t)) out

@@ -1,6 +1,5 @@
 -- By the kind. Assumes nothing.
-use mathlib.Core.Path.{refl, sym, _∙_}
-use Rattle.record_definitions.specs.Frame.{frame-length}
+use mathlib.Core.Path.{sym, _∙_}
 use Rattle.frames.proofs.FrameLengths.{circle-length, outline-length-is, wall-length-is}
 use Rattle.frames.proofs.FrameLengths.{place-length, test-length, turn-length, no-length}
 use borrow.Author.Needs.{needs}

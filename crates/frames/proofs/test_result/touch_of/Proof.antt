@@ -1,7 +1,7 @@
 -- Both places of the world points. Assumes nothing.
 use mathlib.Core.Path.{_≡_, sym, _∙_}
 use native.Mathlib.Omega.{arith}
-use lib.Ieee.{Float, nan}
+use lib.Ieee.{nan}
 use lib.ListN.{length, length-map}
 use Rattle.algebra.proofs.Lists.{getD-within}
 use Rattle.floats.specs.declared.b2_math.B2vec2.{B2vec2}

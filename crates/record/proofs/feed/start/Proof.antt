@@ -2,7 +2,6 @@
 use mathlib.Core.Path.{ap}
 use mathlib.Core.List.{[]}
 use Rattle.record_definitions.specs.declared.world.World.{World}
-use Rattle.record_definitions.specs.Reading.{Reading}
 use borrow.Author.Needs.{needs}
 use Rattle.record.proofs.feed.start.Statement.{statement}
 use Rattle.record.proofs.feed.start.Tie as tie

@@ -5,7 +5,6 @@ use mathlib.Core.Path.{sym, _∙_}
 use native.Mathlib.Omega.{arith}
 use lib.ListN.{length, take, length-map}
 use Rattle.record_definitions.specs.Answer.{said-line, longest-line}
-use Rattle.record_definitions.specs.Reading.{Reading}
 use Rattle.record_definitions.proofs.Feeding.{SoFar, nothing-yet, fed-at-end, length-lent, put-fits}
 use Rattle.record.proofs.Turns.{row-held}
 use Rattle.record.proofs.feed.feed.Tie as tie
