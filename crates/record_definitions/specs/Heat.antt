@@ -1,6 +1,7 @@
--- Document 01, "The touch record", over a whole heat: what an ordered pair of ids remembers, counts and prints hangs on
--- the contacts of its accepted tests since the last accepted new shape under either id, and on nothing else. So "a
--- resting contact recorded as a fresh push" is ruled out over a heat, not a step. Definitions only.
+-- Document 01, "The touch record", and document 02, request 02, over a whole heat: what an ordered pair of ids
+-- remembers, counts and prints hangs on the contacts of its accepted tests since the last accepted new shape under
+-- either id, and on nothing else. So "a resting contact recorded as a fresh push" is ruled out over a heat, not a step.
+-- Definitions only.
 use Prim.Native.Nat.{ℕ, suc, _<_, min}
 use mathlib.Core.Path.{_≡_}
 use mathlib.Core.Bool.{Bool, true, cond, _&&_, _||_}

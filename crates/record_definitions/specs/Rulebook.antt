@@ -13,5 +13,5 @@ pub record Rulebook (before now touches counted : ℕ) : Type 0 where
   pub goes-on : 0 < before → counted ≡ touches
   -- nor does a test that finds none
   pub apart : now ≡ 0 → counted ≡ touches
-  -- so the count rises exactly there
+  -- so the count rises nowhere else
   pub only-there : touches < counted → (before ≡ 0) × (0 < now)
