@@ -94,11 +94,13 @@ fn input(random: &mut Random) -> (Vec<u8>, &'static str) {
         }
         _ => {}
     }
-    // too few points or too many, with the length that fits
-    if random.once_in(12) {
-        let (count, frame) = (random.of(&[0, 1, 2, 9, 10]), &mut frames[2 * (which / 2)]);
-        frame.resize(3 + 8 * count, 0);
-        frame[2] = count as u8;
+    // too few points or too many, with the length that fits: of either, so that a refusal comes before a malformed frame
+    for outline in [0, 2] {
+        if random.once_in(8) {
+            let count = random.of(&[0, 1, 2, 9, 10]);
+            frames[outline].resize(3 + 8 * count, 0);
+            frames[outline][2] = count as u8;
+        }
     }
     let mut bytes = frames.concat();
     match damage {
