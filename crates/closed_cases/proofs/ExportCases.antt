@@ -37,7 +37,7 @@ use Rattle.contact_definitions.specs.WorldManifold.{on-face, on-other, plane-se
 use Rattle.contact_definitions.specs.WorldManifold.{world-of-face, points-in-range, manifold-in-range}
 use Rattle.contact_definitions.specs.WorldManifold.{b2-world-manifold-initialize}
 use Rattle.record_definitions.specs.World.{blank-body, circle-body, outline-body, placed, fresh-pair, fresh-world}
-use Rattle.record_definitions.specs.World.{forget-below}
+use Rattle.record_definitions.specs.World.{piece-of, forget-below}
 use Rattle.record_definitions.specs.Touch.{meet-circle, meet-outline, meet, skin, world-points, touches-after}
 use Rattle.record_definitions.specs.Touch.{states-of, touch-of, tested-as, tested}
 use Rattle.record_definitions.specs.Frame.{frame-length, well-formed, frame-refusal, circle-change, outline-change}
@@ -112,6 +112,7 @@ unfolding neg add sub mul div le lt eq ofBits toBits root-digits whole-root roun
     clipped-to-sides only points-from with-points manifold-of-ends some-below least first-greatest first-least
     swapped-id with-kind on-face on-other plane-separation plane-middle carried-points world-of-face
     contact-number-in-range export-number export-output export-said in-order last-said
+    piece-of piece-tested pieces-tested first-refusal
 export-cases = record {
   two-points = record { returns = refl; leaves = refl };
   one-point = record { returns = refl; leaves = refl };

@@ -38,7 +38,7 @@ use Rattle.contact_definitions.specs.WorldManifold.{on-face, on-other, plane-se
 use Rattle.contact_definitions.specs.WorldManifold.{world-of-face, points-in-range, manifold-in-range}
 use Rattle.contact_definitions.specs.WorldManifold.{b2-world-manifold-initialize}
 use Rattle.record_definitions.specs.World.{blank-body, circle-body, outline-body, placed, fresh-pair, fresh-world}
-use Rattle.record_definitions.specs.World.{forget-below}
+use Rattle.record_definitions.specs.World.{piece-of, forget-below}
 use Rattle.record_definitions.specs.Touch.{meet-circle, meet-outline, meet, skin, world-points, touches-after}
 use Rattle.record_definitions.specs.Touch.{states-of, touch-of, tested-as, tested}
 use Rattle.record_definitions.specs.Frame.{frame-length, well-formed, frame-refusal, circle-change, outline-change}

@@ -41,7 +41,7 @@ use Rattle.contact_definitions.specs.EdgeReference.{face-between, within-radius
 use Rattle.contact_definitions.specs.EdgeReference.{outline-edge, point-in-frame, wall-manifold, wall-edge}
 use Rattle.contact_definitions.specs.EdgeReference.{point-as-it-is, placed-face, face-manifold}
 use Rattle.record_definitions.specs.World.{blank-body, circle-body, outline-body, wall-body, placed, fresh-pair}
-use Rattle.record_definitions.specs.World.{fresh-world, forget-below}
+use Rattle.record_definitions.specs.World.{fresh-world, piece-of, forget-below}
 use Rattle.record_definitions.specs.Touch.{meet-circle, meet-outline, meet, skin, world-points, touches-after}
 use Rattle.record_definitions.specs.Touch.{states-of, touch-of, tested-as, tested}
 use Rattle.record_definitions.specs.Frame.{frame-length, well-formed, frame-refusal, circle-change, outline-change}

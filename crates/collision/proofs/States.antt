@@ -2,7 +2,7 @@
 use mathlib.Core.Path.{_≡_, refl, sym, _∙_, ap, ap₂}
 use mathlib.Core.Bool.{Bool, true, false, cond, _||_, or-false}
 use mathlib.Core.List.{List, [], _∷_, map}
-use Prim.Native.Nat.{ℕ, zero, suc}
+use Prim.Native.Nat.{ℕ, zero, suc, _≤_}
 use native.Mathlib.Omega.{arith}
 use lib.Dec.{eqb}
 use lib.ListN.{length, getD, take}
@@ -14,7 +14,7 @@ use Rattle.contact_definitions.specs.declared.b2_collision.B2manifoldPoint.{B2m
 use Rattle.contact_definitions.specs.declared.b2_collision.B2pointState.{B2pointState}
 use Rattle.contact_definitions.specs.declared.b2_collision.B2pointState.the-variants.{B2NullState, B2PersistState}
 use Rattle.contact_definitions.specs.declared.b2_collision.CountedIds.{CountedIds}
-use Rattle.contact_definitions.specs.Manifold.{default-point, manifold-point, counted-points}
+use Rattle.contact_definitions.specs.Manifold.{as-byte, default-point, manifold-point, counted-points}
 use Rattle.algebra.proofs.Lists.{getD-within}
 use Rattle.algebra.proofs.Two.{both-places}
 use Rattle.contact_definitions.specs.PointStates.{same-id, id-among, counted-ids, ids-of, ids-in, point-state}
@@ -109,15 +109,17 @@ by-count (suc (suc n)) p0 p1 =
 
 -- where the manifold has two places
 module _ (m : B2manifold) (two : length (m .points) ≡ 2) where
-  pub ids-of-two : ids-in (ids-of m) ≡ counted-ids m
+  pub ids-of-two : m .«point_count» ≤ 2 → ids-in (ids-of m) ≡ counted-ids m
   unfolding ids-of counted-ids counted-points
-  ids-of-two =
-      by-count (m .«point_count») (manifold-point m 0) (manifold-point m 1)
+  ids-of-two few =
+      ap (λ (n : ℕ). ids-in (record { count = n; first = manifold-point m 0 .id; second = manifold-point m 1 .id }))
+      (let same : as-byte (m .«point_count») ≡ m .«point_count» = omega (arith, few) in same)
+      ∙ by-count (m .«point_count») (manifold-point m 0) (manifold-point m 1)
       ∙ ap (λ (l : List B2manifoldPoint). map id-of (take (m .«point_count») l))
       (both-places (m .points) default-point two)
 
   pub ids-read : (p0 p1 d : B2manifoldPoint) → p0 ≡ getD (m .points) 0 d → p1 ≡ getD (m .points) 1 d
-      → record { count = m .«point_count»; first = p0 .id; second = p1 .id } ≡ ids-of m
+      → record { count = as-byte (m .«point_count»); first = p0 .id; second = p1 .id } ≡ ids-of m
   unfolding ids-of
   ids-read p0 p1 d p0-is p1-is =
       simp (

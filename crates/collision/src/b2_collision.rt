@@ -96,7 +96,7 @@ pub fn counted_ids(m: B2manifold) -> CountedIds
     let first = p0.id;
     let second = p1.id;
     CountedIds {
-        count: m.point_count,
+        count: (m.point_count % 256) as u8,
         first,
         second,
     }

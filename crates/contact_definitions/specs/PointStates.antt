@@ -17,7 +17,7 @@ use Rattle.contact_definitions.specs.declared.b2_collision.B2pointState.
 use Rattle.contact_definitions.specs.declared.b2_collision.B2pointState.the-variants.{B2RemoveState}
 use Rattle.contact_definitions.specs.declared.b2_collision.PointStates.{PointStates}
 use Rattle.contact_definitions.specs.declared.b2_collision.PointStatesAnswer.{PointStatesAnswer}
-use Rattle.contact_definitions.specs.Manifold.{default-id, manifold-point, counted-points}
+use Rattle.contact_definitions.specs.Manifold.{as-byte, default-id, manifold-point, counted-points}
 
 -- document 01's number of a state
 abbrev pub state-number : B2pointState → ℕ
@@ -40,10 +40,10 @@ id-among id (other ∷ others) = same-id other id || id-among id others
 unfoldable pub counted-ids : B2manifold → List B2contactId
 counted-ids m = map (λ (p : B2manifoldPoint). p .id) (counted-points m)
 
--- where the points are not kept: both ids and the count, and those that they stand for
+-- where the points are not kept: both ids and the count in a byte, and those that they stand for
 unfoldable pub ids-of : B2manifold → CountedIds
 ids-of m = record {
-  count = m .«point_count»;
+  count = as-byte (m .«point_count»);
   first = manifold-point m 0 .id;
   second = manifold-point m 1 .id;
 }

@@ -67,9 +67,9 @@ pub struct PointStates {
 }
 
 // The ids of the points that a manifold counts, where the points themselves are not kept; those past the count are
-// none.
+// none. The count is a byte: the touch record keeps many of these.
 pub struct CountedIds {
-    pub count: usize,
+    pub count: u8,
     pub first: B2contactId,
     pub second: B2contactId,
 }

@@ -16,11 +16,12 @@ use Rattle.shape_definitions.specs.Refusal.{accepted, shape-out-of-range, place
 use Rattle.record_definitions.specs.declared.world.Body.{Body}
 use Rattle.record_definitions.specs.declared.world.Pair.{Pair}
 use Rattle.record_definitions.specs.declared.frame.Change.{Change}
-use Rattle.record_definitions.specs.World.{no-body, blank-outline, circle-body, outline-body, wall-body, placed}
+use Rattle.record_definitions.specs.World.{no-body, blank-outline, circle-body, outline-body, wall-body}
+use Rattle.record_definitions.specs.World.{chain-body, placed}
 use Rattle.record_definitions.specs.Frame.{frame-length, frame-refusal, refused, defined, moved, circle-at}
 use Rattle.record_definitions.specs.Frame.{circle-change, outline-change, wall-at, wall-change, placed-at}
 use Rattle.record_definitions.specs.Frame.{place-change, largest-turn, turn-at, turned-placement, turn-change}
-use Rattle.record_definitions.specs.Frame.{change-of-kind, change}
+use Rattle.record_definitions.specs.Frame.{chain-at, chain-refusal, chain-change, change-of-kind, change}
 use Rattle.record_definitions.proofs.FrameRefusals.{last-kind, known-kind}
 
 -- ---- one body alone
@@ -80,6 +81,10 @@ module _ (pair : Pair) where
     unfolding wall-change
     wall-alone = built-alone (wall-at bytes .refusal) (wall-body (wall-at bytes .shape))
 
+    chain-alone : chain-change a pair bytes ≡ with-pair pair (chain-change a pair′ bytes)
+    unfolding chain-change
+    chain-alone = built-alone (chain-refusal bytes) (chain-body (chain-at bytes))
+
     kind-alone : (kind third : ℕ) → (frame-length kind third ≡ 0 → ⊥) → (kind ≡ 5 → ⊥)
         → change-of-kind kind a b pair bytes ≡ with-pair pair (change-of-kind kind a b′ pair′ bytes)
     unfolding change-of-kind
@@ -89,7 +94,8 @@ module _ (pair : Pair) where
         (λ no-2. by-kind (eqb kind 3) _ _ _ _ (λ three. wall-alone)
         (λ no-3. by-kind (eqb kind 4) _ _ _ _ (λ four. place-alone)
         (λ no-4. by-kind (eqb kind 6) _ _ _ _ (λ six. turn-alone)
-        (λ no-6. absurd (no-test (last-kind kind third known no-1 no-2 no-3 no-4 no-6)))))))
+        (λ no-6. by-kind (eqb kind 7) _ _ _ _ (λ seven. chain-alone)
+        (λ no-7. absurd (no-test (last-kind kind third known no-1 no-2 no-3 no-4 no-6 no-7))))))))
 
     pub change-alone : (byte-at bytes 0 ≡ 5 → ⊥) → change a b pair bytes ≡ with-pair pair (change a b′ pair′ bytes)
     unfolding change

@@ -1,14 +1,14 @@
--- The bytes of an answer: 1, 2, 13, 33 or 45; and where a test's answer has its number of points and its touches.
--- Assumes nothing.
-use Prim.Native.Nat.{ℕ, _≤_}
+-- The bytes of an answer: 1, 2, 13, 33 or 45; the characters of its lines; and where a test's answer has its number of
+-- points and its touches. Assumes nothing.
+use Prim.Native.Nat.{ℕ, _*_, _≤_}
 use mathlib.Core.Path.{_≡_, refl}
 use mathlib.Core.Bool.{Bool, true, false, cond}
 use mathlib.Core.List.{List, [], _∷_, _++_}
 use native.Mathlib.Omega.{arith}
 use lib.Dec.{eqb}
-use lib.ListN.{length, take, drop, length-append}
+use lib.ListN.{length, take, drop, length-append, length-take}
 use Rattle.lines.specs.Fields.{byte-at, number-bytes}
-use Rattle.lines.specs.Hex.{hex, line-feed}
+use Rattle.lines.specs.Hex.{hex, line-feed, line-of}
 use Rattle.lines.proofs.Writing.{length-hex}
 use Rattle.contact_definitions.proofs.Counts.{either}
 use Rattle.record_definitions.specs.declared.touch.Touch.{Touch}
@@ -16,7 +16,8 @@ use Rattle.record_definitions.specs.declared.frame.Answer.{Answer}
 use Rattle.record_definitions.specs.declared.frame.Answer.the-variants.{Accepted, Refused, Tested}
 use Rattle.record_definitions.specs.declared.frame.Said.{Said}
 use Rattle.record_definitions.specs.Answer.{head-bytes, point-bytes, touch-bytes, answer-bytes, longest-answer}
-use Rattle.record_definitions.specs.Answer.{said-bytes, said-line, longest-line}
+use Rattle.record_definitions.specs.Answer.{said-bytes, said-line, longest-line, longest-said, touch-lines}
+use Rattle.record_definitions.specs.Answer.{most-further}
 
 length-of : (none one : Bool) (x y z : List ℕ) (k l m : ℕ) → length x ≡ k → length y ≡ l → length z ≡ m
     → length (cond none x (cond one y z)) ≡ cond none k (cond one l m)
@@ -42,13 +43,30 @@ answer-within (Tested t) =
 pub said-within : (said : Said) → length (said-bytes said) ≤ longest-answer
 said-within said = answer-within (said .answer)
 
-pub line-within : (said : Said) → length (said-line said) ≤ longest-line
-line-within said =
+one-within : (bytes : List ℕ) → length bytes ≤ longest-answer → length (line-of bytes) ≤ longest-line
+one-within bytes few = omega (arith, length-append (hex bytes) (line-feed ∷ []), length-hex bytes)
+
+lines-within : (touches : List Touch) → length (touch-lines touches) ≤ length touches * longest-line
+unfolding touch-lines
+lines-within [] = omega arith
+lines-within (t ∷ touches) =
     omega (
       arith,
-      said-within said,
-      length-append (hex (said-bytes said)) (line-feed ∷ []),
-      length-hex (said-bytes said),
+      length-append (line-of (touch-bytes t)) (touch-lines touches),
+      one-within (touch-bytes t) (answer-within (Tested t)),
+      lines-within touches,
+    )
+
+-- a line for each result, of which there are at most seven
+pub line-within : (said : Said) → length (said .more) ≤ most-further → length (said-line said) ≤ longest-said
+line-within said few =
+    let more = take (said .further) (said .more) in
+    omega (
+      arith,
+      length-append (line-of (said-bytes said)) (touch-lines more),
+      one-within (said-bytes said) (said-within said),
+      lines-within more,
+      length-take (said .further) (said .more),
     )
 
 -- ---- a test's answer, whatever stands behind it

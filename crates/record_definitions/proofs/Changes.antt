@@ -1,5 +1,5 @@
 -- What an accepted frame does, by its kind: a new shape forgets its pairs, a placement leaves the pair, and a test that
--- answers leaves the body and keeps the pair that `tested` says. Assumes nothing.
+-- answers leaves the body, says a result for each piece and keeps for each what its own test leaves. Assumes nothing.
 use Prim.Native.Nat.{ℕ, _≤_}
 use mathlib.Core.Path.{_≡_, refl, sym, _∙_, ap}
 use mathlib.Core.Bool.{Bool, true, false, cond, _&&_, false≢true}
@@ -20,9 +20,11 @@ use Rattle.record_definitions.specs.declared.touch.Touch.{Touch}
 use Rattle.record_definitions.specs.declared.frame.Answer.the-variants.{Accepted, Tested}
 use Rattle.record_definitions.specs.declared.frame.Change.{Change}
 use Rattle.record_definitions.specs.World.{blank-outline}
-use Rattle.record_definitions.specs.Touch.{tested}
+use Rattle.record_definitions.specs.Touch.{piece-tested, first-refusal}
+use Rattle.record_definitions.specs.Answer.{said-of-touches}
 use Rattle.record_definitions.specs.Frame.{largest-id, frame-refusal, refused, defined, circle-at, circle-change}
-use Rattle.record_definitions.specs.Frame.{outline-change, wall-at, wall-change, test-refusal, test-change}
+use Rattle.record_definitions.specs.Frame.{outline-change, wall-at, wall-change, chain-refusal, chain-change}
+use Rattle.record_definitions.specs.Frame.{further-tests, all-tests, results-of, keep, test-refusal, test-change}
 use Rattle.record_definitions.specs.Frame.{change-of-kind, change}
 use Rattle.record_definitions.specs.Export.{answer-refusal, refusal-in}
 use Rattle.record_definitions.proofs.FrameRefusals.{last-kind, known-kind, first-known, second-known}
@@ -30,7 +32,7 @@ use Rattle.record_definitions.proofs.Placements.{place-cases, turn-case
 
 -- the kinds of frames that define a shape
 abbrev pub NewShape : ℕ → Type 0
-NewShape kind = (kind ≡ 1) ⊎ ((kind ≡ 2) ⊎ (kind ≡ 3))
+NewShape kind = (kind ≡ 1) ⊎ ((kind ≡ 2) ⊎ ((kind ≡ 3) ⊎ (kind ≡ 7)))
 
 -- the kinds of frames that place a body
 abbrev pub Placing : ℕ → Type 0
@@ -61,9 +63,11 @@ accepted-untested c taken t is = let never : _≡_ {A = ℕ} 0 1 = cc in omega a
 -- what a test that answers t leaves
 pub record WasTested (ida idb : ℕ) (a b : Body) (pair : Pair) (t : Touch) (c : Change) : Type 0 where
   pub second-id : idb ≤ largest-id
-  pub not-refused : tested ida idb a b pair .refusal ≡ accepted
-  pub touch-is : t ≡ tested ida idb a b pair .touch
-  pub pair-is : c .pair ≡ tested ida idb a b pair .pair
+  pub not-refused : first-refusal (all-tests ida idb a b pair) ≡ accepted
+  pub touch-is : t ≡ piece-tested ida idb a b pair 0 .touch
+  pub said-is : c .said
+      ≡ said-of-touches (piece-tested ida idb a b pair 0 .touch) (results-of (further-tests ida idb a b pair))
+  pub pair-is : c .pair ≡ keep (all-tests ida idb a b pair) pair
   pub same-body : c .body ≡ a
   pub keeps : c .forget ≡ false
 
@@ -94,12 +98,13 @@ module _ (a b : Body) (pair : Pair) (bytes : List ℕ) where
 
   kind-forgets : (kind : ℕ) → NewShape kind → change-of-kind kind a b pair bytes .said .answer ≡ Accepted
       → change-of-kind kind a b pair bytes .forget ≡ true
-  unfolding change-of-kind circle-change outline-change wall-change
+  unfolding change-of-kind circle-change outline-change wall-change chain-change
   kind-forgets kind (inl one) = rw one (built-forgets (circle-in-range (circle-at bytes)) _ _)
   kind-forgets kind (inr (inl two)) =
       let built = b2-polygon-shape-set blank-outline (points-at bytes 3 (byte-at bytes 2)) in
       rw two (built-forgets (eqb (built .refusal) accepted) _ _)
-  kind-forgets kind (inr (inr three)) = rw three (built-forgets (eqb (wall-at bytes .refusal) accepted) _ _)
+  kind-forgets kind (inr (inr (inl three))) = rw three (built-forgets (eqb (wall-at bytes .refusal) accepted) _ _)
+  kind-forgets kind (inr (inr (inr seven))) = rw seven (built-forgets (eqb (chain-refusal bytes) accepted) _ _)
 
   pub shape-forgets : NewShape (byte-at bytes 0) → change a b pair bytes .said .answer ≡ Accepted
       → change a b pair bytes .forget ≡ true
@@ -130,7 +135,7 @@ module _ (a b : Body) (pair : Pair) (bytes : List ℕ) where
 
   pub kind-untested : frame-refusal bytes ≡ accepted → (byte-at bytes 0 ≡ 5 → ⊥)
       → Untested (change-of-kind (byte-at bytes 0) a b pair bytes)
-  unfolding change-of-kind circle-change outline-change wall-change
+  unfolding change-of-kind circle-change outline-change wall-change chain-change
   kind-untested taken no-test =
       let kind = byte-at bytes 0 in
       let built = b2-polygon-shape-set blank-outline (points-at bytes 3 (byte-at bytes 2)) in
@@ -141,8 +146,9 @@ module _ (a b : Body) (pair : Pair) (bytes : List ℕ) where
       (λ four. place-cases a pair bytes Untested (refused-untested a pair) (λ xf inside. accepted-untested _ refl))
       (λ no-4. by-choice Untested (eqb kind 6) _ _
       (λ six. turn-cases a pair bytes Untested (refused-untested a pair) (λ xf inside. accepted-untested _ refl))
-      (λ no-6. absurd (no-test
-      (last-kind kind (byte-at bytes 2) (known-kind bytes taken) no-1 no-2 no-3 no-4 no-6)))))))
+      (λ no-6. by-choice Untested (eqb kind 7) _ _ (λ seven. built-untested (eqb (chain-refusal bytes) accepted) _ _)
+      (λ no-7. absurd (no-test
+      (last-kind kind (byte-at bytes 2) (known-kind bytes taken) no-1 no-2 no-3 no-4 no-6 no-7))))))))
 
   -- ---- a test that answers
   Answers : Change → Type 0
@@ -158,18 +164,19 @@ module _ (a b : Body) (pair : Pair) (bytes : List ℕ) where
       let ida = byte-at bytes 1 in
       let idb = byte-at bytes 2 in
       let number = test-refusal ida idb (a .kind) (b .kind) in
-      let answer = tested ida idb a b pair in
+      let refusal = first-refusal (all-tests ida idb a b pair) in
       by-choice Answers (eqb number accepted) _ _
-      (λ listed-pair. by-choice Answers (eqb (answer .refusal) accepted) _ _
+      (λ listed-pair. by-choice Answers (eqb refusal accepted) _ _
       (λ taken t is. record {
         second-id = known;
-        not-refused = eqb-true (answer .refusal) accepted taken;
+        not-refused = eqb-true refusal accepted taken;
         touch-is = cc;
+        said-is = refl;
         pair-is = refl;
         same-body = refl;
         keeps = refl;
       })
-      (λ not-taken. untested-answers _ (refused-untested a pair (answer .refusal))))
+      (λ not-taken. untested-answers _ (refused-untested a pair refusal)))
       (λ not-listed. untested-answers _ (refused-untested a pair number))
 
   kind-answers : frame-refusal bytes ≡ accepted → Answers (change-of-kind (byte-at bytes 0) a b pair bytes)

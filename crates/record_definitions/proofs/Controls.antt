@@ -22,13 +22,14 @@ use Rattle.contact_definitions.specs.PointStates.{same-id, id-among, ids-of, id
 use Rattle.contact_definitions.specs.WorldManifold.{circles-normal, world-of-circles, points-in-range}
 use Rattle.contact_definitions.specs.WorldManifold.{manifold-in-range, b2-world-manifold-initialize}
 use Rattle.record_definitions.specs.World.{blank-body, circle-body, outline-body, placed, fresh-pair, fresh-world}
-use Rattle.record_definitions.specs.World.{forget-below}
+use Rattle.record_definitions.specs.World.{piece-of, forget-below}
 use Rattle.record_definitions.specs.Touch.{meet-circle, meet, skin, world-points, touches-after, states-of}
-use Rattle.record_definitions.specs.Touch.{touch-of, tested-as, tested}
+use Rattle.record_definitions.specs.Touch.{touch-of, tested-as, tested, piece-tested, pieces-tested}
+use Rattle.record_definitions.specs.Touch.{first-refusal}
 use Rattle.record_definitions.specs.Frame.{frame-length, well-formed, frame-refusal, circle-change}
 use Rattle.record_definitions.specs.Frame.{outline-change, place-change, listed, test-refusal, test-change}
 use Rattle.record_definitions.specs.Frame.{change-of-kind, change}
-use Rattle.record_definitions.specs.Answer.{head-bytes, point-bytes, touch-bytes}
+use Rattle.record_definitions.specs.Answer.{head-bytes, point-bytes, touch-bytes, touch-lines}
 use Rattle.record_definitions.specs.Step.{change-in, changed, after-frame, said-of-frame}
 use Rattle.record_definitions.specs.Touches.{lines-from, printed-lines, touches}
 use Rattle.record_definitions.proofs.Heats.{Runs}
@@ -163,7 +164,8 @@ unfolding neg add sub mul div le lt eq ofBits toBits root-digits whole-root roun
     tested-as tested frame-length well-formed frame-refusal circle-change place-change listed test-refusal test-change
     change-of-kind change head-bytes point-bytes touch-bytes change-in changed after-frame said-of-frame lines-from
     printed-lines touches circles-manifold b2-collide-circles circles-normal world-of-circles outline-change
-    outline-body b2-polygon-shape-set outline-of-welded points-at too-near welded
+    outline-body b2-polygon-shape-set outline-of-welded points-at too-near welded piece-of piece-tested pieces-tested
+    first-refusal touch-lines
 line-cases = record {
   document-case = refl;
   malformed-lines = refl;

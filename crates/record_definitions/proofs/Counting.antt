@@ -15,7 +15,7 @@ use Rattle.contact_definitions.proofs.Counts.{Few, OnFace, Accepted, either}
 use Rattle.contact_definitions.proofs.Theorem.{circles-count, polygon-and-circle-count, edge-and-circle-count}
 use Rattle.contact_definitions.proofs.Theorem.{polygons-count-and-kind, edge-and-polygon-count-and-kind}
 use Rattle.record_definitions.specs.declared.world.Body.{Body}
-use Rattle.record_definitions.specs.declared.world.Pair.{Pair}
+use Rattle.record_definitions.specs.declared.world.Kept.{Kept}
 use Rattle.record_definitions.specs.World.{circle-kind, outline-kind}
 use Rattle.record_definitions.specs.Touch.{meet-circle, meet-outline, meet, world-points, refusal-of}
 use Rattle.record_definitions.specs.Touch.{touches-after, states-of, touch-of, tested-as, tested}
@@ -44,43 +44,43 @@ module _ (a b : Body) where
   met-taken true world is none = eqb-true (meet a b .refusal) accepted is
   met-taken false world is none = simp is at none
 
-  module _ (ida idb : ℕ) (pair : Pair) where
-    pub contact-taken : tested ida idb a b pair .refusal ≡ accepted → meet a b .refusal ≡ accepted
+  module _ (ida idb : ℕ) (kept : Kept) where
+    pub contact-taken : tested ida idb a b kept .refusal ≡ accepted → meet a b .refusal ≡ accepted
     unfolding tested tested-as
     contact-taken none =
         met-taken (eqb (meet a b .refusal) accepted) (world-points a b (meet a b .manifold)) refl none
 
     -- ---- what the test prints
-    pub states-printed : tested ida idb a b pair .touch .states ≡ states-of pair (meet a b .manifold)
+    pub states-printed : tested ida idb a b kept .touch .states ≡ states-of kept (meet a b .manifold)
     unfolding tested tested-as touch-of
     states-printed = refl
 
-    pub touches-printed : tested ida idb a b pair .touch .touches
-        ≡ touches-after (pair .touches) (pair .ids .count) (meet a b .manifold .«point_count»)
+    pub touches-printed : tested ida idb a b kept .touch .touches
+        ≡ touches-after (kept .touches) (kept .ids .count) (meet a b .manifold .«point_count»)
     unfolding tested tested-as touch-of
     touches-printed = refl
 
-    pub first-printed : tested ida idb a b pair .touch .a ≡ ida
+    pub first-printed : tested ida idb a b kept .touch .a ≡ ida
     unfolding tested tested-as touch-of
     first-printed = refl
 
-    pub second-printed : tested ida idb a b pair .touch .b ≡ idb
+    pub second-printed : tested ida idb a b kept .touch .b ≡ idb
     unfolding tested tested-as touch-of
     second-printed = refl
 
-    pub count-printed : tested ida idb a b pair .refusal ≡ accepted
-        → (tested ida idb a b pair .touch .count ≡ meet a b .manifold .«point_count»)
+    pub count-printed : tested ida idb a b kept .refusal ≡ accepted
+        → (tested ida idb a b kept .touch .count ≡ meet a b .manifold .«point_count»)
         × (meet a b .manifold .«point_count» ≤ 2)
     unfolding tested tested-as touch-of
     count-printed none =
         let few = met-few (contact-taken none) .at-most-two in
         (omega (arith, few), few)
 
-    -- ---- what the pair keeps
-    pub ids-kept : tested ida idb a b pair .pair .ids ≡ ids-of (meet a b .manifold)
+    -- ---- what is kept
+    pub ids-kept : tested ida idb a b kept .kept .ids ≡ ids-of (meet a b .manifold)
     unfolding tested tested-as
     ids-kept = refl
 
-    pub touches-kept : tested ida idb a b pair .pair .touches ≡ tested ida idb a b pair .touch .touches
+    pub touches-kept : tested ida idb a b kept .kept .touches ≡ tested ida idb a b kept .touch .touches
     unfolding tested tested-as touch-of
     touches-kept = refl

@@ -12,7 +12,7 @@ use Rattle.record_definitions.specs.declared.world.Body.{Body}
 use Rattle.record_definitions.specs.declared.world.World.{World}
 use Rattle.record_definitions.specs.declared.touch.Touch.{Touch}
 use Rattle.record_definitions.specs.declared.frame.Answer.the-variants.{Accepted, Tested}
-use Rattle.record_definitions.specs.World.{outline-kind, fresh-world, body-at, pair-at}
+use Rattle.record_definitions.specs.World.{outline-kind, kept-of, fresh-world, body-at, pair-at}
 use Rattle.record_definitions.specs.Touch.{tested}
 use Rattle.record_definitions.specs.Frame.{largest-id}
 use Rattle.record_definitions.specs.Step.{after-frame, said-of-frame}
@@ -40,17 +40,17 @@ module _ (Result : Touch → Type 0) (Number : ℕ → Type 0) (Kept : World →
     (of-answer : (w : World) → Kept w → (t : Touch) → said-of-frame w test-frame .answer ≡ Tested t → Result t)
     (of-outline : (n : ℕ) → (n ≡ 0 → ⊥) → n ≤ 5 → Number n) (of-placement : Number placement-out-of-range)
     (of-test : (w : World) → Kept w → body-at w 0 .kind ≡ outline-kind → body-at w 1 .kind ≡ outline-kind
-    → (tested 0 1 (body-at w 0) (body-at w 1) (pair-at w 0 1) .refusal ≡ 0 → ⊥)
-    → Number (tested 0 1 (body-at w 0) (body-at w 1) (pair-at w 0 1) .refusal)) where
+    → (tested 0 1 (body-at w 0) (body-at w 1) (kept-of (pair-at w 0 1) 0) .refusal ≡ 0 → ⊥)
+    → Number (tested 0 1 (body-at w 0) (body-at w 1) (kept-of (pair-at w 0 1) 0) .refusal)) where
   -- the test
   from-test : (w : World) → Kept w → body-at w 0 .kind ≡ outline-kind → body-at w 1 .kind ≡ outline-kind
       → Outcome Result Number w test-frame []
   from-test w kept first second = by-answer (test-step w first second)
     where
-      by-answer : TestedOr (tested 0 1 (body-at w 0) (body-at w 1) (pair-at w 0 1) .refusal)
-          (said-of-frame w test-frame .answer)
+      by-answer : TestedOr (tested 0 1 (body-at w 0) (body-at w 1) (kept-of (pair-at w 0 1) 0) .refusal)
+          (said-of-frame w test-frame)
           → Outcome Result Number w test-frame []
-      by-answer (answers t is) = ends Result Number w test-frame t is (of-answer w kept t is)
+      by-answer (answers t is single) = ends Result Number w test-frame t is single (of-answer w kept t is)
       by-answer (refused-so is nonzero) =
           stops Result Number w test-frame [] _ is nonzero (of-test w kept first second nonzero)
 

@@ -2,9 +2,9 @@
 -- refused with 6, and the test of two outlines answers or is refused by the contact or its world points.
 -- Assumes nothing.
 use Prim.Native.Nat.{ℕ, _%_, _≤_}
-use mathlib.Core.Path.{_≡_, refl, sym, _∙_, ap, subst}
-use mathlib.Core.Bool.{true, not, _&&_, _||_}
-use mathlib.Core.List.{List}
+use mathlib.Core.Path.{_≡_, refl, sym, _∙_, ap, ap₂, subst}
+use mathlib.Core.Bool.{true, false, not, cond, _&&_, _||_}
+use mathlib.Core.List.{List, [], append-nil}
 use mathlib.Core.Option.{Option, none, some}
 use native.Mathlib.Omega.{arith}
 use lib.Dec.{eqb, ltb}
@@ -16,6 +16,7 @@ use Rattle.algebra.proofs.Booleans.{by-test}
 use Rattle.floats.specs.declared.b2_math.B2vec2.{B2vec2}
 use Rattle.floats.specs.B2Common.{b2-epsilon}
 use Rattle.floats.specs.Ranges.{point-in-range, transform-in-range}
+use Rattle.lines.specs.Hex.{line-of}
 use Rattle.lines.specs.Fields.{byte-at, points-at, placement-at}
 use Rattle.shape_definitions.specs.declared.b2_polygon_shape.B2polygonShape.{B2polygonShape}
 use Rattle.shape_definitions.specs.declared.b2_polygon_shape.PolygonAnswer.{PolygonAnswer}
@@ -27,22 +28,27 @@ use Rattle.contact_definitions.proofs.Counts.{either}
 use Rattle.record_definitions.specs.declared.world.Body.{Body}
 use Rattle.record_definitions.specs.declared.world.Pair.{Pair}
 use Rattle.record_definitions.specs.declared.world.World.{World}
+use Rattle.record_definitions.specs.declared.touch.TestAnswer.{TestAnswer}
 use Rattle.record_definitions.specs.declared.touch.Touch.{Touch}
 use Rattle.record_definitions.specs.declared.frame.Answer.{Answer}
 use Rattle.record_definitions.specs.declared.frame.Answer.the-variants.{Accepted, Refused, Tested}
 use Rattle.record_definitions.specs.declared.frame.Change.{Change}
+use Rattle.record_definitions.specs.declared.frame.Said.{Said}
 use Rattle.record_definitions.specs.World.{outline-kind, blank-outline, outline-body, placed, blank-body, body-at}
-use Rattle.record_definitions.specs.World.{pair-at}
-use Rattle.record_definitions.specs.Touch.{tested}
+use Rattle.record_definitions.specs.World.{pair-at, chain-kind, kept-of}
+use Rattle.record_definitions.specs.Touch.{tested, piece-tested, first-refusal}
+use Rattle.record_definitions.specs.Answer.{touch-bytes, said-alone, said-bytes, touch-lines}
+use Rattle.record_definitions.specs.Answer.{said-line}
 use Rattle.record_definitions.specs.Frame.{frame-length, well-formed, largest-id, frame-refusal, outline-change}
 use Rattle.record_definitions.specs.Frame.{place-change, listed, test-refusal, test-answered, test-change}
-use Rattle.record_definitions.specs.Frame.{change-of-kind, change}
+use Rattle.record_definitions.specs.Frame.{change-of-kind, change, further-tests}
 use Rattle.record_definitions.specs.Step.{first-place, second-place, changed, change-in, after-frame}
 use Rattle.record_definitions.specs.Step.{said-of-frame}
 use Rattle.record_definitions.specs.Export.{test-frame}
 use Rattle.record_definitions.proofs.FrameRefusals.{not-refused-alone}
 use Rattle.record_definitions.proofs.Pairs.{within-place}
 use Rattle.record_definitions.proofs.Sound.{Sound}
+use Rattle.record_definitions.proofs.PieceTests.{no-further-tests, only-test}
 use Rattle.record_definitions.proofs.ExportFrames.{ExportFrame}
 
 -- ---- the builder's refusals
@@ -96,21 +102,37 @@ module _ (a b : Body) (pair : Pair) (frame : List ℕ) where
       (λ inside. taken (rw (is, inside) refl) (rw (is, inside) refl))
       (λ out. refused placement-out-of-range (rw (is, out) refl) (λ e. omega arith) refl)
 
--- ---- the test of two outlines: it answers, or is refused with the number of their test
-pub data TestedOr (number : ℕ) (answer : Answer) : Type 0 where
-  answers : (t : Touch) → answer ≡ Tested t → TestedOr number answer
-  refused-so : answer ≡ Refused number → (number ≡ 0 → ⊥) → TestedOr number answer
+-- ---- the test of two outlines: it answers in one line, or is refused with the number of their test
+pub data TestedOr (number : ℕ) (said : Said) : Type 0 where
+  answers : (t : Touch) → said .answer ≡ Tested t → said-line said ≡ line-of (said-bytes said) → TestedOr number said
+  refused-so : said .answer ≡ Refused number → (number ≡ 0 → ⊥) → TestedOr number said
 
 module _ (a b : Body) (pair : Pair) (a-is : a .kind ≡ outline-kind) (b-is : b .kind ≡ outline-kind) where
-  test-is : change a b pair test-frame ≡ test-answered a pair (tested 0 1 a b pair)
-  unfolding change change-of-kind frame-refusal well-formed frame-length test-change test-refusal listed
-  test-is = rw (a-is, b-is) refl
+  abbrev only : TestAnswer
+  only = tested 0 1 a b (kept-of pair 0)
 
-  answered : TestedOr (tested 0 1 a b pair .refusal) (test-answered a pair (tested 0 1 a b pair) .said .answer)
+  no-chain : eqb (a .kind) chain-kind ≡ false
+  no-chain = ap (λ (kind : ℕ). eqb kind chain-kind) a-is
+
+  test-is : change a b pair test-frame ≡ test-answered a pair only []
+  unfolding change change-of-kind frame-refusal well-formed frame-length test-change test-refusal listed
+  test-is =
+      ap₂ (λ (kinda kindb : ℕ). cond (eqb (test-refusal 0 1 kinda kindb) accepted)
+      (test-answered a pair (piece-tested 0 1 a b pair 0) (further-tests 0 1 a b pair))
+      (record {
+        said = said-alone (Refused (test-refusal 0 1 kinda kindb));
+        body = a;
+        pair = pair;
+        forget = false;
+      })) a-is b-is
+      ∙ ap₂ (test-answered a pair) (only-test a no-chain 0 1 b pair) (no-further-tests a no-chain 0 1 b pair)
+
+  answered : TestedOr (only .refusal) (test-answered a pair only [] .said)
+  unfolding first-refusal touch-lines
   answered =
-      let t = tested 0 1 a b pair in
-      by-test (eqb (t .refusal) accepted) (λ is. answers (t .touch) (rw is refl))
-      (λ not. refused-so (rw not refl) (eqb-false (t .refusal) accepted not))
+      by-test (eqb (only .refusal) accepted)
+      (λ is. answers (only .touch) (rw is refl) (rw is (append-nil (line-of (touch-bytes (only .touch))))))
+      (λ not. refused-so (rw (not, not) refl) (eqb-false (only .refusal) accepted not))
 
 -- ---- in a world
 module _ (w : World) (sound : Sound w) (id : ℕ) (known : id ≤ largest-id) (frame : List ℕ) where
@@ -169,11 +191,12 @@ module _ (w : World) (sound : Sound w) (id : ℕ) (known : id ≤ largest-id) (f
 
 -- outlines under 0 and 1
 pub test-step : (w : World) → body-at w 0 .kind ≡ outline-kind → body-at w 1 .kind ≡ outline-kind
-    → TestedOr (tested 0 1 (body-at w 0) (body-at w 1) (pair-at w 0 1) .refusal) (said-of-frame w test-frame .answer)
+    → TestedOr (tested 0 1 (body-at w 0) (body-at w 1) (kept-of (pair-at w 0 1) 0) .refusal)
+    (said-of-frame w test-frame)
 unfolding said-of-frame change-in
 test-step w a-is b-is =
     let a = body-at w 0 in
     let b = body-at w 1 in
     let pair = pair-at w 0 1 in
-    subst (λ (c : Change). TestedOr (tested 0 1 a b pair .refusal) (c .said .answer))
+    subst (λ (c : Change). TestedOr (tested 0 1 a b (kept-of pair 0) .refusal) (c .said))
     (sym (test-is a b pair a-is b-is)) (answered a b pair a-is b-is)

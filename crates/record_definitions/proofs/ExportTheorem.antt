@@ -22,7 +22,7 @@ use Rattle.record_definitions.specs.Export.{returned, left-in, export-nu
 use Rattle.record_definitions.specs.ExportLaws.{export-frames, accepted-lines, ExportPrints}
 use Rattle.record_definitions.proofs.Sound.{Sound}
 use Rattle.record_definitions.proofs.SoundKept.{fresh-sound, frame-keeps-sound}
-use Rattle.record_definitions.proofs.Theorem.{answers-fit}
+use Rattle.record_definitions.proofs.AnswerLengths.{said-within}
 use Rattle.record_definitions.proofs.ExportRuns.{Outcome, answered, turned-down}
 use Rattle.record_definitions.proofs.ExportLines.{program-prints}
 use Rattle.record_definitions.proofs.ExportFrames.{all-sendable}
@@ -63,7 +63,7 @@ module _ (input out : List ℕ) (room : longest-answer ≤ length out) (ordered 
         let number : export-number input out ≡ length (said-bytes said) = number-is ∙ returned-tested said t is in
         let wrote : take (export-number input out) (export-output input out) ≡ said-bytes said =
         rw (number, output-is) (left-tested said out t is) in
-        let few : length (said-bytes said) ≤ longest-answer = answers-fit said .0 in
+        let few : length (said-bytes said) ≤ longest-answer = said-within said in
         record {
           written = λ below. program-prints (export-frames input) (all-sendable input ordered bytes) ∙ printed
               ∙ ap (λ (b : List ℕ). accepted-lines 4 ++ line-of b) (sym wrote);

@@ -18,7 +18,7 @@ use Rattle.record_definitions.specs.declared.frame.Answer.the-variants.{
 use Rattle.record_definitions.specs.declared.frame.Said.{Said}
 use Rattle.record_definitions.specs.World.{fresh-world}
 use Rattle.record_definitions.specs.Frame.{frame-length, outline-length}
-use Rattle.record_definitions.specs.Answer.{said-bytes, longest-answer}
+use Rattle.record_definitions.specs.Answer.{said-alone, said-bytes, longest-answer}
 use Rattle.record_definitions.specs.Export.{refusal-in, last-said, test-frame, FourFrames, first-placement}
 use Rattle.record_definitions.specs.Export.{second-outline, second-placement, begins, begin-all, in-order}
 use Rattle.record_definitions.specs.Export.{export-said, refusal-base, export-number, export-output}
@@ -162,7 +162,7 @@ module _ (input : List ℕ) (first outline second : ℕ) (first-is : first ≡ f
           is ∙ rw (ordered, ← second-same, ← outline-same, ← first-is, whole) refl
 
 pub out-of-order : (input : List ℕ) → in-order input ≡ false
-    → record { answer = Refused malformed-frame } ≡ export-said input
+    → said-alone (Refused malformed-frame) ≡ export-said input
 unfolding export-said
 out-of-order input bad = simp bad
 

@@ -1,7 +1,7 @@
 -- The first test of a pair after new shapes: accepted frames before it are no tests, so the pair stays fresh
 -- (`accepted-keeps-fresh`), and the test counts one touch where there are points, else none (`first-count`).
 -- Assumes nothing.
-use Prim.Native.Nat.{ℕ, _≤_}
+use Prim.Native.Nat.{ℕ, _≤_, _<_}
 use mathlib.Core.Path.{_≡_, refl, sym, _∙_, ap, subst}
 use mathlib.Core.Bool.{Bool, true, false, cond, _&&_, _||_}
 use mathlib.Core.List.{List, []}
@@ -14,26 +14,28 @@ use Rattle.contact_definitions.specs.declared.b2_collision.B2manifold.{B2manifo
 use Rattle.record_definitions.specs.declared.world.World.{World}
 use Rattle.record_definitions.specs.declared.touch.Touch.{Touch}
 use Rattle.record_definitions.specs.declared.frame.Answer.the-variants.{Accepted, Tested}
+use Rattle.record_definitions.specs.World.{pieces-of, body-at}
 use Rattle.record_definitions.specs.Frame.{largest-id}
+use Rattle.record_definitions.specs.Answer.{result-of}
 use Rattle.record_definitions.specs.Step.{after-frame, said-of-frame}
 use Rattle.record_definitions.specs.Rulebook.{Rulebook}
 use Rattle.record_definitions.specs.Heat.{defines-shape, touches-begun}
 use Rattle.record_definitions.proofs.HeatTests.{Remembers, test-printed}
 use Rattle.record_definitions.proofs.HeatSteps.{frame-remembered}
-use Rattle.record_definitions.proofs.Theorem.{points-printed}
+use Rattle.record_definitions.proofs.TestTheorem.{points-printed}
 
 -- either way none
 none-left : (t : Bool) → _≡_ {A = List B2manifold} (cond t [] []) []
 none-left true = refl
 none-left false = refl
 
-module _ (a b : ℕ) (a-small : a ≤ largest-id) (b-small : b ≤ largest-id) (w : World) (fresh : Remembers a b w [])
+module _ (a b i : ℕ) (a-small : a ≤ largest-id) (b-small : b ≤ largest-id) (w : World) (fresh : Remembers a b i w [])
     (frame : List ℕ) where
-  pub accepted-keeps-fresh : said-of-frame w frame .answer ≡ Accepted → Remembers a b (after-frame w frame) []
+  pub accepted-keeps-fresh : said-of-frame w frame .answer ≡ Accepted → Remembers a b i (after-frame w frame) []
   accepted-keeps-fresh taken =
-      subst (Remembers a b (after-frame w frame))
+      subst (Remembers a b i (after-frame w frame))
       (none-left (defines-shape frame && (eqb (byte-at frame 1) a || eqb (byte-at frame 1) b)))
-      (frame-remembered a b a-small b-small w frame [] fresh Accepted taken)
+      (frame-remembered a b i a-small b-small w frame [] fresh Accepted taken)
 
 one-or-none : (now counted : ℕ) → Rulebook 0 now 0 counted → counted ≡ cond (eqb now 0) 0 1
 one-or-none now counted rulebook =
@@ -41,10 +43,12 @@ one-or-none now counted rulebook =
     (λ none. rw none (rulebook .apart (eqb-true now 0 none)))
     (λ some. rw some (rulebook .begins refl (let not-none = eqb-false now 0 some in omega arith)))
 
-pub first-count : (w : World) (frame : List ℕ) (t : Touch) → said-of-frame w frame .answer ≡ Tested t
-    → Remembers (byte-at frame 1) (byte-at frame 2) w [] → t .touches ≡ cond (eqb (t .count) 0) 0 1
+-- for each piece that the first body has
+pub first-count : (w : World) (frame : List ℕ) (t : Touch) → said-of-frame w frame .answer ≡ Tested t → (i : ℕ)
+    → i < pieces-of (body-at w (byte-at frame 1)) → Remembers (byte-at frame 1) (byte-at frame 2) i w []
+    → result-of (said-of-frame w frame) i .touches ≡ cond (eqb (result-of (said-of-frame w frame) i .count) 0) 0 1
 unfolding touches-begun
-first-count w frame t is fresh =
-    one-or-none _ (t .touches)
-    (test-printed (byte-at frame 1) (byte-at frame 2) w [] fresh frame t is refl refl .rulebook)
-    ∙ ap (λ (n : ℕ). cond (eqb n 0) 0 1) (sym (points-printed w frame t is .0))
+first-count w frame t is i within fresh =
+    one-or-none _ (result-of (said-of-frame w frame) i .touches)
+    (test-printed (byte-at frame 1) (byte-at frame 2) i w [] fresh frame t is refl refl within .rulebook)
+    ∙ ap (λ (n : ℕ). cond (eqb n 0) 0 1) (sym (points-printed w frame t is i within .0))

@@ -1,4 +1,4 @@
--- A frame that its bytes alone do not refuse is well-formed, of one of the six kinds, and names ids below eight.
+-- A frame that its bytes alone do not refuse is well-formed, of one of the seven kinds, and names ids below eight.
 -- Assumes nothing.
 use Prim.Native.Nat.{ℕ, _≤_}
 use mathlib.Core.Path.{_≡_, refl}
@@ -13,12 +13,12 @@ use Rattle.shape_definitions.specs.Refusal.{accepted, malformed-frame, unknown-
 use Rattle.contact_definitions.proofs.Counts.{either}
 use Rattle.record_definitions.specs.Frame.{frame-length, well-formed, largest-id, names-unknown, frame-refusal}
 
--- the kinds that have a length are 1 to 6
+-- the kinds that have a length are 1 to 7
 pub last-kind : (kind third : ℕ) → (frame-length kind third ≡ 0 → ⊥) → eqb kind 1 ≡ false → eqb kind 2 ≡ false
-    → eqb kind 3 ≡ false → eqb kind 4 ≡ false → eqb kind 6 ≡ false → kind ≡ 5
+    → eqb kind 3 ≡ false → eqb kind 4 ≡ false → eqb kind 6 ≡ false → eqb kind 7 ≡ false → kind ≡ 5
 unfolding frame-length
-last-kind kind third known no-1 no-2 no-3 no-4 no-6 =
-    by-test (eqb kind 5) (eqb-true kind 5) (λ no-5. absurd (known (simp (no-1, no-2, no-3, no-4, no-5, no-6))))
+last-kind kind third known no-1 no-2 no-3 no-4 no-6 no-7 =
+    by-test (eqb kind 5) (eqb-true kind 5) (λ no-5. absurd (known (simp (no-1, no-2, no-3, no-4, no-5, no-6, no-7))))
 
 module _ (bytes : List ℕ) where
   -- a well-formed frame has a length

@@ -28,12 +28,14 @@ use Rattle.contact_definitions.specs.WorldManifold.{manifold-in-range, b2-world
 use Rattle.record_definitions.specs.declared.world.World.{World}
 use Rattle.record_definitions.specs.declared.touch.Touch.{Touch}
 use Rattle.record_definitions.specs.World.{blank-body, circle-body, placed, fresh-pair, fresh-world, body-at}
-use Rattle.record_definitions.specs.World.{pair-at, forget-below}
+use Rattle.record_definitions.specs.World.{pair-at, forget-below, piece-of, kept-of}
 use Rattle.record_definitions.specs.Touch.{meet-circle, meet, skin, world-points, touches-after, states-of}
-use Rattle.record_definitions.specs.Touch.{touch-of, tested-as, tested}
+use Rattle.record_definitions.specs.Touch.{touch-of, tested-as, tested, piece-tested, pieces-tested}
+use Rattle.record_definitions.specs.Touch.{first-refusal}
 use Rattle.record_definitions.specs.Frame.{frame-length, well-formed, frame-refusal, circle-change, place-change}
 use Rattle.record_definitions.specs.Frame.{turn-change, listed, test-refusal, test-change, change-of-kind, change}
-use Rattle.record_definitions.specs.Step.{change-in, changed, after-frame, said-of-frame}
+use Rattle.record_definitions.specs.Answer.{result-of}
+use Rattle.record_definitions.specs.Step.{change-in, changed, after-frame, said-of-frame, said-of-line}
 use Rattle.record_definitions.specs.Heat.{after-lines, contact-in, contacts-after, contacts-of, touches-begun}
 use Rattle.record_definitions.specs.Heat.{NextTest}
 use Rattle.record_definitions.proofs.HeatLaw.{heat-law}
@@ -64,22 +66,22 @@ lines n = take n heat
 abbrev world : ℕ → World
 world n = after-lines fresh-world (lines n)
 
--- the contacts of the pair 0 1 that count there, and the touches begun
+-- the contacts of the pair 0 1, whose first body is its own only piece, that count there, and the touches begun
 abbrev counted : ℕ → ℕ × ℕ
-counted n = let contacts = contacts-of 0 1 (lines n) in (length contacts, touches-begun contacts)
+counted n = let contacts = contacts-of 0 1 0 (lines n) in (length contacts, touches-begun contacts)
 
--- the test of the pair there
+-- the result of the test of the pair there
 abbrev printed : ℕ → Touch
-printed n = tested 0 1 (body-at (world n) 0) (body-at (world n) 1) (pair-at (world n) 0 1) .touch
+printed n = result-of (said-of-line (world n) (text "050001")) 0
 
 pub record HeatCases : Type 0 where
   -- how many contacts count, and how many touches: pushed, resting, apart, pushed again and a shape refused, a new
   -- shape, pushed
   pub counts : map counted (5 ∷ 6 ∷ 9 ∷ 12 ∷ 13 ∷ 15 ∷ []) ≡ (1, 1) ∷ (2, 1) ∷ (3, 1) ∷ (4, 2) ∷ (0, 0) ∷ (1, 1) ∷ []
   -- of the other order
-  pub other-order : map (λ (n : ℕ). length (contacts-of 1 0 (lines n))) (12 ∷ 13 ∷ []) ≡ 1 ∷ 0 ∷ []
+  pub other-order : map (λ (n : ℕ). length (contacts-of 1 0 0 (lines n))) (12 ∷ 13 ∷ []) ≡ 1 ∷ 0 ∷ []
   -- what the law says of the second test: its point rests and the count stays
-  pub second-test : NextTest (contacts-of 0 1 (lines 5)) (contact-in 0 1 (world 5)) (printed 5)
+  pub second-test : NextTest (contacts-of 0 1 0 (lines 5)) (contact-in 0 1 0 (world 5)) (printed 5)
   pub point-rests : printed 5 .states .new0 ≡ B2PersistState
   pub count-stays : printed 5 .touches ≡ 1
   -- and of the one after the two were apart: a touch begins
@@ -88,20 +90,20 @@ pub record HeatCases : Type 0 where
 pub heat-cases : HeatCases
 unfolding neg add sub mul div le lt eq ofBits toBits root-digits whole-root rounded-root sqrt b2-sqrt b2-add b2-sub
     b2-neg b2-scale b2-dot b2-length-squared b2-length b2-distance-vec2-squared b2-normalize b2-mul-rot-by-vec2
-    b2-mul-transform-by-vec2 point-in-range radius-in-range rotation-in-range transform-in-range
-    local-normal-in-range contact-point-in-range sines quarter-wave opposite heading vector-at rotation-at
-    placement-at unhex frame-of circle-in-range farther with-local-point with-count with-one-point counted-points
-    same-id id-among counted-ids ids-of ids-in point-state states-of-ids points-in-range manifold-in-range
-    b2-world-manifold-initialize blank-body circle-body placed fresh-pair fresh-world forget-below meet-circle meet
-    skin world-points touches-after states-of touch-of tested-as tested frame-length well-formed frame-refusal
+    b2-mul-transform-by-vec2 point-in-range radius-in-range rotation-in-range transform-in-range local-normal-in-range
+    contact-point-in-range sines quarter-wave opposite heading vector-at rotation-at placement-at unhex frame-of
+    circle-in-range farther with-local-point with-count with-one-point counted-points same-id id-among counted-ids
+    ids-of ids-in point-state states-of-ids points-in-range manifold-in-range b2-world-manifold-initialize blank-body
+    circle-body placed piece-of fresh-pair fresh-world forget-below meet-circle meet skin world-points touches-after
+    states-of touch-of tested-as tested piece-tested pieces-tested first-refusal frame-length well-formed frame-refusal
     circle-change place-change turn-change listed test-refusal test-change change-of-kind change change-in changed
     after-frame said-of-frame circles-manifold b2-collide-circles circles-normal world-of-circles contacts-after
     touches-begun
 heat-cases =
-    let law = heat-law 0 1 (omega arith) (omega arith) (lines 5) in
-    let next = law .next-test (text "050001") (printed 5) refl refl refl in
-    let law-later = heat-law 0 1 (omega arith) (omega arith) (lines 10) in
-    let later = law-later .next-test (text "050001") (printed 10) refl refl refl in
+    let law = heat-law 0 1 0 (omega arith) (omega arith) (lines 5) in
+    let next = law .next-test (text "050001") _ refl refl refl (omega arith) in
+    let law-later = heat-law 0 1 0 (omega arith) (omega arith) (lines 10) in
+    let later = law-later .next-test (text "050001") _ refl refl refl (omega arith) in
     record {
       counts = refl;
       other-order = refl;

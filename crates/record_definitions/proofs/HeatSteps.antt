@@ -1,41 +1,44 @@
--- What one frame does to what a pair remembers (`Remembers`): an accepted shape of either id leaves a fresh pair, an
--- accepted test of the pair leaves its contact and its count, and no other frame changes the pair.
--- Assumes nothing.
+-- What one frame does to what a pair remembers of a piece (`Remembers`): an accepted shape of either id leaves a fresh
+-- pair, an accepted test of the pair leaves the contact and the count of each piece that the first body has, and no
+-- other frame changes the pair. Assumes nothing.
 use Prim.Native.Nat.{ℕ, _≤_}
 use mathlib.Core.Path.{_≡_, refl, sym, _∙_, ap}
-use mathlib.Core.Bool.{true, false, _&&_, _||_, false≢true}
+use mathlib.Core.Bool.{Bool, true, false, _&&_, _||_, false≢true}
 use mathlib.Core.List.{List, [], _∷_}
 use mathlib.Core.Logic.{_⊎_, inl, inr}
 use native.Mathlib.Omega.{arith}
 use lib.Dec.{eqb}
 use lib.ListN.{getD}
-use borrow.Author.Tests.{eqb-true, eqb-false, eq-eqb}
-use Rattle.algebra.proofs.Booleans.{or-holds, or-fails}
+use borrow.Author.Tests.{eqb-true, eqb-false, eq-eqb, ltb-true, ltb-false}
+use Rattle.algebra.proofs.Booleans.{by-test, or-holds, or-fails}
 use Rattle.lines.specs.Fields.{byte-at}
 use Rattle.shape_definitions.specs.Refusal.{accepted}
 use Rattle.contact_definitions.specs.declared.b2_collision.B2manifold.{B2manifold}
 use Rattle.contact_definitions.specs.PointStates.{ids-of}
 use Rattle.contact_definitions.proofs.Counts.{either}
 use Rattle.record_definitions.specs.declared.world.Body.{Body}
+use Rattle.record_definitions.specs.declared.world.Kept.{Kept}
 use Rattle.record_definitions.specs.declared.world.Pair.{Pair}
 use Rattle.record_definitions.specs.declared.world.World.{World}
 use Rattle.record_definitions.specs.declared.touch.Touch.{Touch}
 use Rattle.record_definitions.specs.declared.frame.Answer.{Answer}
 use Rattle.record_definitions.specs.declared.frame.Answer.the-variants.{Accepted, Refused, Tested}
 use Rattle.record_definitions.specs.declared.frame.Change.{Change}
-use Rattle.record_definitions.specs.World.{fresh-pair, body-at, pair-at, pair-place}
-use Rattle.record_definitions.specs.Touch.{tested}
-use Rattle.record_definitions.specs.Frame.{largest-id, test-refusal, test-change, change-of-kind}
+use Rattle.record_definitions.specs.World.{fresh-kept, fresh-pair, body-at, pair-at, pair-place, pieces-of}
+use Rattle.record_definitions.specs.World.{kept-of}
+use Rattle.record_definitions.specs.Touch.{piece-tested, first-refusal}
+use Rattle.record_definitions.specs.Frame.{largest-id, test-refusal, all-tests, test-change, change-of-kind}
 use Rattle.record_definitions.specs.Step.{first-place, second-place, change-in, after-frame, said-of-frame}
 use Rattle.record_definitions.specs.Export.{answer-refusal}
-use Rattle.record_definitions.specs.Heat.{defines-shape, with-answer, contact-in}
+use Rattle.record_definitions.specs.Heat.{defines-shape, with-answer, piece-there, contact-in}
 use Rattle.record_definitions.specs.Heat.{touches-begun}
 use Rattle.record_definitions.proofs.HeatTests.{Remembers, test-remembered}
 use Rattle.record_definitions.proofs.Refusing.{after-refused}
 use Rattle.record_definitions.proofs.Changes.{NewShape, Placing, by-choice, is-of-kind, both}
 use Rattle.record_definitions.proofs.SoundKept.{frame-keeps-sound}
 use Rattle.record_definitions.proofs.Theorem.{new-shape-forgets, new-shape-keeps-others, placing-changes-no-pair}
-use Rattle.record_definitions.proofs.Theorem.{test-changes-no-other-pair, names-printed}
+use Rattle.record_definitions.proofs.TestTheorem.{test-changes-no-other-pair, ids-printed, other-pieces-kept}
+use Rattle.record_definitions.proofs.Sound.{kept-of-fresh}
 
 -- ---- an accepted frame defines a shape or places a body
 NotAccepted : Change → Type 0
@@ -53,10 +56,10 @@ test-not : (ida idb : ℕ) (a b : Body) (pair : Pair) → NotAccepted (test-chan
 unfolding test-change
 test-not ida idb a b pair =
     let number = test-refusal ida idb (a .kind) (b .kind) in
-    let t = tested ida idb a b pair in
+    let refusal = first-refusal (all-tests ida idb a b pair) in
     either NotAccepted (eqb number accepted) _ _
-    (either NotAccepted (eqb (t .refusal) accepted) _ _ (tested-not _ (t .touch) refl)
-    (refused-not _ (t .refusal) refl))
+    (either NotAccepted (eqb refusal accepted) _ _ (tested-not _ (piece-tested ida idb a b pair 0 .touch) refl)
+    (refused-not _ refusal refl))
     (refused-not _ number refl)
 
 Kinds : ℕ → Type 0
@@ -68,10 +71,11 @@ unfolding change-of-kind Kinds NotAccepted
 kind-accepted kind a b pair bytes =
     by-choice Says (eqb kind 1) _ _ (λ one taken. inl (inl (eqb-true kind 1 one)))
     (λ no-1. by-choice Says (eqb kind 2) _ _ (λ two taken. inl (inr (inl (eqb-true kind 2 two))))
-    (λ no-2. by-choice Says (eqb kind 3) _ _ (λ three taken. inl (inr (inr (eqb-true kind 3 three))))
+    (λ no-2. by-choice Says (eqb kind 3) _ _ (λ three taken. inl (inr (inr (inl (eqb-true kind 3 three)))))
     (λ no-3. by-choice Says (eqb kind 4) _ _ (λ four taken. inr (inl (eqb-true kind 4 four)))
     (λ no-4. by-choice Says (eqb kind 6) _ _ (λ six taken. inr (inr (eqb-true kind 6 six)))
-    (λ no-6 taken. absurd (test-not (byte-at bytes 1) (byte-at bytes 2) a b pair taken))))))
+    (λ no-6. by-choice Says (eqb kind 7) _ _ (λ seven taken. inl (inr (inr (inr (eqb-true kind 7 seven)))))
+    (λ no-7 taken. absurd (test-not (byte-at bytes 1) (byte-at bytes 2) a b pair taken)))))))
   where
     Says : Change → Type 0
     Says c = c .said .answer ≡ Accepted → Kinds kind
@@ -92,42 +96,53 @@ first-two kind (inr two) = inr (inl (eqb-true kind 2 two))
 
 all-three : (kind : ℕ) → (eqb kind 1 || eqb kind 2 ≡ true) ⊎ (eqb kind 3 ≡ true) → NewShape kind
 all-three kind (inl earlier) = first-two kind (or-holds (eqb kind 1) (eqb kind 2) earlier)
-all-three kind (inr three) = inr (inr (eqb-true kind 3 three))
+all-three kind (inr three) = inr (inr (inl (eqb-true kind 3 three)))
+
+all-four : (kind : ℕ) → (eqb kind 1 || eqb kind 2 || eqb kind 3 ≡ true) ⊎ (eqb kind 7 ≡ true) → NewShape kind
+all-four kind (inl earlier) = all-three kind (or-holds (eqb kind 1 || eqb kind 2) (eqb kind 3) earlier)
+all-four kind (inr seven) = inr (inr (inr (eqb-true kind 7 seven)))
 
 shape-defined : (frame : List ℕ) → defines-shape frame ≡ true → NewShape (byte-at frame 0)
 shape-defined frame is =
     let kind = byte-at frame 0 in
-    all-three kind (or-holds (eqb kind 1 || eqb kind 2) (eqb kind 3) is)
+    all-four kind (or-holds (eqb kind 1 || eqb kind 2 || eqb kind 3) (eqb kind 7) is)
 
 defined-shape : (frame : List ℕ) → NewShape (byte-at frame 0) → defines-shape frame ≡ true
 defined-shape frame (inl one) = rw one refl
 defined-shape frame (inr (inl two)) = rw two refl
-defined-shape frame (inr (inr three)) = rw three refl
+defined-shape frame (inr (inr (inl three))) = rw three refl
+defined-shape frame (inr (inr (inr seven))) = rw seven refl
 
 -- ---- one frame
-module _ (a b : ℕ) (a-small : a ≤ largest-id) (b-small : b ≤ largest-id) (w : World) (frame : List ℕ)
-    (contacts : List B2manifold) (before : Remembers a b w contacts) where
+module _ (a b i : ℕ) (a-small : a ≤ largest-id) (b-small : b ≤ largest-id) (w : World) (frame : List ℕ)
+    (contacts : List B2manifold) (before : Remembers a b i w contacts) where
   abbrev After : List B2manifold → Type 0
-  After later = Remembers a b (after-frame w frame) later
+  After later = Remembers a b i (after-frame w frame) later
 
-  -- where the pair is as it was
-  unchanged : pair-at (after-frame w frame) a b ≡ pair-at w a b → After contacts
-  unchanged same = record {
+  -- where what is kept of the piece is as it was
+  kept-same : kept-of (pair-at (after-frame w frame) a b) i ≡ kept-of (pair-at w a b) i → After contacts
+  kept-same same = record {
     sound = frame-keeps-sound w frame (before .sound);
     whole = before .whole;
-    ids = ap (λ (pair : Pair). pair .ids) same ∙ before .ids;
-    touches = ap (λ (pair : Pair). pair .touches) same ∙ before .touches;
+    ids = ap (λ (kept : Kept). kept .ids) same ∙ before .ids;
+    touches = ap (λ (kept : Kept). kept .touches) same ∙ before .touches;
   }
+
+  unchanged : pair-at (after-frame w frame) a b ≡ pair-at w a b → After contacts
+  unchanged same = kept-same (ap (λ (pair : Pair). kept-of pair i) same)
 
   -- a new shape of either id
   forgotten : pair-at (after-frame w frame) a b ≡ fresh-pair → After []
-  unfolding fresh-pair ids-of touches-begun
-  forgotten fresh = record {
-    sound = frame-keeps-sound w frame (before .sound);
-    whole = record { two = refl; few = omega arith };
-    ids = ap (λ (pair : Pair). pair .ids) fresh;
-    touches = ap (λ (pair : Pair). pair .touches) fresh;
-  }
+  unfolding ids-of touches-begun
+  forgotten fresh =
+      let kept-is : kept-of (pair-at (after-frame w frame) a b) i ≡ fresh-kept =
+      ap (λ (pair : Pair). kept-of pair i) fresh ∙ kept-of-fresh i in
+      record {
+        sound = frame-keeps-sound w frame (before .sound);
+        whole = record { two = refl; few = omega arith };
+        ids = ap (λ (kept : Kept). kept .ids) kept-is;
+        touches = ap (λ (kept : Kept). kept .touches) kept-is;
+      }
 
   module _ (taken : said-of-frame w frame .answer ≡ Accepted) where
     either-id : NewShape (byte-at frame 0) → (eqb (byte-at frame 1) a ≡ true) ⊎ (eqb (byte-at frame 1) b ≡ true)
@@ -155,8 +170,9 @@ module _ (a b : ℕ) (a-small : a ≤ largest-id) (b-small : b ≤ largest-id) (
     no-shape-there not-both (inr placing) =
         ap (λ (pairs : List Pair). getD pairs (pair-place a b) fresh-pair) (placing-changes-no-pair w frame placing)
 
-    after-accepted : (contact : B2manifold) → After (with-answer a b Accepted frame contact contacts)
-    after-accepted contact =
+    after-accepted : (there : Bool) (contact : B2manifold)
+        → After (with-answer a b i Accepted frame there contact contacts)
+    after-accepted there contact =
         by-choice After (defines-shape frame && (eqb (byte-at frame 1) a || eqb (byte-at frame 1) b)) _ _ shape-there
         (λ not-both. unchanged (no-shape-there not-both (accepted-kind w frame taken)))
 
@@ -169,23 +185,42 @@ module _ (a b : ℕ) (a-small : a ≤ largest-id) (b-small : b ≤ largest-id) (
     other-test not-both =
         unchanged (test-changes-no-other-pair w frame t is a b a-small b-small
         (λ first second. false≢true (sym not-both ∙ simp (
-          eq-eqb (t .a) a (names-printed w frame t is .0 ∙ sym first),
-          eq-eqb (t .b) b (names-printed w frame t is .1 ∙ sym second),
+          eq-eqb (t .a) a (ids-printed w frame t is .0 ∙ sym first),
+          eq-eqb (t .b) b (ids-printed w frame t is .1 ∙ sym second),
         ))))
 
-    this-test : eqb (t .a) a && eqb (t .b) b ≡ true → After (contact-in a b w ∷ contacts)
-    this-test is-both =
-        let each = both (eqb (t .a) a) (eqb (t .b) b) is-both in
-        test-remembered a b w contacts before frame t is
-        (sym (names-printed w frame t is .0) ∙ eqb-true (t .a) a (each .0))
-        (sym (names-printed w frame t is .1) ∙ eqb-true (t .b) b (each .1))
+    module _ (is-both : eqb (t .a) a && eqb (t .b) b ≡ true) where
+      first-is : byte-at frame 1 ≡ a
+      first-is =
+          sym (ids-printed w frame t is .0) ∙ eqb-true (t .a) a (both (eqb (t .a) a) (eqb (t .b) b) is-both .0)
 
-    after-test : After (with-answer a b (Tested t) frame (contact-in a b w) contacts)
-    after-test = by-choice After (eqb (t .a) a && eqb (t .b) b) _ _ this-test other-test
+      second-is : byte-at frame 2 ≡ b
+      second-is =
+          sym (ids-printed w frame t is .1) ∙ eqb-true (t .b) b (both (eqb (t .a) a) (eqb (t .b) b) is-both .1)
+
+      this-test : piece-there a b i w ≡ true → After (contact-in a b i w ∷ contacts)
+      this-test there =
+          test-remembered a b i w contacts before frame t is first-is second-is
+          (ltb-true i (pieces-of (body-at w a)) there)
+
+      -- a piece that the first body does not have
+      no-piece : piece-there a b i w ≡ false → After contacts
+      no-piece not-there =
+          kept-same (rw (first-is, second-is) at (other-pieces-kept w frame t is (before .sound) i
+          (rw first-is (ltb-false i (pieces-of (body-at w a)) not-there))))
+
+    after-test : After (with-answer a b i (Tested t) frame (piece-there a b i w) (contact-in a b i w) contacts)
+    after-test =
+        by-choice After (eqb (t .a) a && eqb (t .b) b && piece-there a b i w) _ _
+        (λ all. let each = both (eqb (t .a) a && eqb (t .b) b) (piece-there a b i w) all in
+        this-test (each .0) (each .1))
+        (λ not-all. by-test (eqb (t .a) a && eqb (t .b) b)
+        (λ is-both. no-piece is-both (rw is-both at not-all))
+        other-test)
 
   -- any frame, by its answer
   pub frame-remembered : (answer : Answer) → said-of-frame w frame .answer ≡ answer
-      → After (with-answer a b answer frame (contact-in a b w) contacts)
-  frame-remembered Accepted taken = after-accepted taken (contact-in a b w)
+      → After (with-answer a b i answer frame (piece-there a b i w) (contact-in a b i w) contacts)
+  frame-remembered Accepted taken = after-accepted taken (piece-there a b i w) (contact-in a b i w)
   frame-remembered (Refused n) is = after-refusal n is
   frame-remembered (Tested t) is = after-test t is

@@ -1,5 +1,6 @@
--- A test of a pair that answers, after tests that met some contacts (`Remembers`): its states and its count are those
--- of these contacts and its own, by the rulebook, and the pair then remembers its own. Assumes nothing.
+-- A test of a pair that answers, of a piece of the first body, after tests that met some contacts (`Remembers`): its
+-- states and its count are those of these contacts and its own, by the rulebook, and the pair then remembers its own.
+-- Assumes nothing.
 use Prim.Native.Nat.{ℕ, _≤_, _<_}
 use mathlib.Core.Path.{_≡_, refl, sym, _∙_, ap, ap₂, subst}
 use mathlib.Core.Bool.{true}
@@ -14,132 +15,146 @@ use Rattle.contact_definitions.specs.declared.b2_collision.CountedIds.{CountedI
 use Rattle.contact_definitions.specs.declared.b2_collision.PointStates.{PointStates}
 use Rattle.contact_definitions.specs.Manifold.{manifold-point}
 use Rattle.contact_definitions.specs.PointStates.{counted-ids, id-among, ids-of, ids-in, states-of-ids}
+use Rattle.record_definitions.specs.declared.world.Body.{Body}
+use Rattle.record_definitions.specs.declared.world.Kept.{Kept}
 use Rattle.record_definitions.specs.declared.world.World.{World}
 use Rattle.record_definitions.specs.declared.touch.Touch.{Touch}
 use Rattle.record_definitions.specs.declared.frame.Answer.the-variants.{Tested}
-use Rattle.record_definitions.specs.World.{body-at, pair-at}
-use Rattle.record_definitions.specs.Touch.{touches-after, states-of}
+use Rattle.record_definitions.specs.World.{pieces-of, piece-of, kept-of, body-at, pair-at}
+use Rattle.record_definitions.specs.Touch.{touches-after, states-of, tested, piece-tested}
+use Rattle.record_definitions.specs.Answer.{result-of}
 use Rattle.record_definitions.specs.Step.{change-in, after-frame, said-of-frame}
 use Rattle.record_definitions.specs.Rulebook.{Rulebook}
 use Rattle.record_definitions.specs.Heat.{contact-in, last-contact, touches-begun, touches-of, NextTest}
 use Rattle.record_definitions.proofs.Changes.{WasTested}
 use Rattle.record_definitions.proofs.Pairs.{test-seen}
-use Rattle.record_definitions.proofs.States.{ids-of-points, states-are-box2ds, first-state, second-state}
+use Rattle.record_definitions.proofs.PieceTests.{each-accepted}
+use Rattle.record_definitions.proofs.States.{count-of, ids-of-points, states-are-box2ds, first-state}
+use Rattle.record_definitions.proofs.States.{second-state}
 use Rattle.record_definitions.proofs.Counting.{states-printed, touches-printed, contact-taken, met-few}
+use Rattle.record_definitions.proofs.Counting.{ids-kept, touches-kept}
 use Rattle.record_definitions.proofs.Rulebook.{counted-by-rulebook, held-begun}
 use Rattle.record_definitions.proofs.MetPlaces.{met-two}
 use Rattle.record_definitions.proofs.Sound.{Sound}
 use Rattle.record_definitions.proofs.SoundKept.{frame-keeps-sound}
-use Rattle.record_definitions.proofs.Theorem.{test-keeps-ids, test-keeps-touches}
+use Rattle.record_definitions.proofs.TestTheorem.{tested-by-itself, kept-by-itself}
 
 -- ---- a contact as tests meet it: two places for points, and at most two of them
 pub record Whole (contact : B2manifold) : Type 0 where
   pub two : length (contact .points) ≡ 2
   pub few : contact .«point_count» ≤ 2
 
-pub record Remembers (a b : ℕ) (w : World) (contacts : List B2manifold) : Type 0 where
+pub record Remembers (a b i : ℕ) (w : World) (contacts : List B2manifold) : Type 0 where
   pub sound : Sound w
   pub whole : Whole (last-contact contacts)
-  pub ids : pair-at w a b .ids ≡ ids-of (last-contact contacts)
-  pub touches : pair-at w a b .touches ≡ touches-of contacts
+  pub ids : kept-of (pair-at w a b) i .ids ≡ ids-of (last-contact contacts)
+  pub touches : kept-of (pair-at w a b) i .touches ≡ touches-of contacts
 
--- ---- the test
-module _ (a b : ℕ) (w : World) (contacts : List B2manifold) (before : Remembers a b w contacts) (frame : List ℕ)
+-- ---- the test, of a piece that the first body has
+module _ (a b i : ℕ) (w : World) (contacts : List B2manifold) (before : Remembers a b i w contacts) (frame : List ℕ)
     (t : Touch) (is : said-of-frame w frame .answer ≡ Tested t) (a-is : byte-at frame 1 ≡ a)
-    (b-is : byte-at frame 2 ≡ b) where
+    (b-is : byte-at frame 2 ≡ b) (within : i < pieces-of (body-at w a)) where
+  abbrev piece : Body
+  piece = piece-of (body-at w a) i
+
+  abbrev kept : Kept
+  kept = kept-of (pair-at w a b) i
+
+  abbrev met : B2manifold
+  met = contact-in a b i w
+
+  shown : result-of (said-of-frame w frame) i ≡ tested a b piece (body-at w b) kept .touch
+  shown =
+      rw (a-is, b-is) at (tested-by-itself w frame t is i (rw a-is within))
+
+  kept-after : kept-of (pair-at (after-frame w frame) a b) i ≡ tested a b piece (body-at w b) kept .kept
+  kept-after =
+      rw (a-is, b-is) at (kept-by-itself w frame t is i (rw a-is within) (before .sound .pairs-size))
+
   seen : WasTested a b (body-at w a) (body-at w b) (pair-at w a b) t (change-in w frame)
   seen = rw (a-is, b-is) at (test-seen w frame t is)
 
-  whole : Whole (contact-in a b w)
+  taken : tested a b piece (body-at w b) kept .refusal ≡ accepted
+  unfolding piece-tested
+  taken = each-accepted a b (body-at w a) (body-at w b) (pair-at w a b) (seen .not-refused) i within
+
+  whole : Whole met
   whole =
-      let met = contact-taken (body-at w a) (body-at w b) a b (pair-at w a b) (seen .not-refused) in
+      let contact = contact-taken piece (body-at w b) a b kept taken in
       record {
-        two = met-two (body-at w a) (body-at w b) met .two;
-        few = met-few (body-at w a) (body-at w b) met .at-most-two;
+        two = met-two piece (body-at w b) contact .two;
+        few = met-few piece (body-at w b) contact .at-most-two;
       }
 
   ids-counted : (m : B2manifold) → Whole m → ids-in (ids-of m) ≡ counted-ids m
   ids-counted m h = ids-of-points m (m .points) refl (h .two) (h .few)
 
-  against-last : states-of (pair-at w a b) (contact-in a b w)
-      ≡ states-of-ids (counted-ids (last-contact contacts)) (counted-ids (contact-in a b w))
+  abbrev result : Touch
+  result = result-of (said-of-frame w frame) i
+
+  against-last : states-of kept met ≡ states-of-ids (counted-ids (last-contact contacts)) (counted-ids met)
   unfolding states-of
-  against-last =
-      rw (before .ids, ids-counted (last-contact contacts) (before .whole), ids-counted (contact-in a b w) whole) refl
+  against-last = rw (before .ids, ids-counted (last-contact contacts) (before .whole), ids-counted met whole) refl
 
-  states-are : t .states ≡ states-of-ids (counted-ids (last-contact contacts)) (counted-ids (contact-in a b w))
-  states-are =
-      ap (λ (s : Touch). s .states) (seen .touch-is)
-      ∙ states-printed (body-at w a) (body-at w b) a b (pair-at w a b) ∙ against-last
+  states-are : result .states ≡ states-of-ids (counted-ids (last-contact contacts)) (counted-ids met)
+  states-are = ap (λ (s : Touch). s .states) shown ∙ states-printed piece (body-at w b) a b kept ∙ against-last
 
-  points-before : pair-at w a b .ids .count ≡ last-contact contacts .«point_count»
-  unfolding ids-of
-  points-before = ap (λ (ids : CountedIds). ids .count) (before .ids)
+  points-before : kept .ids .count ≡ last-contact contacts .«point_count»
+  points-before =
+      ap (λ (ids : CountedIds). ids .count) (before .ids) ∙ count-of (last-contact contacts) (before .whole .few)
 
-  counted : t .touches
-      ≡ touches-after (touches-of contacts) (last-contact contacts .«point_count») (contact-in a b w .«point_count»)
+  counted : result .touches
+      ≡ touches-after (touches-of contacts) (last-contact contacts .«point_count») (met .«point_count»)
   counted =
-      ap (λ (s : Touch). s .touches) (seen .touch-is)
-      ∙ touches-printed (body-at w a) (body-at w b) a b (pair-at w a b)
-      ∙ ap₂ (λ (touches points : ℕ). touches-after touches points (contact-in a b w .«point_count»)) (before .touches)
-      points-before
+      ap (λ (s : Touch). s .touches) shown ∙ touches-printed piece (body-at w b) a b kept
+      ∙ ap₂ (λ (touches points : ℕ). touches-after touches points (met .«point_count»)) (before .touches) points-before
 
-  touches-are : t .touches ≡ touches-of (contact-in a b w ∷ contacts)
+  touches-are : result .touches ≡ touches-of (met ∷ contacts)
   unfolding touches-begun
   touches-are = counted ∙ held-begun (touches-begun contacts) _ _
 
-  ids-after : pair-at (after-frame w frame) (byte-at frame 1) (byte-at frame 2) .ids
-      ≡ ids-of (contact-in (byte-at frame 1) (byte-at frame 2) w)
-      → pair-at (after-frame w frame) a b .ids ≡ ids-of (contact-in a b w)
-  ids-after kept =
-      subst (λ (i : ℕ). pair-at (after-frame w frame) i b .ids ≡ ids-of (contact-in i b w)) a-is
-      (subst (λ (j : ℕ). pair-at (after-frame w frame) (byte-at frame 1) j .ids
-      ≡ ids-of (contact-in (byte-at frame 1) j w)) b-is kept)
-
   -- the pair remembers it
-  pub test-remembered : Remembers a b (after-frame w frame) (contact-in a b w ∷ contacts)
-  test-remembered =
-      let size = before .sound .pairs-size in
-      record {
-        sound = frame-keeps-sound w frame (before .sound);
-        whole = whole;
-        ids = ids-after (test-keeps-ids w frame t is size);
-        touches = rw (a-is, b-is) at (test-keeps-touches w frame t is size) ∙ touches-are;
-      }
+  pub test-remembered : Remembers a b i (after-frame w frame) (met ∷ contacts)
+  test-remembered = record {
+    sound = frame-keeps-sound w frame (before .sound);
+    whole = whole;
+    ids = ap (λ (k : Kept). k .ids) kept-after ∙ ids-kept piece (body-at w b) a b kept;
+    touches = ap (λ (k : Kept). k .touches) kept-after ∙ touches-kept piece (body-at w b) a b kept
+        ∙ ap (λ (s : Touch). s .touches) (sym shown) ∙ touches-are;
+  }
 
   -- a point's state, from its id
   abbrev old : List B2contactId
   old = counted-ids (last-contact contacts)
 
-  from-ids : t .states ≡ states-of-ids old (ids-in (ids-of (contact-in a b w)))
-  from-ids = states-are ∙ ap (states-of-ids old) (sym (ids-counted (contact-in a b w) whole))
+  from-ids : result .states ≡ states-of-ids old (ids-in (ids-of met))
+  from-ids = states-are ∙ ap (states-of-ids old) (sym (ids-counted met whole))
 
-  first-resting : 0 < contact-in a b w .«point_count»
-      → id-among (manifold-point (contact-in a b w) 0 .id) old ≡ true → t .states .new0 ≡ B2PersistState
+  first-resting : 0 < met .«point_count» → id-among (manifold-point met 0 .id) old ≡ true
+      → result .states .new0 ≡ B2PersistState
   unfolding ids-of
   first-resting some rests =
       ap (λ (s : PointStates). s .new0) from-ids
-      ∙ first-state old (ids-of (contact-in a b w)) (contact-in a b w .«point_count») refl some ∙ rw rests refl
+      ∙ first-state old (ids-of met) (met .«point_count») (count-of met (whole .few)) some ∙ rw rests refl
 
-  second-resting : 1 < contact-in a b w .«point_count»
-      → id-among (manifold-point (contact-in a b w) 1 .id) old ≡ true → t .states .new1 ≡ B2PersistState
+  second-resting : 1 < met .«point_count» → id-among (manifold-point met 1 .id) old ≡ true
+      → result .states .new1 ≡ B2PersistState
   unfolding ids-of
   second-resting some rests =
       ap (λ (s : PointStates). s .new1) from-ids
-      ∙ second-state old (ids-of (contact-in a b w)) (contact-in a b w .«point_count») refl some ∙ rw rests refl
+      ∙ second-state old (ids-of met) (met .«point_count») (count-of met (whole .few)) some ∙ rw rests refl
 
   -- and prints it
-  pub test-printed : NextTest contacts (contact-in a b w) t
+  pub test-printed : NextTest contacts met result
   test-printed = record {
-    states = λ given. states-are-box2ds given (last-contact contacts) (contact-in a b w) (before .whole .two)
-        (whole .two) (before .whole .few) (whole .few)
+    states = λ given. states-are-box2ds given (last-contact contacts) met (before .whole .two) (whole .two)
+        (before .whole .few) (whole .few)
         ∙ ap (λ (states : PointStates). record { states = states; refusal = accepted })
-        (ap₂ states-of-ids (ids-counted (last-contact contacts) (before .whole)) (ids-counted (contact-in a b w) whole)
+        (ap₂ states-of-ids (ids-counted (last-contact contacts) (before .whole)) (ids-counted met whole)
         ∙ sym states-are);
     first-rests = first-resting;
     second-rests = second-resting;
     count = touches-are;
-    rulebook = subst
-        (Rulebook (last-contact contacts .«point_count») (contact-in a b w .«point_count») (touches-of contacts))
+    rulebook = subst (Rulebook (last-contact contacts .«point_count») (met .«point_count») (touches-of contacts))
         (sym counted) (counted-by-rulebook (touches-of contacts) _ _);
   }

@@ -15,8 +15,7 @@ use Rattle.record_definitions.specs.declared.touch.Touch.{Touch}
 use Rattle.record_definitions.specs.declared.frame.Answer.the-variants.{Accepted, Tested}
 use Rattle.record_definitions.specs.World.{blank-body, fresh-pair, body-at, pair-at, pair-place, forget}
 use Rattle.record_definitions.specs.World.{forget-below}
-use Rattle.record_definitions.specs.Touch.{tested}
-use Rattle.record_definitions.specs.Frame.{largest-id, change}
+use Rattle.record_definitions.specs.Frame.{largest-id, all-tests, keep, change}
 use Rattle.record_definitions.specs.Step.{first-place, second-place, changed, change-in, after-frame}
 use Rattle.record_definitions.specs.Step.{said-of-frame}
 use Rattle.record_definitions.specs.Export.{answer-refusal}
@@ -40,12 +39,11 @@ stays-fresh (x ∷ l) (suc i) (suc k) is = stays-fresh l i k is
 
 module _ (id : ℕ) (pairs : List Pair) where
   -- both orders, with each partner below n
-  Fresh : List Pair → ℕ → Type 0
+  abbrev pub Fresh : List Pair → ℕ → Type 0
   Fresh l x = (getD l (pair-place id x) fresh-pair ≡ fresh-pair) × (getD l (pair-place x id) fresh-pair ≡ fresh-pair)
 
   both-fresh : (l : List Pair) (n x : ℕ) → (x ≡ n) ⊎ Fresh l x
       → Fresh (set (set l (pair-place id n) fresh-pair) (pair-place n id) fresh-pair) x
-  unfolding Fresh
   both-fresh l n x (inl same) =
       let once = set l (pair-place id n) fresh-pair in
       rw same (
@@ -60,7 +58,7 @@ module _ (id : ℕ) (pairs : List Pair) where
             (stays-fresh l (pair-place id n) (pair-place x id) (before .1)),
       )
 
-  forgotten-below : (n x : ℕ) → x < n → Fresh (forget-below id pairs n) x
+  pub forgotten-below : (n x : ℕ) → x < n → Fresh (forget-below id pairs n) x
   unfolding forget-below
   forgotten-below zero x within = absurd (omega arith)
   forgotten-below (suc n) x within =
@@ -68,7 +66,7 @@ module _ (id : ℕ) (pairs : List Pair) where
       (⊎-elim (λ below. inr (forgotten-below n x below)) (λ last. inl (omega arith)) (less-or-not x n))
 
   -- pairs of two other ids
-  others-kept : (n x y : ℕ) → n ≤ 8 → id < 8 → x < 8 → y < 8 → (x ≡ id → ⊥) → (y ≡ id → ⊥)
+  pub others-kept : (n x y : ℕ) → n ≤ 8 → id < 8 → x < 8 → y < 8 → (x ≡ id → ⊥) → (y ≡ id → ⊥)
       → getD (forget-below id pairs n) (pair-place x y) fresh-pair ≡ getD pairs (pair-place x y) fresh-pair
   unfolding forget-below
   others-kept zero x y few small x-small y-small no-x no-y = refl
@@ -104,7 +102,6 @@ module _ (w : World) (bytes : List ℕ) where
 
     pub shape-forgets-its-pairs : (x : ℕ) → x ≤ largest-id
         → (pair-at (after-frame w bytes) id x ≡ fresh-pair) × (pair-at (after-frame w bytes) x id ≡ fresh-pair)
-    unfolding Fresh
     shape-forgets-its-pairs x small =
         rw pairs-forgotten (forgotten-below id (w .pairs) 8 x (omega arith))
 
@@ -151,7 +148,7 @@ module _ (w : World) (bytes : List ℕ) where
         rw (at-places .same-body) (set-getD (w .bodies) (first-place bytes) blank-body)
 
     pairs-written : after-frame w bytes .pairs ≡ set (w .pairs) (pair-place id idb)
-        (tested id idb (body-at w id) (body-at w idb) (pair-at w id idb) .pair)
+        (keep (all-tests id idb (body-at w id) (body-at w idb) (pair-at w id idb)) (pair-at w id idb))
     unfolding after-frame changed
     pairs-written =
         rw (test-seen .keeps, test-seen .pair-is, within-place id first-tested, within-place idb second-tested) refl
@@ -165,7 +162,7 @@ module _ (w : World) (bytes : List ℕ) where
 
     pub test-writes-its-pair : length (w .pairs) ≡ 64
         → pair-at (after-frame w bytes) id idb
-        ≡ tested id idb (body-at w id) (body-at w idb) (pair-at w id idb) .pair
+        ≡ keep (all-tests id idb (body-at w id) (body-at w idb) (pair-at w id idb)) (pair-at w id idb)
     test-writes-its-pair size =
         rw pairs-written
         (getD-set-same (w .pairs) (pair-place id idb) _ fresh-pair (omega (arith, first-tested, second-tested)))

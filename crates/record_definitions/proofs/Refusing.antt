@@ -18,10 +18,11 @@ use Rattle.record_definitions.specs.declared.touch.Touch.{Touch}
 use Rattle.record_definitions.specs.declared.frame.Answer.the-variants.{Accepted, Refused, Tested}
 use Rattle.record_definitions.specs.declared.frame.Change.{Change}
 use Rattle.record_definitions.specs.World.{blank-outline, blank-body, fresh-pair, body-at, pair-at, pair-place}
-use Rattle.record_definitions.specs.Touch.{tested}
+use Rattle.record_definitions.specs.Touch.{piece-tested, first-refusal}
 use Rattle.record_definitions.specs.Frame.{frame-refusal, refused, circle-at, circle-change, outline-change}
-use Rattle.record_definitions.specs.Frame.{wall-at, wall-change, place-change, turn-change, test-refusal}
-use Rattle.record_definitions.specs.Frame.{test-change, change-of-kind, change}
+use Rattle.record_definitions.specs.Frame.{wall-at, wall-change, place-change, turn-change, chain-refusal}
+use Rattle.record_definitions.specs.Frame.{chain-change, test-refusal, all-tests, test-change, change-of-kind}
+use Rattle.record_definitions.specs.Frame.{change}
 use Rattle.record_definitions.specs.Step.{first-place, second-place, changed, change-in, after-frame}
 use Rattle.record_definitions.specs.Step.{said-of-frame}
 use Rattle.record_definitions.proofs.Placements.{place-cases, turn-cases}
@@ -68,6 +69,12 @@ module _ (a : Body) (pair : Pair) where
         either (Keeps a pair) (eqb (wall-at bytes .refusal) accepted) _ _ (accepted-keeps _ refl)
         (refused-keeps (wall-at bytes .refusal))
 
+    chain-keeps : Keeps a pair (chain-change a pair bytes)
+    unfolding chain-change
+    chain-keeps =
+        either (Keeps a pair) (eqb (chain-refusal bytes) accepted) _ _ (accepted-keeps _ refl)
+        (refused-keeps (chain-refusal bytes))
+
     place-keeps : Keeps a pair (place-change a pair bytes)
     place-keeps = place-cases a pair bytes (Keeps a pair) refused-keeps (λ xf inside. accepted-keeps _ refl)
 
@@ -77,11 +84,11 @@ module _ (a : Body) (pair : Pair) where
     test-keeps : (ida idb : ℕ) (b : Body) → Keeps a pair (test-change ida idb a b pair)
     unfolding test-change
     test-keeps ida idb b =
-        let t = tested ida idb a b pair in
+        let t = piece-tested ida idb a b pair 0 in
+        let refusal = first-refusal (all-tests ida idb a b pair) in
         let number = test-refusal ida idb (a .kind) (b .kind) in
         either (Keeps a pair) (eqb number accepted) _ _
-        (either (Keeps a pair) (eqb (t .refusal) accepted) _ _ (tested-keeps _ (t .touch) refl)
-        (refused-keeps (t .refusal)))
+        (either (Keeps a pair) (eqb refusal accepted) _ _ (tested-keeps _ (t .touch) refl) (refused-keeps refusal))
         (refused-keeps number)
 
     kind-keeps : (kind : ℕ) (b : Body) → Keeps a pair (change-of-kind kind a b pair bytes)
@@ -91,7 +98,9 @@ module _ (a : Body) (pair : Pair) where
         (either (Keeps a pair) (eqb kind 2) _ _ outline-keeps
         (either (Keeps a pair) (eqb kind 3) _ _ wall-keeps
         (either (Keeps a pair) (eqb kind 4) _ _ place-keeps
-        (either (Keeps a pair) (eqb kind 6) _ _ turn-keeps (test-keeps (byte-at bytes 1) (byte-at bytes 2) b)))))
+        (either (Keeps a pair) (eqb kind 6) _ _ turn-keeps
+        (either (Keeps a pair) (eqb kind 7) _ _ chain-keeps
+        (test-keeps (byte-at bytes 1) (byte-at bytes 2) b))))))
 
     change-refused : (b : Body) (n : ℕ) → change a b pair bytes .said .answer ≡ Refused n
         → change a b pair bytes ≡ refused n a pair

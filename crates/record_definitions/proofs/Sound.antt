@@ -1,14 +1,16 @@
 -- Worlds as lines make them (`Sound`): eight bodies, each without a shape or with one that its frame's call accepted,
--- placed within the range; 64 pairs, each with the ids of a contact. The bodies that frames make are such.
+-- placed within the range; 64 pairs, each with the ids of a contact for each of seven pieces. The bodies that frames
+-- make are such, and so are the pieces of a chain.
 -- Assumes nothing.
-use Prim.Native.Nat.{ℕ, _≤_}
-use mathlib.Core.Path.{_≡_, refl}
+use Prim.Native.Nat.{ℕ, zero, suc, _-_, _≤_, _<_}
+use mathlib.Core.Path.{_≡_, refl, sym, subst}
 use mathlib.Core.Bool.{Bool, true, false, _&&_}
 use mathlib.Core.List.{List}
 use native.Mathlib.Omega.{arith}
 use lib.Dec.{eqb}
 use lib.Ieee.{le, neg, ofBits}
-use lib.ListN.{length, getD}
+use lib.ListN.{length, getD, replicate}
+use borrow.Author.Tests.{eqb-true}
 use Rattle.floats.specs.declared.b2_math.B2Transform.{B2Transform}
 use Rattle.floats.specs.declared.b2_math.B2vec2.{B2vec2}
 use Rattle.floats.specs.Ranges.{point-in-range, radius-in-range, rotation-in-range, transform-in-range}
@@ -25,14 +27,21 @@ use Rattle.contact_definitions.specs.Manifold.{default-manifold}
 use Rattle.contact_definitions.specs.PointStates.{ids-of}
 use Rattle.contact_definitions.proofs.Counts.{either}
 use Rattle.record_definitions.specs.declared.world.Body.{Body}
+use Rattle.record_definitions.specs.declared.world.Chain.{Chain}
+use Rattle.record_definitions.specs.declared.world.Kept.{Kept}
 use Rattle.record_definitions.specs.declared.world.Pair.{Pair}
 use Rattle.record_definitions.specs.declared.world.World.{World}
-use Rattle.record_definitions.specs.World.{fresh-pair, circle-kind, outline-kind, wall-kind, at-origin}
+use Rattle.record_definitions.specs.World.{fresh-kept, fresh-pair, kept-of, chain-kind, chain-body, pieces-of}
+use Rattle.record_definitions.specs.World.{piece-wall, piece-of, circle-kind, outline-kind, wall-kind, at-origin}
 use Rattle.record_definitions.specs.World.{blank-outline, blank-wall, blank-body, circle-body, outline-body}
 use Rattle.record_definitions.specs.World.{wall-body, placed, body-at}
-use Rattle.record_definitions.specs.Frame.{circle-at, wall-at}
+use Rattle.record_definitions.specs.Frame.{circle-at, wall-at, long-piece}
+use Rattle.contact_definitions.specs.declared.b2_collision.B2manifold.{B2manifold}
+use Rattle.contact_definitions.specs.Manifold.{default-manifold}
+use Rattle.contact_definitions.specs.PointStates.{ids-of}
 use Rattle.record_definitions.specs.Touch.{largest-count}
-use Rattle.record_definitions.proofs.Changes.{both}
+use Rattle.record_definitions.proofs.Changes.{by-choice, both}
+use Rattle.record_definitions.proofs.FreshPairs.{get-same}
 
 -- ---- an outline that the builder made of some points
 pub record Built (outline : B2polygonShape) : Type 0 where
@@ -40,19 +49,32 @@ pub record Built (outline : B2polygonShape) : Type 0 where
   pub taken : b2-polygon-shape-set blank-outline points .refusal ≡ accepted
   pub is : outline ≡ b2-polygon-shape-set blank-outline points .shape
 
+-- a chain of two to eight points, each piece a wall in range and longer than 0.005
+pub record SoundChain (chain : Chain) : Type 0 where
+  pub enough : 2 ≤ chain .count
+  pub few : chain .count ≤ 8
+  pub places : length (chain .points) ≡ 10
+  pub in-range : (i : ℕ) → i < chain .count - 1 → edge-in-range (piece-wall chain i) ≡ true
+  pub long : (i : ℕ) → i < chain .count - 1 → long-piece chain i ≡ true
+
 pub record SoundBody (body : Body) : Type 0 where
   pub placement : transform-in-range (body .xf) ≡ true
   pub circle : body .kind ≡ circle-kind → circle-in-range (body .circle) ≡ true
   pub outline : body .kind ≡ outline-kind → Built (body .outline)
   pub wall : body .kind ≡ wall-kind → edge-in-range (body .wall) ≡ true
+  pub chain : body .kind ≡ chain-kind → SoundChain (body .chain)
 
--- what a pair keeps is of a contact with two places for points, and its count is below 2^32
-pub record SoundPair (pair : Pair) : Type 0 where
+-- what is kept is of a contact with two places for points, and its count is below 2^32
+pub record SoundKept (kept : Kept) : Type 0 where
   pub last : B2manifold
   pub two-places : length (last .points) ≡ 2
   pub few : last .«point_count» ≤ 2
-  pub ids-are : pair .ids ≡ ids-of last
-  pub held : pair .touches ≤ largest-count
+  pub ids-are : kept .ids ≡ ids-of last
+  pub held : kept .touches ≤ largest-count
+
+pub record SoundPair (pair : Pair) : Type 0 where
+  pub seven : length (pair .pieces) ≡ 7
+  pub piece : (i : ℕ) → SoundKept (kept-of pair i)
 
 pub record Sound (w : World) : Type 0 where
   pub bodies-size : length (w .bodies) ≡ 8
@@ -61,17 +83,25 @@ pub record Sound (w : World) : Type 0 where
   pub each-pair : (place : ℕ) → SoundPair (getD (w .pairs) place fresh-pair)
 
 -- ---- a pair before any test: the contact is a default manifold
-pub fresh-pair-sound : SoundPair fresh-pair
-unfolding fresh-pair ids-of
-fresh-pair-sound =
+fresh-kept-sound : SoundKept fresh-kept
+unfolding ids-of
+fresh-kept-sound =
     record { last = default-manifold; two-places = refl; few = omega arith; ids-are = refl; held = omega arith }
+
+pub kept-of-fresh : (i : ℕ) → kept-of fresh-pair i ≡ fresh-kept
+unfolding fresh-pair
+kept-of-fresh i = get-same fresh-kept 7 i
+
+pub fresh-pair-sound : SoundPair fresh-pair
+unfolding fresh-pair
+fresh-pair-sound = record { seven = refl; piece = λ i. subst SoundKept (sym (kept-of-fresh i)) fresh-kept-sound }
 
 -- ---- bodies that frames make
 at-origin-in-range : transform-in-range at-origin ≡ true
 unfolding transform-in-range point-in-range rotation-in-range ofBits neg le
 at-origin-in-range = refl
 
-skin-in-range : radius-in-range (blank-wall .«m_radius») ≡ true
+pub skin-in-range : radius-in-range (blank-wall .«m_radius») ≡ true
 unfolding radius-in-range ofBits le
 skin-in-range = refl
 
@@ -82,6 +112,7 @@ blank-sound = record {
   circle = λ never. absurd (omega arith);
   outline = λ never. absurd (omega arith);
   wall = λ never. absurd (omega arith);
+  chain = λ never. absurd (omega arith);
 }
 
 pub circle-sound : (bytes : List ℕ) → circle-in-range (circle-at bytes) ≡ true
@@ -92,6 +123,7 @@ circle-sound bytes taken = record {
   circle = λ is. taken;
   outline = λ never. absurd (omega arith);
   wall = λ never. absurd (omega arith);
+  chain = λ never. absurd (omega arith);
 }
 
 pub outline-sound : (outline : B2polygonShape) → Built outline → SoundBody (outline-body outline)
@@ -101,6 +133,7 @@ outline-sound outline built = record {
   circle = λ never. absurd (omega arith);
   outline = λ is. built;
   wall = λ never. absurd (omega arith);
+  chain = λ never. absurd (omega arith);
 }
 
 pub wall-sound : (wall : B2edgeShape) → edge-in-range wall ≡ true → SoundBody (wall-body wall)
@@ -110,6 +143,7 @@ wall-sound wall taken = record {
   circle = λ never. absurd (omega arith);
   outline = λ never. absurd (omega arith);
   wall = λ is. taken;
+  chain = λ never. absurd (omega arith);
 }
 
 pub placed-sound : (body : Body) (xf : B2Transform) → SoundBody body → transform-in-range xf ≡ true
@@ -120,7 +154,40 @@ placed-sound body xf sound taken = record {
   circle = sound .circle;
   outline = sound .outline;
   wall = sound .wall;
+  chain = sound .chain;
 }
+
+pub chain-body-sound : (chain : Chain) → SoundChain chain → SoundBody (chain-body chain)
+unfolding chain-body
+chain-body-sound chain sound = record {
+  placement = at-origin-in-range;
+  circle = λ never. absurd (omega arith);
+  outline = λ never. absurd (omega arith);
+  wall = λ never. absurd (omega arith);
+  chain = λ is. sound;
+}
+
+-- ---- pieces of bodies
+pub some-piece : (body : Body) → SoundBody body → (0 < pieces-of body) × (pieces-of body ≤ 7)
+some-piece body sound =
+    by-choice (λ (n : ℕ). (0 < n) × (n ≤ 7)) (eqb (body .kind) chain-kind) _ _
+    (λ is. let chain = sound .chain (eqb-true (body .kind) chain-kind is) in
+    (omega (arith, chain .enough), omega (arith, chain .few)))
+    (λ other. (omega arith, omega arith))
+
+pub piece-sound : (body : Body) (i : ℕ) → SoundBody body → i < pieces-of body → SoundBody (piece-of body i)
+unfolding piece-of placed wall-body
+piece-sound body i sound within =
+    by-choice SoundBody (eqb (body .kind) chain-kind) _ _
+    (λ is. let chain = sound .chain (eqb-true (body .kind) chain-kind is) in
+    record {
+      placement = sound .placement;
+      circle = λ never. absurd (omega arith);
+      outline = λ never. absurd (omega arith);
+      wall = λ wall. chain .in-range i (simp is at within);
+      chain = λ never. absurd (omega arith);
+    })
+    (λ other. sound)
 
 -- ---- walls that are accepted are in range
 two-sided-in-range : (v1 v2 : B2vec2) (t : Bool) → point-in-range v1 && point-in-range v2 ≡ t

@@ -7,7 +7,7 @@ use native.Mathlib.Omega.{arith}
 use lib.Dec.{eqb}
 use borrow.Author.Tests.{eqb-true}
 use Rattle.lines.specs.Fields.{byte-at}
-use Rattle.shape_definitions.specs.Refusal.{accepted}
+use Rattle.shape_definitions.specs.Refusal.{accepted, malformed-frame, unknown-id}
 use Rattle.contact_definitions.proofs.Counts.{either}
 use Rattle.record_definitions.specs.declared.world.Body.{Body}
 use Rattle.record_definitions.specs.declared.world.Pair.{Pair}
@@ -15,13 +15,13 @@ use Rattle.record_definitions.specs.declared.touch.Touch.{Touch}
 use Rattle.record_definitions.specs.declared.frame.Change.{Change}
 use Rattle.record_definitions.specs.declared.frame.Answer.the-variants.{Refused, Tested}
 use Rattle.record_definitions.specs.World.{no-body}
-use Rattle.record_definitions.specs.Touch.{tested}
-use Rattle.record_definitions.specs.Frame.{frame-refusal, refused, listed, test-refusal, test-change}
+use Rattle.record_definitions.specs.Touch.{piece-tested, first-refusal}
+use Rattle.record_definitions.specs.Frame.{frame-refusal, refused, listed, test-refusal, test-change, all-tests}
 use Rattle.record_definitions.specs.Frame.{change-of-kind, change}
 use Rattle.record_definitions.proofs.FrameRefusals.{of-bytes-alone}
 use Rattle.record_definitions.proofs.Changes.{by-choice}
 use Rattle.record_definitions.proofs.Sound.{SoundBody}
-use Rattle.record_definitions.proofs.SoundTests.{NotOfHost, test-fine}
+use Rattle.record_definitions.proofs.SoundTests.{NotOfHost, all-fine}
 
 number-fine : (ida idb kinda kindb : ℕ) → NotOfHost (test-refusal ida idb kinda kindb)
 unfolding test-refusal
@@ -32,7 +32,7 @@ number-fine ida idb kinda kindb =
     (λ e. absurd (omega arith), λ e. absurd (omega arith)) (λ e. absurd (omega arith), λ e. absurd (omega arith)))
 
 -- a pair that nothing speaks against is listed
-listed-by : (ida idb kinda kindb : ℕ) (empty same known : Bool)
+pub listed-by : (ida idb kinda kindb : ℕ) (empty same known : Bool)
     → eqb kinda no-body || eqb kindb no-body ≡ empty → eqb ida idb ≡ same → listed kinda kindb ≡ known
     → test-refusal ida idb kinda kindb ≡ accepted → listed kinda kindb ≡ true
 unfolding test-refusal
@@ -67,12 +67,13 @@ module _ (a b : Body) (pair : Pair) (bytes : List ℕ) (a-sound : SoundBody a) (
   unfolding test-change
   test-says ida idb =
       let number = test-refusal ida idb (a .kind) (b .kind) in
-      let t = tested ida idb a b pair in
+      let t = piece-tested ida idb a b pair 0 in
+      let refusal = first-refusal (all-tests ida idb a b pair) in
       by-choice Says (eqb number accepted) _ _
       (λ nothing-against. let is-listed = listed-by ida idb (a .kind) (b .kind) _ _ _ refl refl refl
       (eqb-true number accepted nothing-against) in
-      either Says (eqb (t .refusal) accepted) _ _ (tested-says _ (t .touch) refl)
-      (refused-says (t .refusal) (test-fine a b a-sound b-sound ida idb pair is-listed)))
+      either Says (eqb refusal accepted) _ _ (tested-says _ (t .touch) refl)
+      (refused-says refusal (all-fine a b a-sound b-sound ida idb pair is-listed)))
       (λ against. refused-says number (number-fine ida idb (a .kind) (b .kind)))
 
   pub test-frame-fine : byte-at bytes 0 ≡ 5 → (n : ℕ) → change a b pair bytes .said .answer ≡ Refused n → NotOfHost n

@@ -1,6 +1,6 @@
 -- Which refusals a test can meet in a sound world: its outlines have three to eight corners and its bodies are placed
 -- within the range, so neither 7 nor 6. Assumes nothing.
-use Prim.Native.Nat.{ℕ, _≤_}
+use Prim.Native.Nat.{ℕ, zero, suc, _+_, _-_, _≤_, _<_}
 use mathlib.Core.Path.{_≡_, refl, sym, _∙_}
 use mathlib.Core.Bool.{Bool, true, false, not, _&&_, _||_, false≢true}
 use native.Mathlib.Omega.{arith}
@@ -32,14 +32,17 @@ use Rattle.contact_definitions.specs.EdgeAxis.{right-of}
 use Rattle.contact_definitions.specs.WorldManifold.{b2-world-manifold-initialize, manifold-in-range}
 use Rattle.contact_definitions.proofs.Counts.{either}
 use Rattle.record_definitions.specs.declared.world.Body.{Body}
+use Rattle.record_definitions.specs.declared.world.Kept.{Kept}
 use Rattle.record_definitions.specs.declared.world.Pair.{Pair}
-use Rattle.record_definitions.specs.World.{circle-kind, outline-kind, wall-kind, blank-outline}
+use Rattle.record_definitions.specs.World.{circle-kind, outline-kind, wall-kind, chain-kind, blank-outline}
+use Rattle.record_definitions.specs.World.{wall-body, placed, pieces-of, piece-of}
 use Rattle.record_definitions.specs.Touch.{meet-circle, meet-outline, meet, skin, world-points, tested-as, tested}
-use Rattle.record_definitions.specs.Frame.{listed}
+use Rattle.record_definitions.specs.Touch.{piece-tested, pieces-tested, first-refusal}
+use Rattle.record_definitions.specs.Frame.{listed, all-tests}
 use Rattle.record_definitions.proofs.Changes.{by-choice}
 use Rattle.record_definitions.proofs.Counting.{met-few}
 use Rattle.record_definitions.proofs.BuiltCounts.{built-count}
-use Rattle.record_definitions.proofs.Sound.{Built, SoundBody}
+use Rattle.record_definitions.proofs.Sound.{Built, SoundBody, some-piece, piece-sound}
 
 -- neither of a placement nor of a count
 abbrev pub NotOfHost : ℕ → Type 0
@@ -52,7 +55,7 @@ Fine answer = NotOfHost (answer .refusal)
 right-count : (count : ℕ) → 3 ≤ count → count ≤ 8 → miscounted count ≡ false
 right-count count enough few = simp (le-ltb count 3 enough, le-ltb 8 count few)
 
-counted-right : (outline : B2polygonShape) → Built outline → miscounted (outline .«m_count») ≡ false
+pub counted-right : (outline : B2polygonShape) → Built outline → miscounted (outline .«m_count») ≡ false
 counted-right outline built =
     let right = built-count blank-outline (built .points) (built .taken) in
     rw (built .is) (right-count _ (right .0) (right .1))
@@ -90,22 +93,22 @@ edge-circle-fine old edge q radius centre =
     (either Fine (lt zero32 (b2-dot e e)) _ _ (accepted-fine _) (too-short-fine old))))
 
 -- a listed pair whose second is no circle has an outline there
-none-left : (x y z : Bool) → (x && false) || (y && false) || (y && false) || (z && false) || (z && false) ≡ false
-none-left true true true = refl
-none-left true true false = refl
-none-left true false true = refl
-none-left true false false = refl
-none-left false true true = refl
-none-left false true false = refl
-none-left false false true = refl
-none-left false false false = refl
+never : (x : Bool) → x && false ≡ false
+never true = refl
+never false = refl
 
-second-is-outline : (a b : ℕ) → listed a b ≡ true → eqb b circle-kind ≡ false → b ≡ outline-kind
+pub none-left : (x y z c : Bool)
+    → (x && false) || (y && false) || (y && false) || (z && false) || (z && false) || (c && false) || (c && false)
+    ≡ false
+none-left x y z c = simp (never x, never y, never z, never c)
+
+pub second-is-outline : (a b : ℕ) → listed a b ≡ true → eqb b circle-kind ≡ false → b ≡ outline-kind
 unfolding listed
 second-is-outline a b is no-circle =
     by-test (eqb b outline-kind) (eqb-true b outline-kind)
     (λ no-outline. let none : listed a b ≡ false =
-    rw (no-circle, no-outline) (none-left (eqb a circle-kind) (eqb a outline-kind) (eqb a wall-kind)) in
+    rw (no-circle, no-outline)
+    (none-left (eqb a circle-kind) (eqb a outline-kind) (eqb a wall-kind) (eqb a chain-kind)) in
     absurd (false≢true (sym none ∙ is)))
 
 module _ (a b : Body) (a-sound : SoundBody a) (b-sound : SoundBody b) where
@@ -172,11 +175,52 @@ module _ (a b : Body) (a-sound : SoundBody a) (b-sound : SoundBody b) where
       FineWorld : WorldAnswer → Type 0
       FineWorld answer = NotOfHost (answer .refusal)
 
-  pub test-fine : (ida idb : ℕ) (pair : Pair) → listed (a .kind) (b .kind) ≡ true
-      → NotOfHost (tested ida idb a b pair .refusal)
+  test-fine : (ida idb : ℕ) (kept : Kept) → listed (a .kind) (b .kind) ≡ true
+      → NotOfHost (tested ida idb a b kept .refusal)
   unfolding tested tested-as Fine
-  test-fine ida idb pair is-listed =
+  test-fine ida idb kept is-listed =
       by-choice NotOfHost (eqb (meet a b .refusal) accepted) _ _
       (λ taken. few-points (meet a b .manifold)
       (met-few a b (eqb-true (meet a b .refusal) accepted taken) .at-most-two))
       (λ not-taken. met-fine is-listed)
+
+-- ---- the pieces of a body that is listed with another are listed too
+as-wall : (circle outline : Bool) → (false && circle) || (false && circle) || (false && outline) || (false && circle)
+    || (false && outline) || (true && circle) || (true && outline) ≡ true
+    → (false && circle) || (false && circle) || (false && outline) || (true && circle) || (true && outline)
+    || (false && circle) || (false && outline) ≡ true
+as-wall true true e = refl
+as-wall true false e = refl
+as-wall false true e = refl
+as-wall false false e = e
+
+pub piece-listed : (body : Body) (i kind : ℕ) → listed (body .kind) kind ≡ true
+    → listed (piece-of body i .kind) kind ≡ true
+unfolding piece-of placed wall-body listed
+piece-listed body i kind is =
+    by-choice (λ (piece : Body). listed (piece .kind) kind ≡ true) (eqb (body .kind) chain-kind) _ _
+    (λ chain. as-wall (eqb kind circle-kind) (eqb kind outline-kind)
+    (rw (eqb-true (body .kind) chain-kind chain) at is))
+    (λ other. is)
+
+module _ (a b : Body) (a-sound : SoundBody a) (b-sound : SoundBody b) (ida idb : ℕ) (pair : Pair)
+    (is-listed : listed (a .kind) (b .kind) ≡ true) where
+  pub piece-fine : (i : ℕ) → i < pieces-of a → NotOfHost (piece-tested ida idb a b pair i .refusal)
+  unfolding piece-tested
+  piece-fine i within =
+      test-fine (piece-of a i) b (piece-sound a i a-sound within) b-sound ida idb _
+      (piece-listed a i (b .kind) is-listed)
+
+  some-fine : (j n : ℕ) → j + n ≤ pieces-of a → NotOfHost (first-refusal (pieces-tested ida idb a b pair j n))
+  unfolding pieces-tested first-refusal
+  some-fine j zero few = (λ e. absurd (omega arith), λ e. absurd (omega arith))
+  some-fine j (suc n) few =
+      either NotOfHost (eqb (piece-tested ida idb a b pair j .refusal) accepted) _ _
+      (some-fine (suc j) n (omega arith)) (piece-fine j (omega arith))
+
+  pub all-fine : NotOfHost (first-refusal (all-tests ida idb a b pair))
+  unfolding first-refusal
+  all-fine =
+      let some = some-piece a a-sound .0 in
+      either NotOfHost (eqb (piece-tested ida idb a b pair 0 .refusal) accepted) _ _
+      (some-fine 1 (pieces-of a - 1) (omega arith)) (piece-fine 0 some)

@@ -17,9 +17,17 @@ use Rattle.contact_definitions.specs.declared.b2_collision.B2pointState.the-var
 use Rattle.contact_definitions.specs.declared.b2_collision.B2pointState.the-variants.{B2PersistState}
 use Rattle.contact_definitions.specs.declared.b2_collision.CountedIds.{CountedIds}
 use Rattle.contact_definitions.specs.declared.b2_collision.PointStates.{PointStates}
-use Rattle.contact_definitions.specs.Manifold.{counted-points}
+use Rattle.contact_definitions.specs.Manifold.{as-byte, counted-points}
 use Rattle.contact_definitions.specs.PointStates.{id-among, counted-ids, ids-of, ids-in, point-state}
 use Rattle.contact_definitions.specs.PointStates.{states-of-ids, b2-get-point-states}
+
+-- ---- a count of at most two is the same in a byte
+byte-of-count : (m : B2manifold) → m .«point_count» ≤ 2 → as-byte (m .«point_count») ≡ m .«point_count»
+byte-of-count m few = omega (arith, few)
+
+pub count-of : (m : B2manifold) → m .«point_count» ≤ 2 → ids-of m .count ≡ m .«point_count»
+unfolding ids-of
+count-of m few = byte-of-count m few
 
 -- ---- the ids of a manifold are those of the points that it counts
 ids-by-count : (count : ℕ) (p q : B2manifoldPoint) → count ≤ 2
@@ -35,7 +43,8 @@ pub ids-of-points : (m : B2manifold) (points : List B2manifoldPoint) → m .poin
 unfolding ids-in ids-of counted-ids counted-points
 ids-of-points m [] is size few = absurd (omega arith)
 ids-of-points m (p ∷ []) is size few = absurd (omega arith)
-ids-of-points m (p ∷ q ∷ []) is size few = rw is (ids-by-count (m .«point_count») p q few)
+ids-of-points m (p ∷ q ∷ []) is size few =
+    rw (is, byte-of-count m few) (ids-by-count (m .«point_count») p q few)
 ids-of-points m (p ∷ q ∷ r ∷ rest) is size few = absurd (omega arith)
 
 pub states-are-box2ds : (given : PointStates) (old new : B2manifold)

@@ -15,11 +15,12 @@ use Rattle.contact_definitions.specs.PointStates.{same-id, id-among, ids-of, id
 use Rattle.contact_definitions.specs.WorldManifold.{default-world-manifold}
 use Rattle.contact_definitions.proofs.StateCases.{counting}
 use Rattle.record_definitions.specs.declared.touch.Touch.{Touch}
-use Rattle.record_definitions.specs.World.{no-body, circle-kind, outline-kind, wall-kind, pair-place}
+use Rattle.record_definitions.specs.World.{no-body, circle-kind, outline-kind, wall-kind, chain-kind}
+use Rattle.record_definitions.specs.World.{pair-place}
 use Rattle.record_definitions.specs.Touch.{states-of, largest-count, touches-after, shown-kind, touch-of}
 use Rattle.record_definitions.specs.Touch.{tested-as}
 use Rattle.record_definitions.specs.Frame.{frame-length, listed}
-use Rattle.record_definitions.specs.Answer.{longest-answer, longest-line}
+use Rattle.record_definitions.specs.Answer.{longest-answer, longest-line, longest-said}
 use Rattle.record_definitions.specs.Reading.{kept-length}
 
 -- one point, of an outline's corner on a wall's face
@@ -33,17 +34,20 @@ tested-after kept contact =
     (record { world = default-world-manifold; refusal = accepted }) .touch
 
 pub record TableCases : Type 0 where
-  -- by the kind, 0 to 7, where the third byte is 0
-  pub lengths : map (λ (kind : ℕ). frame-length kind 0) (0 ∷ 1 ∷ 2 ∷ 3 ∷ 4 ∷ 5 ∷ 6 ∷ 7 ∷ [])
-      ≡ 0 ∷ 14 ∷ 3 ∷ 19 ∷ 18 ∷ 3 ∷ 12 ∷ 0 ∷ []
+  -- by the kind, 0 to 8, where the third byte is 0
+  pub lengths : map (λ (kind : ℕ). frame-length kind 0) (0 ∷ 1 ∷ 2 ∷ 3 ∷ 4 ∷ 5 ∷ 6 ∷ 7 ∷ 8 ∷ [])
+      ≡ 0 ∷ 14 ∷ 3 ∷ 19 ∷ 18 ∷ 3 ∷ 12 ∷ 19 ∷ 0 ∷ []
   -- of an outline by its count, of a wall by its flag
   pub outline-lengths : map (frame-length 2) (1 ∷ 2 ∷ 3 ∷ 8 ∷ 9 ∷ 255 ∷ []) ≡ 11 ∷ 19 ∷ 27 ∷ 67 ∷ 0 ∷ 0 ∷ []
   pub wall-lengths : map (frame-length 3) (1 ∷ 2 ∷ 255 ∷ []) ≡ 35 ∷ 0 ∷ 0 ∷ []
-  -- a row for each kind of the first body: none, circle, outline, wall
-  pub after-none : map (listed no-body) (0 ∷ 1 ∷ 2 ∷ 3 ∷ []) ≡ false ∷ false ∷ false ∷ false ∷ []
-  pub after-circle : map (listed circle-kind) (0 ∷ 1 ∷ 2 ∷ 3 ∷ []) ≡ false ∷ true ∷ false ∷ false ∷ []
-  pub after-outline : map (listed outline-kind) (0 ∷ 1 ∷ 2 ∷ 3 ∷ []) ≡ false ∷ true ∷ true ∷ false ∷ []
-  pub after-wall : map (listed wall-kind) (0 ∷ 1 ∷ 2 ∷ 3 ∷ []) ≡ false ∷ true ∷ true ∷ false ∷ []
+  -- of a chain by its count
+  pub chain-lengths : map (frame-length 7) (1 ∷ 2 ∷ 3 ∷ 8 ∷ 9 ∷ 255 ∷ []) ≡ 27 ∷ 35 ∷ 43 ∷ 83 ∷ 0 ∷ 0 ∷ []
+  -- a row for each kind of the first body: none, circle, outline, wall, chain
+  pub after-none : map (listed no-body) (0 ∷ 1 ∷ 2 ∷ 3 ∷ 7 ∷ []) ≡ false ∷ false ∷ false ∷ false ∷ false ∷ []
+  pub after-circle : map (listed circle-kind) (0 ∷ 1 ∷ 2 ∷ 3 ∷ 7 ∷ []) ≡ false ∷ true ∷ false ∷ false ∷ false ∷ []
+  pub after-outline : map (listed outline-kind) (0 ∷ 1 ∷ 2 ∷ 3 ∷ 7 ∷ []) ≡ false ∷ true ∷ true ∷ false ∷ false ∷ []
+  pub after-wall : map (listed wall-kind) (0 ∷ 1 ∷ 2 ∷ 3 ∷ 7 ∷ []) ≡ false ∷ true ∷ true ∷ false ∷ false ∷ []
+  pub after-chain : map (listed chain-kind) (0 ∷ 1 ∷ 2 ∷ 3 ∷ 7 ∷ []) ≡ false ∷ true ∷ true ∷ false ∷ false ∷ []
   -- the corners of the table of pairs
   pub places : pair-place 0 1 ∷ pair-place 1 0 ∷ pair-place 7 7 ∷ [] ≡ 1 ∷ 8 ∷ 63 ∷ []
   -- by the count of a manifold of kind face B: without a point the kind is not printed
@@ -63,7 +67,7 @@ pub record TableCases : Type 0 where
   pub largest : largest-count ≡ 0xffff_ffff
   pub last-counted : touches-after (largest-count - 1) 0 1 ≡ largest-count
   pub held : touches-after largest-count 0 2 ≡ largest-count
-  pub sizes : longest-answer ∷ longest-line ∷ kept-length ∷ [] ≡ 45 ∷ 91 ∷ 135 ∷ []
+  pub sizes : longest-answer ∷ longest-line ∷ longest-said ∷ kept-length ∷ [] ≡ 45 ∷ 91 ∷ 637 ∷ 167 ∷ []
 
 pub table-cases : TableCases
 unfolding frame-length listed with-kind with-count same-id id-among ids-of ids-in point-state states-of-ids
@@ -72,10 +76,12 @@ table-cases = record {
   lengths = refl;
   outline-lengths = refl;
   wall-lengths = refl;
+  chain-lengths = refl;
   after-none = refl;
   after-circle = refl;
   after-outline = refl;
   after-wall = refl;
+  after-chain = refl;
   places = refl;
   kinds-shown = refl;
   counted-from-none = refl;

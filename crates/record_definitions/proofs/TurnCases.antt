@@ -25,11 +25,13 @@ use Rattle.contact_definitions.specs.WorldManifold.{manifold-in-range, b2-world
 use Rattle.record_definitions.specs.declared.world.World.{World}
 use Rattle.record_definitions.specs.declared.frame.Answer.the-variants.{Accepted, Refused}
 use Rattle.record_definitions.specs.World.{blank-body, circle-body, placed, fresh-pair, fresh-world, forget-below}
+use Rattle.record_definitions.specs.World.{piece-of}
 use Rattle.record_definitions.specs.Touch.{meet-circle, meet, skin, world-points, touches-after, states-of}
-use Rattle.record_definitions.specs.Touch.{touch-of, tested-as, tested}
+use Rattle.record_definitions.specs.Touch.{touch-of, tested-as, tested, piece-tested, pieces-tested}
+use Rattle.record_definitions.specs.Touch.{first-refusal}
 use Rattle.record_definitions.specs.Frame.{frame-length, well-formed, frame-refusal, circle-change, place-change}
 use Rattle.record_definitions.specs.Frame.{turn-change, listed, test-refusal, test-change, change-of-kind, change}
-use Rattle.record_definitions.specs.Answer.{head-bytes, point-bytes, touch-bytes}
+use Rattle.record_definitions.specs.Answer.{head-bytes, point-bytes, touch-bytes, touch-lines}
 use Rattle.record_definitions.specs.Step.{change-in, changed, after-frame, said-of-frame}
 use Rattle.record_definitions.specs.Touches.{lines-from, printed-lines, touches}
 use Rattle.record_definitions.specs.TurnFrames.{frame-by-turn, frame-by-heading, turned}
@@ -107,15 +109,15 @@ pub record TurnCases : Type 0 where
 pub turn-cases : TurnCases
 unfolding neg add sub mul div le lt eq ofBits toBits root-digits whole-root rounded-root sqrt b2-sqrt b2-add b2-sub
     b2-neg b2-scale b2-dot b2-length-squared b2-length b2-distance-vec2-squared b2-normalize b2-mul-rot-by-vec2
-    b2-mul-transform-by-vec2 point-in-range radius-in-range rotation-in-range transform-in-range
-    local-normal-in-range contact-point-in-range sines quarter-wave opposite heading vector-at rotation-at placement-at
-    unhex frame-of hex circle-in-range farther with-local-point with-count with-one-point counted-points same-id
-    id-among ids-of ids-in point-state states-of-ids points-in-range manifold-in-range b2-world-manifold-initialize
-    blank-body circle-body placed fresh-pair fresh-world forget-below meet-circle meet skin world-points touches-after
-    states-of touch-of tested-as tested frame-length well-formed frame-refusal circle-change place-change turn-change
-    listed test-refusal test-change change-of-kind change head-bytes point-bytes touch-bytes change-in changed
-    after-frame said-of-frame lines-from printed-lines touches circles-manifold b2-collide-circles circles-normal
-    world-of-circles
+    b2-mul-transform-by-vec2 point-in-range radius-in-range rotation-in-range transform-in-range local-normal-in-range
+    contact-point-in-range sines quarter-wave opposite heading vector-at rotation-at placement-at unhex frame-of hex
+    circle-in-range farther with-local-point with-count with-one-point counted-points same-id id-among ids-of ids-in
+    point-state states-of-ids points-in-range manifold-in-range b2-world-manifold-initialize blank-body circle-body
+    placed piece-of fresh-pair fresh-world forget-below meet-circle meet skin world-points touches-after states-of
+    touch-of tested-as tested piece-tested pieces-tested first-refusal frame-length well-formed frame-refusal
+    circle-change place-change turn-change listed test-refusal test-change change-of-kind change head-bytes point-bytes
+    touch-bytes touch-lines change-in changed after-frame said-of-frame lines-from printed-lines touches
+    circles-manifold b2-collide-circles circles-normal world-of-circles
 turn-cases = record {
   each-quarter = refl;
   quarter-turns = refl;

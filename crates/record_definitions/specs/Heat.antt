@@ -1,12 +1,12 @@
--- Document 01, "The touch record", and document 02, request 02, over a whole heat: what an ordered pair of ids
--- remembers, counts and prints hangs on the contacts of its accepted tests since the last accepted new shape under
--- either id, and on nothing else. So "a resting contact recorded as a fresh push" is ruled out over a heat, not a step.
--- Definitions only.
+-- Document 01, "The touch record", and document 02, requests 02 and 03, over a whole heat: what an ordered pair of ids
+-- remembers, counts and prints, of a chain each piece by itself, hangs on the contacts of its accepted tests since the
+-- last accepted new shape under either id, and on nothing else. So "a resting contact recorded as a fresh push" is
+-- ruled out over a heat, not a step. Definitions only.
 use Prim.Native.Nat.{ℕ, suc, _<_, min}
 use mathlib.Core.Path.{_≡_}
 use mathlib.Core.Bool.{Bool, true, cond, _&&_, _||_}
 use mathlib.Core.List.{List, [], _∷_}
-use lib.Dec.{eqb}
+use lib.Dec.{eqb, ltb}
 use Rattle.lines.specs.Fields.{byte-at}
 use Rattle.lines.specs.Hex.{frame-of}
 use Rattle.shape_definitions.specs.Refusal.{accepted}
@@ -19,9 +19,11 @@ use Rattle.record_definitions.specs.declared.world.World.{World}
 use Rattle.record_definitions.specs.declared.touch.Touch.{Touch}
 use Rattle.record_definitions.specs.declared.frame.Answer.{Answer}
 use Rattle.record_definitions.specs.declared.frame.Answer.the-variants.{Accepted, Refused, Tested}
-use Rattle.record_definitions.specs.World.{circle-kind, outline-kind, wall-kind, fresh-world, body-at, pair-at}
+use Rattle.record_definitions.specs.World.{circle-kind, outline-kind, wall-kind, chain-kind, pieces-of}
+use Rattle.record_definitions.specs.World.{piece-of, kept-of, fresh-world, body-at, pair-at}
 use Rattle.record_definitions.specs.Touch.{meet, touch-begins, largest-count}
 use Rattle.record_definitions.specs.Rulebook.{Rulebook}
+use Rattle.record_definitions.specs.Answer.{result-of}
 use Rattle.record_definitions.specs.Step.{after-line, said-of-line}
 
 -- the world after some lines
@@ -29,26 +31,34 @@ abbrev pub after-lines : World → List (List ℕ) → World
 after-lines w [] = w
 after-lines w (line ∷ lines) = after-lines (after-line w line) lines
 
--- ---- the contacts of a pair that count: of its accepted tests since a new shape under either id, the latest first
+-- ---- the contacts that count, of an ordered pair and a piece of its first body: of the accepted tests since a new
+-- shape under either id, the latest first
 abbrev pub defines-shape : List ℕ → Bool
 defines-shape frame =
     eqb (byte-at frame 0) circle-kind || eqb (byte-at frame 0) outline-kind || eqb (byte-at frame 0) wall-kind
+    || eqb (byte-at frame 0) chain-kind
 
-module _ (a b : ℕ) where
+module _ (a b i : ℕ) where
   -- after one more frame, by its answer: an accepted shape of either id leaves none, an accepted test of the pair adds
-  -- its contact, and nothing else changes them
-  abbrev pub with-answer : Answer → List ℕ → B2manifold → List B2manifold → List B2manifold
-  with-answer Accepted frame contact earlier =
+  -- the contact of the piece where the first body has it, and nothing else changes them
+  abbrev pub with-answer : Answer → List ℕ → Bool → B2manifold → List B2manifold → List B2manifold
+  with-answer Accepted frame there contact earlier =
       cond (defines-shape frame && (eqb (byte-at frame 1) a || eqb (byte-at frame 1) b)) [] earlier
-  with-answer (Refused number) frame contact earlier = earlier
-  with-answer (Tested t) frame contact earlier = cond (eqb (t .a) a && eqb (t .b) b) (contact ∷ earlier) earlier
+  with-answer (Refused number) frame there contact earlier = earlier
+  with-answer (Tested t) frame there contact earlier =
+      cond (eqb (t .a) a && eqb (t .b) b && there) (contact ∷ earlier) earlier
 
-  -- the contact of the two bodies as they stand
+  -- the first body as it stands has the piece
+  abbrev pub piece-there : World → Bool
+  piece-there w = ltb i (pieces-of (body-at w a))
+
+  -- the contact of the piece with the second body, as they stand
   abbrev pub contact-in : World → B2manifold
-  contact-in w = meet (body-at w a) (body-at w b) .manifold
+  contact-in w = meet (piece-of (body-at w a) i) (body-at w b) .manifold
 
   abbrev pub with-line : World → List ℕ → List B2manifold → List B2manifold
-  with-line w line earlier = with-answer (said-of-line w line .answer) (frame-of line) (contact-in w) earlier
+  with-line w line earlier =
+      with-answer (said-of-line w line .answer) (frame-of line) (piece-there w) (contact-in w) earlier
 
   unfoldable pub contacts-after : World → List B2manifold → List (List ℕ) → List B2manifold
   contacts-after w earlier [] = earlier
@@ -92,12 +102,15 @@ pub record NextTest (earlier : List B2manifold) (contact : B2manifold) (t : Touc
   pub rulebook : Rulebook (last-contact earlier .«point_count») (contact .«point_count») (touches-of earlier)
       (t .touches)
 
--- ---- the law of a heat, for an ordered pair of ids and any lines from a fresh start
-pub record HeatLaw (a b : ℕ) (lines : List (List ℕ)) : Type 0 where
-  -- the pair remembers the last of these contacts, and the touches begun
-  pub remembered : pair-at (after-lines fresh-world lines) a b .ids ≡ ids-of (last-contact (contacts-of a b lines))
-  pub counted : pair-at (after-lines fresh-world lines) a b .touches ≡ touches-of (contacts-of a b lines)
-  -- and so it prints, whatever line comes next
+-- ---- the law of a heat, for an ordered pair of ids, a piece of the first and any lines from a fresh start
+pub record HeatLaw (a b i : ℕ) (lines : List (List ℕ)) : Type 0 where
+  -- of the piece the pair remembers the last of these contacts, and the touches begun
+  pub remembered : kept-of (pair-at (after-lines fresh-world lines) a b) i .ids
+      ≡ ids-of (last-contact (contacts-of a b i lines))
+  pub counted : kept-of (pair-at (after-lines fresh-world lines) a b) i .touches ≡ touches-of (contacts-of a b i lines)
+  -- and so it prints, whatever line comes next, where the first body has the piece
   pub next-test : (line : List ℕ) (t : Touch)
       → said-of-line (after-lines fresh-world lines) line .answer ≡ Tested t → t .a ≡ a → t .b ≡ b
-      → NextTest (contacts-of a b lines) (contact-in a b (after-lines fresh-world lines)) t
+      → i < pieces-of (body-at (after-lines fresh-world lines) a)
+      → NextTest (contacts-of a b i lines) (contact-in a b i (after-lines fresh-world lines))
+      (result-of (said-of-line (after-lines fresh-world lines) line) i)

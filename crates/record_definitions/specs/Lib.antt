@@ -1,8 +1,8 @@
 pub mod World
 pub mod Touch
 pub mod Rulebook
-pub mod Frame
 pub mod Answer
+pub mod Frame
 pub mod Step
 pub mod Touches
 pub mod Reading

@@ -1,8 +1,9 @@
--- Document 01, "The touch record", with document 02's request 02: a test of two bodies. The contact call from a default
--- manifold, the world points, the point states against the pair's last contact, and the touches: one more where a pair
--- that had no point gets one. Definitions only.
-use Prim.Native.Nat.{ℕ, _+_, _-_, _^_, min}
+-- Document 01, "The touch record", with document 02's requests 02 and 03: a test of two bodies, a chain piece by piece.
+-- The contact call from a default manifold, the world points, the point states against the last contact that was kept,
+-- and the touches: one more where there was no point and now is one. Definitions only.
+use Prim.Native.Nat.{ℕ, zero, suc, _+_, _-_, _^_, min}
 use mathlib.Core.Bool.{Bool, cond, _&&_}
+use mathlib.Core.List.{List, [], _∷_}
 use lib.Dec.{eqb, ltb}
 use lib.ListN.{getD}
 use lib.Ieee.{Float}
@@ -21,11 +22,12 @@ use Rattle.contact_definitions.specs.B2CollideEdge.{b2-collide-edge-and-circle,
 use Rattle.contact_definitions.specs.PointStates.{ids-in, ids-of, states-of-ids}
 use Rattle.contact_definitions.specs.WorldManifold.{default-world-manifold, b2-world-manifold-initialize}
 use Rattle.record_definitions.specs.declared.world.Body.{Body}
+use Rattle.record_definitions.specs.declared.world.Kept.{Kept}
 use Rattle.record_definitions.specs.declared.world.Pair.{Pair}
 use Rattle.record_definitions.specs.declared.touch.TestAnswer.{TestAnswer}
 use Rattle.record_definitions.specs.declared.touch.Touch.{Touch}
 use Rattle.record_definitions.specs.declared.touch.TouchPoint.{TouchPoint}
-use Rattle.record_definitions.specs.World.{circle-kind, outline-kind}
+use Rattle.record_definitions.specs.World.{circle-kind, outline-kind, piece-of, kept-of}
 
 -- ---- the contact of a listed pair, from a default manifold
 unfoldable pub meet-circle : Body → Body → ManifoldAnswer
@@ -57,12 +59,12 @@ world-points a b m = b2-world-manifold-initialize default-world-manifold m (a .x
 abbrev pub refusal-of : ManifoldAnswer → WorldAnswer → ℕ
 refusal-of met world = cond (eqb (met .refusal) accepted) (world .refusal) (met .refusal)
 
--- ---- the states against the pair's last contact
-unfoldable pub states-of : Pair → B2manifold → PointStates
-states-of pair m = states-of-ids (ids-in (pair .ids)) (ids-in (ids-of m))
+-- ---- the states against the last contact that was kept
+unfoldable pub states-of : Kept → B2manifold → PointStates
+states-of kept m = states-of-ids (ids-in (kept .ids)) (ids-in (ids-of m))
 
--- ---- touches: one begins at a test that finds points where the pair's last test found none, or where there was no
--- last test. That needs no flag: a pair without one is fresh, and a fresh pair's contact has no points
+-- ---- touches: one begins at a test that finds points where the last test found none, or where there was no last test.
+-- That needs no flag: what is kept without one is fresh, a contact without points
 abbrev pub touch-begins : ℕ → ℕ → Bool
 touch-begins before now = eqb before 0 && ltb 0 now
 
@@ -94,16 +96,31 @@ touch-of ida idb m states touches w = record {
 }
 
 -- ---- the test of a listed pair
-unfoldable pub tested-as : ℕ → ℕ → Pair → ManifoldAnswer → WorldAnswer → TestAnswer
-tested-as ida idb pair met world =
+unfoldable pub tested-as : ℕ → ℕ → Kept → ManifoldAnswer → WorldAnswer → TestAnswer
+tested-as ida idb kept met world =
     let m = met .manifold in
-    let states = states-of pair m in
-    let touches = touches-after (pair .touches) (pair .ids .count) (m .«point_count») in
+    let states = states-of kept m in
+    let touches = touches-after (kept .touches) (kept .ids .count) (m .«point_count») in
     record {
       refusal = refusal-of met world;
       touch = touch-of ida idb m states touches (world .world);
-      pair = record { ids = ids-of m; touches = touches };
+      kept = record { ids = ids-of m; touches = touches };
     }
 
-unfoldable pub tested : ℕ → ℕ → Body → Body → Pair → TestAnswer
-tested ida idb a b pair = tested-as ida idb pair (meet a b) (world-points a b (meet a b .manifold))
+unfoldable pub tested : ℕ → ℕ → Body → Body → Kept → TestAnswer
+tested ida idb a b kept = tested-as ida idb kept (meet a b) (world-points a b (meet a b .manifold))
+
+-- ---- the test of a pair: its first body piece by piece, each with what the pair keeps of it
+unfoldable pub piece-tested : ℕ → ℕ → Body → Body → Pair → ℕ → TestAnswer
+piece-tested ida idb a b pair i = tested ida idb (piece-of a i) b (kept-of pair i)
+
+-- n pieces, from piece i on
+unfoldable pub pieces-tested : ℕ → ℕ → Body → Body → Pair → ℕ → ℕ → List TestAnswer
+pieces-tested ida idb a b pair i zero = []
+pieces-tested ida idb a b pair i (suc n) =
+    piece-tested ida idb a b pair i ∷ pieces-tested ida idb a b pair (suc i) n
+
+-- the first refusal among some tests, 0 for none
+unfoldable pub first-refusal : List TestAnswer → ℕ
+first-refusal [] = accepted
+first-refusal (t ∷ tests) = cond (eqb (t .refusal) accepted) (first-refusal tests) (t .refusal)

@@ -26,22 +26,31 @@ use Rattle.shape_definitions.specs.Polygon.{all-points, b2-polygon-shape-set}
 use Rattle.shape_definitions.specs.Refusal.{accepted}
 use Rattle.contact_definitions.proofs.Counts.{either}
 use Rattle.record_definitions.specs.declared.world.Body.{Body}
+use lib.ListN.{replicate}
+use Rattle.shape_definitions.specs.Outline.{origin}
+use Rattle.record_definitions.specs.declared.world.Chain.{Chain}
 use Rattle.record_definitions.specs.World.{at-origin, blank-outline, blank-wall, blank-body, circle-body, outline-body}
-use Rattle.record_definitions.specs.World.{wall-body, placed}
+use Rattle.record_definitions.specs.World.{wall-body, placed, chain-kind, blank-chain, chain-body, piece-wall, piece-of}
 use Rattle.record_definitions.specs.Touch.{skin}
-use Rattle.record_definitions.specs.Frame.{circle-at, wall-at, turn-at, turned-placement}
+use Rattle.record_definitions.specs.Frame.{circle-at, wall-at, chain-points, chain-at, chain-refusal, turn-at}
+use Rattle.record_definitions.specs.Frame.{turned-placement}
 use Rattle.record_definitions.proofs.Changes.{by-choice, both}
+use Rattle.record_definitions.proofs.SoundChains.{chain-taken}
 use Rattle.record_ranges.proofs.Caps.{Cap}
 use Rattle.record_ranges.proofs.Vectors.{Caps, Turns}
 use Rattle.record_ranges.proofs.Shapes.{zero-cap, one-cap, origin-caps, CircleCaps, WallCaps, OutlineCaps}
 use Rattle.record_ranges.proofs.Shapes.{AtPlace}
-use Rattle.record_ranges.proofs.Outlines.{Each, built-caps, blank-outline-caps, skin-taken}
+use Rattle.record_ranges.proofs.Outlines.{Each, each-at, each-over, origins, built-caps, blank-outline-caps}
+use Rattle.record_ranges.proofs.Outlines.{skin-taken}
+use Rattle.floats.specs.B2Common.{b2-polygon-radius}
+use native.Mathlib.Omega.{arith}
 
 pub record CappedBody (body : Body) : Type 0 where
   pub place : AtPlace (body .xf)
   pub circle : CircleCaps (body .circle)
   pub outline : OutlineCaps (body .outline)
   pub wall : WallCaps (body .wall)
+  pub chain : (i : ℕ) → WallCaps (piece-wall (body .chain) i)
   pub skin-taken : radius-in-range (skin body) ≡ true
 
 -- ---- numbers read from frames
@@ -115,6 +124,15 @@ blank-wall-caps = record { from = origin-caps 20; to = origin-caps 20 }
 skin-is-taken : radius-in-range b2-polygon-radius ≡ true
 skin-is-taken = is-true (radius-in-range b2-polygon-radius) skin-taken
 
+-- a chain whose points are of at most 2^20 m
+walls-capped : (chain : Chain) → Each (chain .points) 20 → (i : ℕ) → WallCaps (piece-wall chain i)
+unfolding piece-wall
+walls-capped chain points i =
+    record { from = each-at (chain .points) 20 points (i + 1); to = each-at (chain .points) 20 points (i + 2) }
+
+blank-chain-caps : (i : ℕ) → WallCaps (piece-wall blank-chain i)
+blank-chain-caps = walls-capped blank-chain (origins 10 20)
+
 pub blank-capped : CappedBody blank-body
 unfolding blank-body skin
 blank-capped = record {
@@ -122,6 +140,7 @@ blank-capped = record {
   circle = record { centre = origin-caps 20 };
   outline = blank-outline-caps;
   wall = blank-wall-caps;
+  chain = blank-chain-caps;
   skin-taken = skin-is-taken;
 }
 
@@ -135,6 +154,7 @@ circle-capped bytes taken =
       circle = record { centre = point-caps bytes 2 (each .1) };
       outline = blank-outline-caps;
       wall = blank-wall-caps;
+      chain = blank-chain-caps;
       skin-taken = each .0;
     }
 
@@ -148,6 +168,7 @@ outline-capped bytes n taken radius-is = record {
   circle = record { centre = origin-caps 20 };
   outline = built-caps (points-at bytes 3 n) (points-caps bytes 3 n) taken;
   wall = blank-wall-caps;
+  chain = blank-chain-caps;
   skin-taken = rw radius-is skin-is-taken;
 }
 
@@ -194,6 +215,7 @@ wall-capped bytes taken =
       circle = record { centre = origin-caps 20 };
       outline = blank-outline-caps;
       wall = caps .0;
+      chain = blank-chain-caps;
       skin-taken = caps .1;
     }
 
@@ -204,5 +226,39 @@ placed-capped body xf h place = record {
   circle = h .circle;
   outline = h .outline;
   wall = h .wall;
+  chain = h .chain;
   skin-taken = h .skin-taken;
 }
+
+-- ---- chains, and their pieces
+pub chain-capped : (bytes : List ℕ) → chain-refusal bytes ≡ accepted → CappedBody (chain-body (chain-at bytes))
+unfolding chain-body chain-at skin
+chain-capped bytes accepts =
+    let taken = chain-taken bytes accepts in
+    let points = points-caps bytes 3 (byte-at bytes 2 + 2) (taken .in-range) in
+    record {
+      place = unplaced-caps;
+      circle = record { centre = origin-caps 20 };
+      outline = blank-outline-caps;
+      wall = blank-wall-caps;
+      chain = walls-capped (chain-at bytes)
+          (each-over (chain-points bytes) (replicate 10 origin) 20 points (origins 10 20));
+      skin-taken = skin-is-taken;
+    }
+
+pub piece-capped : (body : Body) (i : ℕ) → CappedBody body → CappedBody (piece-of body i)
+unfolding piece-of piece-wall placed wall-body skin
+piece-capped body i h =
+    by-choice CappedBody (eqb (body .kind) chain-kind) _ _
+    (λ is. record {
+      place = h .place;
+      circle = record { centre = origin-caps 20 };
+      outline = blank-outline-caps;
+      wall = h .chain i;
+      chain = blank-chain-caps;
+      skin-taken = piece-skin (body .chain) i;
+    })
+    (λ other. h)
+  where
+    piece-skin : (chain : Chain) (j : ℕ) → radius-in-range (piece-wall chain j .«m_radius») ≡ true
+    piece-skin chain j = skin-is-taken

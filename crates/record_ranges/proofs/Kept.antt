@@ -18,16 +18,16 @@ use Rattle.record_definitions.specs.declared.world.Pair.{Pair}
 use Rattle.record_definitions.specs.declared.world.World.{World}
 use Rattle.record_definitions.specs.declared.frame.Change.{Change}
 use Rattle.record_definitions.specs.World.{no-body, blank-outline, blank-body, fresh-world, body-at, pair-at}
-use Rattle.record_definitions.specs.Touch.{tested}
+use Rattle.record_definitions.specs.Touch.{first-refusal}
 use Rattle.record_definitions.specs.Frame.{frame-refusal, circle-at, circle-change, outline-change, wall-at}
 use Rattle.record_definitions.specs.Frame.{wall-change, placed-at, place-change, largest-turn, turn-at}
-use Rattle.record_definitions.specs.Frame.{turned-placement, turn-change, test-refusal, test-change}
-use Rattle.record_definitions.specs.Frame.{change-of-kind, change}
+use Rattle.record_definitions.specs.Frame.{turned-placement, turn-change, chain-refusal, chain-change, test-refusal}
+use Rattle.record_definitions.specs.Frame.{all-tests, test-change, change-of-kind, change}
 use Rattle.record_definitions.specs.Step.{first-place, second-place, changed, change-in, after-frame}
 use Rattle.record_definitions.proofs.Changes.{by-choice}
 use Rattle.record_ranges.proofs.Outlines.{built-radius}
 use Rattle.record_ranges.proofs.Bodies.{CappedBody, blank-capped, circle-capped, outline-capped, wall-capped}
-use Rattle.record_ranges.proofs.Bodies.{placement-caps, turned-caps, placed-capped}
+use Rattle.record_ranges.proofs.Bodies.{placement-caps, turned-caps, placed-capped, chain-capped}
 use Rattle.record_ranges.proofs.Shapes.{AtPlace}
 
 pub record CappedWorld (w : World) : Type 0 where
@@ -67,10 +67,10 @@ module _ (a b : Body) (pair : Pair) (bytes : List ℕ) (capped : CappedBody a) w
   unfolding test-change
   test-kept ida idb =
       either Kept (eqb (test-refusal ida idb (a .kind) (b .kind)) accepted) _ _
-      (either Kept (eqb (tested ida idb a b pair .refusal) accepted) _ _ capped capped) capped
+      (either Kept (eqb (first-refusal (all-tests ida idb a b pair)) accepted) _ _ capped capped) capped
 
   kind-kept : (kind : ℕ) → Kept (change-of-kind kind a b pair bytes)
-  unfolding change-of-kind circle-change wall-change
+  unfolding change-of-kind circle-change wall-change chain-change
   kind-kept kind =
       either Kept (eqb kind 1) _ _
       (by-choice Kept (circle-in-range (circle-at bytes)) _ _ (circle-capped bytes) (λ out. capped))
@@ -79,7 +79,11 @@ module _ (a b : Body) (pair : Pair) (bytes : List ℕ) (capped : CappedBody a) w
       (by-choice Kept (eqb (wall-at bytes .refusal) accepted) _ _
       (λ taken. wall-capped bytes (eqb-true (wall-at bytes .refusal) accepted taken)) (λ not-taken. capped))
       (either Kept (eqb kind 4) _ _ place-kept
-      (either Kept (eqb kind 6) _ _ turn-kept (test-kept (byte-at bytes 1) (byte-at bytes 2))))))
+      (either Kept (eqb kind 6) _ _ turn-kept
+      (either Kept (eqb kind 7) _ _
+      (by-choice Kept (eqb (chain-refusal bytes) accepted) _ _
+      (λ taken. chain-capped bytes (eqb-true (chain-refusal bytes) accepted taken)) (λ not-taken. capped))
+      (test-kept (byte-at bytes 1) (byte-at bytes 2)))))))
 
   change-kept : Kept (change a b pair bytes)
   unfolding change

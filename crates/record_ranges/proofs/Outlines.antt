@@ -42,7 +42,7 @@ unfoldable pub Each : List B2vec2 → ℕ → Type 0
 Each [] k = Unit {0}
 Each (p ∷ ps) k = Caps p k × Each ps k
 
-each-at : (l : List B2vec2) (k : ℕ) → Each l k → (i : ℕ) → Caps (point-at l i) k
+pub each-at : (l : List B2vec2) (k : ℕ) → Each l k → (i : ℕ) → Caps (point-at l i) k
 unfolding Each
 each-at [] k h i = origin-caps k
 each-at (p ∷ l) k h zero = h .0
@@ -59,10 +59,10 @@ each-drop zero l k h = h
 each-drop (suc n) [] k h = tt
 each-drop (suc n) (p ∷ l) k h = each-drop n l k (h .1)
 
-each-over : (new old : List B2vec2) (k : ℕ) → Each new k → Each old k → Each (over new old) k
+pub each-over : (new old : List B2vec2) (k : ℕ) → Each new k → Each old k → Each (over new old) k
 each-over new old k h g = each-append new (drop (length new) old) k h (each-drop (length new) old k g)
 
-origins : (n k : ℕ) → Each (replicate n origin) k
+pub origins : (n k : ℕ) → Each (replicate n origin) k
 unfolding Each
 origins zero k = tt
 origins (suc n) k = (origin-caps k, origins n k)

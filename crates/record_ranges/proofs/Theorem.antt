@@ -17,9 +17,9 @@ use Rattle.record_definitions.specs.declared.touch.Touch.{Touch}
 use Rattle.record_definitions.specs.declared.frame.Answer.the-variants.{Refused, Tested}
 use Rattle.record_definitions.specs.declared.frame.Change.{Change}
 use Rattle.record_definitions.specs.World.{no-body, fresh-world, body-at, pair-at}
-use Rattle.record_definitions.specs.Touch.{tested}
-use Rattle.record_definitions.specs.Frame.{frame-refusal, refused, listed, test-refusal, test-change, change-of-kind}
-use Rattle.record_definitions.specs.Frame.{change}
+use Rattle.record_definitions.specs.Touch.{piece-tested, first-refusal}
+use Rattle.record_definitions.specs.Frame.{frame-refusal, refused, listed, test-refusal, all-tests, test-change}
+use Rattle.record_definitions.specs.Frame.{change-of-kind, change}
 use Rattle.record_definitions.specs.Step.{first-place, second-place, change-in, said-of-frame, after-line, said-of-line}
 use Rattle.record_definitions.proofs.FrameRefusals.{of-bytes-alone}
 use Rattle.record_definitions.proofs.SoundTests.{NotOfHost}
@@ -27,7 +27,7 @@ use Rattle.record_definitions.specs.Heat.{after-lines}
 use Rattle.record_definitions.proofs.Theorem.{reached-worlds-sound, test-not-of-host}
 use Rattle.record_ranges.proofs.Bodies.{CappedBody}
 use Rattle.record_ranges.proofs.Kept.{CappedWorld, fresh-capped, frame-keeps-capped}
-use Rattle.record_ranges.proofs.Contacts.{test-not-nine}
+use Rattle.record_ranges.proofs.Contacts.{all-not-nine}
 
 -- ---- every world that lines reach
 lines-keep-capped : (w : World) (lines : List (List ℕ)) → CappedWorld w → CappedWorld (after-lines w lines)
@@ -69,10 +69,11 @@ module _ (a b : Body) (pair : Pair) (bytes : List ℕ) (a-caps : CappedBody a) (
   unfolding test-change NotNine
   test-says ida idb =
       let number = test-refusal ida idb (a .kind) (b .kind) in
-      let t = tested ida idb a b pair in
+      let t = piece-tested ida idb a b pair 0 in
+      let refusal = first-refusal (all-tests ida idb a b pair) in
       either Says (eqb number accepted) _ _
-      (either Says (eqb (t .refusal) accepted) _ _ (tested-says _ (t .touch) refl)
-      (refused-says (t .refusal) (test-not-nine a b a-caps b-caps ida idb pair)))
+      (either Says (eqb refusal accepted) _ _ (tested-says _ (t .touch) refl)
+      (refused-says refusal (all-not-nine a b a-caps b-caps ida idb pair)))
       (refused-says number (number-not-nine ida idb (a .kind) (b .kind)))
 
   frame-says : byte-at bytes 0 ≡ 5 → (n : ℕ) → change a b pair bytes .said .answer ≡ Refused n

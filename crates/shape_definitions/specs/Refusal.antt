@@ -60,3 +60,11 @@ pair-not-listed = 13
 -- a turn number above 4,095
 abbrev pub unknown-turn : ℕ
 unknown-turn = 14
+
+-- a chain of fewer than two points
+abbrev pub chain-too-few : ℕ
+chain-too-few = 15
+
+-- two neighbouring points of a chain at a squared distance not above 0.005 × 0.005
+abbrev pub chain-too-near : ℕ
+chain-too-near = 16

@@ -42,3 +42,9 @@ pub const PAIR_NOT_LISTED: u8 = 13;
 
 // A turn number above 4,095.
 pub const UNKNOWN_TURN: u8 = 14;
+
+// A chain of fewer than two points.
+pub const CHAIN_TOO_FEW: u8 = 15;
+
+// Two neighbouring points of a chain too near.
+pub const CHAIN_TOO_NEAR: u8 = 16;
