@@ -1,5 +1,5 @@
 -- The first test of a pair after new shapes: accepted frames before it are no tests, so the pair stays fresh
--- (`accepted-keeps-fresh`), and the test counts one touch where there are points, else none (`first-count`).
+-- (`accepted-keeps-fresh`), and the test counts one touch where there are points, else none (`first-counted`).
 -- Assumes nothing.
 use Prim.Native.Nat.{ℕ, _≤_, _<_}
 use mathlib.Core.Path.{_≡_, refl, sym, _∙_, ap, subst}
@@ -14,12 +14,14 @@ use Rattle.contact_definitions.specs.declared.b2_collision.B2manifold.{B2manifo
 use Rattle.record_definitions.specs.declared.world.World.{World}
 use Rattle.record_definitions.specs.declared.touch.Touch.{Touch}
 use Rattle.record_definitions.specs.declared.frame.Answer.the-variants.{Accepted, Tested}
+use Rattle.record_definitions.specs.declared.frame.Said.{Said}
 use Rattle.record_definitions.specs.World.{pieces-of, body-at}
 use Rattle.record_definitions.specs.Frame.{largest-id}
 use Rattle.record_definitions.specs.Answer.{result-of}
 use Rattle.record_definitions.specs.Step.{after-frame, said-of-frame}
 use Rattle.record_definitions.specs.Rulebook.{Rulebook}
 use Rattle.record_definitions.specs.Heat.{defines-shape, touches-begun}
+use Rattle.record_definitions.proofs.Sound.{some-piece}
 use Rattle.record_definitions.proofs.HeatTests.{Remembers, test-printed}
 use Rattle.record_definitions.proofs.HeatSteps.{frame-remembered}
 use Rattle.record_definitions.proofs.TestTheorem.{points-printed}
@@ -44,7 +46,7 @@ one-or-none now counted rulebook =
     (λ some. rw some (rulebook .begins refl (let not-none = eqb-false now 0 some in omega arith)))
 
 -- for each piece that the first body has
-pub first-count : (w : World) (frame : List ℕ) (t : Touch) → said-of-frame w frame .answer ≡ Tested t → (i : ℕ)
+first-count : (w : World) (frame : List ℕ) (t : Touch) → said-of-frame w frame .answer ≡ Tested t → (i : ℕ)
     → i < pieces-of (body-at w (byte-at frame 1)) → Remembers (byte-at frame 1) (byte-at frame 2) i w []
     → result-of (said-of-frame w frame) i .touches ≡ cond (eqb (result-of (said-of-frame w frame) i .count) 0) 0 1
 unfolding touches-begun
@@ -52,3 +54,14 @@ first-count w frame t is i within fresh =
     one-or-none _ (result-of (said-of-frame w frame) i .touches)
     (test-printed (byte-at frame 1) (byte-at frame 2) i w [] fresh frame t is refl refl within .rulebook)
     ∙ ap (λ (n : ℕ). cond (eqb n 0) 0 1) (sym (points-printed w frame t is i within .0))
+
+-- and so for a body that is its own only piece
+first-result : (said : Said) (t : Touch) → said .answer ≡ Tested t → result-of said 0 ≡ t
+first-result said t is = rw is refl
+
+pub first-counted : (w : World) (frame : List ℕ) (t : Touch) → said-of-frame w frame .answer ≡ Tested t
+    → Remembers (byte-at frame 1) (byte-at frame 2) 0 w [] → t .touches ≡ cond (eqb (t .count) 0) 0 1
+first-counted w frame t is fresh =
+    let some = some-piece (body-at w (byte-at frame 1)) (fresh .sound .each (byte-at frame 1)) .0 in
+    subst (λ (u : Touch). u .touches ≡ cond (eqb (u .count) 0) 0 1) (first-result (said-of-frame w frame) t is)
+    (first-count w frame t is 0 some fresh)

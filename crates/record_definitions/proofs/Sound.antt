@@ -2,7 +2,7 @@
 -- placed within the range; 64 pairs, each with the ids of a contact for each of seven pieces. The bodies that frames
 -- make are such, and so are the pieces of a chain.
 -- Assumes nothing.
-use Prim.Native.Nat.{ℕ, zero, suc, _-_, _≤_, _<_}
+use Prim.Native.Nat.{ℕ, zero, suc, _-_, _≤_, _<_, min}
 use mathlib.Core.Path.{_≡_, refl, sym, subst}
 use mathlib.Core.Bool.{Bool, true, false, _&&_}
 use mathlib.Core.List.{List}
@@ -184,7 +184,8 @@ piece-sound body i sound within =
       placement = sound .placement;
       circle = λ never. absurd (omega arith);
       outline = λ never. absurd (omega arith);
-      wall = λ wall. chain .in-range i (simp is at within);
+      wall = λ wall. chain .in-range i (let below : suc i ≤ min (body .chain .count - 1) 7 = simp is at within in
+          omega (arith, below));
       chain = λ never. absurd (omega arith);
     })
     (λ other. sound)

@@ -175,7 +175,7 @@ module _ (a b : Body) (a-sound : SoundBody a) (b-sound : SoundBody b) where
       FineWorld : WorldAnswer → Type 0
       FineWorld answer = NotOfHost (answer .refusal)
 
-  test-fine : (ida idb : ℕ) (kept : Kept) → listed (a .kind) (b .kind) ≡ true
+  pub test-fine : (ida idb : ℕ) (kept : Kept) → listed (a .kind) (b .kind) ≡ true
       → NotOfHost (tested ida idb a b kept .refusal)
   unfolding tested tested-as Fine
   test-fine ida idb kept is-listed =

@@ -1,6 +1,6 @@
 -- Document 01, "The touch record": answers as bytes, and as lines. `00`; `ff` and the refusal; or the test's result, of
 -- a chain (document 02, request 03) that of each piece. Definitions only.
-use Prim.Native.Nat.{ℕ, _+_, _*_}
+use Prim.Native.Nat.{ℕ, _+_, _*_, _-_}
 use mathlib.Core.Bool.{cond}
 use mathlib.Core.List.{List, [], _∷_, _++_}
 use lib.Dec.{eqb}
@@ -18,6 +18,7 @@ use Rattle.record_definitions.specs.declared.touch.TouchPoint.{TouchPoin
 use Rattle.record_definitions.specs.declared.frame.Answer.{Answer}
 use Rattle.record_definitions.specs.declared.frame.Answer.the-variants.{Accepted, Refused, Tested}
 use Rattle.record_definitions.specs.declared.frame.Said.{Said}
+use Rattle.record_definitions.specs.World.{most-pieces}
 
 -- ---- a test: 05, a, b, point count, kind, two old states, two new states, touch count
 abbrev pub names-bytes : Touch → List ℕ
@@ -69,9 +70,9 @@ blank-touch = record {
   second = blank-point;
 }
 
--- a chain has at most seven pieces, so six further ones
+-- those of a chain behind its first piece
 abbrev pub most-further : ℕ
-most-further = 6
+most-further = most-pieces - 1
 
 abbrev pub said-alone : Answer → Said
 said-alone answer = record { answer = answer; further = 0; more = replicate most-further blank-touch }
@@ -109,4 +110,4 @@ result-of said i = getD (touches-said said) i blank-touch
 
 -- the characters of the longest answer: a chain of seven pieces, each with two points
 abbrev pub longest-said : ℕ
-longest-said = (most-further + 1) * longest-line
+longest-said = most-pieces * longest-line

@@ -1,7 +1,7 @@
 -- Document 01, "The touch record": the state. Eight bodies, ids 00 to 07, and for each ordered pair of them what its
 -- last accepted test left: the ids of its contact points, and its touches; of a chain (document 02, request 03) so for
 -- each piece. Definitions only.
-use Prim.Native.Nat.{ℕ, zero, suc, _+_, _*_, _-_}
+use Prim.Native.Nat.{ℕ, zero, suc, _+_, _*_, _-_, min}
 use mathlib.Core.Bool.{true, false, cond}
 use mathlib.Core.List.{List}
 use lib.Dec.{eqb}
@@ -104,9 +104,12 @@ placed body xf = record {
   chain = body .chain;
 }
 
--- ---- pieces: a chain has one less than points, and any other body is its own only piece
+-- ---- pieces: a chain has one less than points, at most seven, and any other body is its own only piece
+abbrev pub most-pieces : ℕ
+most-pieces = 7
+
 abbrev pub pieces-of : Body → ℕ
-pieces-of body = cond (eqb (body .kind) chain-kind) (body .chain .count - 1) 1
+pieces-of body = cond (eqb (body .kind) chain-kind) (min (body .chain .count - 1) most-pieces) 1
 
 -- piece i of a chain: the one-sided wall from its point i to the next, its neighbours for ghost points. The point
 -- before stands at place 0
@@ -129,7 +132,7 @@ abbrev pub fresh-kept : Kept
 fresh-kept = record { ids = record { count = 0; first = default-id; second = default-id }; touches = 0 }
 
 unfoldable pub fresh-pair : Pair
-fresh-pair = record { pieces = replicate 7 fresh-kept }
+fresh-pair = record { pieces = replicate most-pieces fresh-kept }
 
 unfoldable pub fresh-world : World
 fresh-world = record { bodies = replicate 8 blank-body; pairs = replicate 64 fresh-pair }

@@ -237,7 +237,7 @@ chain-capped bytes accepts =
     let taken = chain-taken bytes accepts in
     let points = points-caps bytes 3 (byte-at bytes 2 + 2) (taken .in-range) in
     record {
-      place = unplaced-caps;
+      place = at-origin-caps;
       circle = record { centre = origin-caps 20 };
       outline = blank-outline-caps;
       wall = blank-wall-caps;

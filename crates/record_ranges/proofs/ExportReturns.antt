@@ -24,25 +24,26 @@ use Rattle.contact_definitions.specs.B2CollidePolygon.{b2-collide-polygons}
 use Rattle.contact_definitions.specs.WorldManifold.{b2-world-manifold-initialize, manifold-in-range}
 use Rattle.contact_definitions.proofs.Counts.{either}
 use Rattle.record_definitions.specs.declared.world.Body.{Body}
-use Rattle.record_definitions.specs.declared.world.Pair.{Pair}
+use Rattle.record_definitions.specs.declared.world.Kept.{Kept as KeptTest}
 use Rattle.record_definitions.specs.declared.world.World.{World}
 use Rattle.record_definitions.specs.declared.touch.Touch.{Touch}
 use Rattle.record_definitions.specs.declared.frame.Answer.{Answer}
 use Rattle.record_definitions.specs.declared.frame.Said.{Said}
 use Rattle.record_definitions.specs.declared.frame.Answer.the-variants.{Tested}
-use Rattle.record_definitions.specs.World.{outline-kind, body-at, pair-at}
+use Rattle.record_definitions.specs.World.{outline-kind, kept-of, body-at, pair-at}
 use Rattle.record_definitions.specs.Touch.{meet-outline, meet, skin, world-points, tested-as, tested}
 use Rattle.record_definitions.specs.Frame.{listed}
-use Rattle.record_definitions.specs.Answer.{touch-bytes, answer-bytes, longest-answer}
+use Rattle.record_definitions.specs.Answer.{touch-bytes, answer-bytes, longest-answer, said-alone}
 use Rattle.record_definitions.specs.Export.{test-frame, in-order, refusal-base, left-in, export-number, export-output}
 use Rattle.record_definitions.specs.ExportLaws.{test-size, export-numbers, ExportReturns}
 use Rattle.record_definitions.proofs.AnswerLengths.{points-byte, touches-bytes}
 use Rattle.record_definitions.proofs.Exported.{too-short, out-of-order, was-refused}
 use Rattle.record_definitions.proofs.SoundTests.{NotOfHost, test-fine}
-use Rattle.record_definitions.proofs.Theorem.{result-bytes, answers-fit}
+use Rattle.record_definitions.proofs.Theorem.{result-bytes}
+use Rattle.record_definitions.proofs.AnswerLengths.{said-within}
 use Rattle.record_definitions.proofs.HeatTests.{Remembers}
 use Rattle.record_definitions.proofs.HeatLaw.{fresh-remembered}
-use Rattle.record_definitions.proofs.FirstTests.{accepted-keeps-fresh, first-count}
+use Rattle.record_definitions.proofs.FirstTests.{accepted-keeps-fresh, first-counted}
 use Rattle.record_definitions.proofs.ExportRuns.{answered, turned-down}
 use Rattle.record_definitions.proofs.ExportOutcome.{export-outcome}
 use Rattle.record_definitions.proofs.ExportTheorem.{said-last, Ends, returned-tested, returned-refused}
@@ -83,9 +84,9 @@ module _ (a b : Body) (a-is : a .kind ≡ outline-kind) (b-is : b .kind ≡ outl
       Good : WorldAnswer → Type 0
       Good answer = TestNumber (answer .refusal)
 
-  of-test : (pair : Pair) → TestNumber (tested 0 1 a b pair .refusal)
+  of-test : (kept : KeptTest) → TestNumber (tested 0 1 a b kept .refusal)
   unfolding tested tested-as
-  of-test pair =
+  of-test kept =
       either TestNumber (eqb (meet a b .refusal) accepted) _ _ (of-world-points (meet a b .manifold)) of-contact
 
   both-listed : listed (a .kind) (b .kind) ≡ true
@@ -98,7 +99,7 @@ OneToSix n = (1 ≤ n) × (n ≤ 6)
 
 -- no test of 0 against 1 so far
 Kept : World → Type 0
-Kept w = Remembers 0 1 w [] × CappedWorld w
+Kept w = Remembers 0 1 0 w [] × CappedWorld w
 
 two-left : (n : ℕ) → (n ≡ 0 → ⊥) → NotOfHost n → (n ≡ contact-out-of-range → ⊥) → TestNumber n → OneToSix n
 unfolding TestNumber OneToSix
@@ -109,16 +110,16 @@ two-left n nonzero host nine (inr (inr (inr (inl is)))) = absurd (host .1 is)
 two-left n nonzero host nine (inr (inr (inr (inr is)))) = absurd (nine is)
 
 test-refused : (w : World) → Kept w → body-at w 0 .kind ≡ outline-kind → body-at w 1 .kind ≡ outline-kind
-    → (tested 0 1 (body-at w 0) (body-at w 1) (pair-at w 0 1) .refusal ≡ 0 → ⊥)
-    → OneToSix (tested 0 1 (body-at w 0) (body-at w 1) (pair-at w 0 1) .refusal)
+    → (tested 0 1 (body-at w 0) (body-at w 1) (kept-of (pair-at w 0 1) 0) .refusal ≡ 0 → ⊥)
+    → OneToSix (tested 0 1 (body-at w 0) (body-at w 1) (kept-of (pair-at w 0 1) 0) .refusal)
 unfolding Kept
 test-refused w kept a-is b-is nonzero =
     let a = body-at w 0 in
     let b = body-at w 1 in
-    let pair = pair-at w 0 1 in
-    two-left (tested 0 1 a b pair .refusal) nonzero
-    (test-fine a b (kept .0 .sound .each 0) (kept .0 .sound .each 1) 0 1 pair (both-listed a b a-is b-is))
-    (test-not-nine a b (kept .1 .each 0) (kept .1 .each 1) 0 1 pair) (of-test a b a-is b-is pair)
+    let none = kept-of (pair-at w 0 1) 0 in
+    two-left (tested 0 1 a b none .refusal) nonzero
+    (test-fine a b (kept .0 .sound .each 0) (kept .0 .sound .each 1) 0 1 none (both-listed a b a-is b-is))
+    (test-not-nine a b (kept .1 .each 0) (kept .1 .each 1) 0 1 none) (of-test a b a-is b-is none)
 
 -- and the test counts one touch or none
 OneOrNone : Touch → Type 0
@@ -129,11 +130,11 @@ unfolding OneOrNone OneToSix Kept
 outcome input ordered =
     export-outcome OneOrNone OneToSix Kept (λ w kept. kept .0 .sound)
     (λ w frame taken kept. (
-      accepted-keeps-fresh 0 1 (omega arith) (omega arith) w (kept .0) frame taken,
+      accepted-keeps-fresh 0 1 0 (omega arith) (omega arith) w (kept .0) frame taken,
       frame-keeps-capped w frame (kept .1),
     ))
-    (fresh-remembered 0 1 (omega arith) (omega arith), fresh-capped)
-    (λ w kept t is. first-count w test-frame t is (kept .0)) (λ n nonzero few. (omega arith, omega arith))
+    (fresh-remembered 0 1 0 (omega arith) (omega arith), fresh-capped)
+    (λ w kept t is. first-counted w test-frame t is (kept .0)) (λ n nonzero few. (omega arith, omega arith))
     (omega arith, omega arith) test-refused input ordered
 
 -- ---- the list of numbers
@@ -185,7 +186,7 @@ ran input out room ordered = by-outcome (outcome input ordered)
         number-is input out room ordered ∙ returned-tested said t is
         ∙ ap (λ (answer : Answer). length (answer-bytes answer)) is in
         let few : length (touch-bytes t) ≤ longest-answer =
-        answers-fit (record { answer = Tested t }) .0 in
+        said-within (said-alone (Tested t)) in
         let left : export-output input out ≡ touch-bytes t ++ drop (length (touch-bytes t)) out =
         output-is input out room ordered ∙ left-by-test said out t is in
         let points : byte-at (export-output input out) 3 ≡ t .count =
