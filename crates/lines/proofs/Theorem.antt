@@ -1,11 +1,14 @@
--- What is read is what was written: the line of a frame's digits says the frame. Assumes nothing.
-use Prim.Native.Nat.{ℕ, _+_, _*_, _/_, _%_, _-_, _≤_, _<_}
-use mathlib.Core.Path.{_≡_, refl, _∙_, ap}
+-- What is read is what was written: the line of a frame's digits says the frame; and a line that says bytes has two
+-- characters for each. Assumes nothing.
+use Prim.Native.Nat.{ℕ, suc, _+_, _*_, _/_, _%_, _-_, _≤_, _<_}
+use mathlib.Core.Path.{_≡_, refl, sym, _∙_, ap}
+use mathlib.Core.Bool.{Bool, true, false, cond, _&&_}
 use mathlib.Core.List.{List, [], _∷_, List·Memᴰ}
 use mathlib.Core.List as L
 use mathlib.Core.Logic.{_⊎_, inl, inr}
-use mathlib.Core.Option.{some}
+use mathlib.Core.Option.{Option, none, some, Option·map}
 use native.Mathlib.Omega.{arith}
+use lib.Dec.{ltb}
 use lib.ListN.{length}
 use borrow.Author.Tests.{lt-ltb, le-ltb, le-leb, lt-leb}
 use Rattle.algebra.proofs.Booleans.{less-or-not}
@@ -50,3 +53,23 @@ unfolding frame-of
 frame-of-hex bytes short below =
     let limit : length (hex bytes) ≤ line-limit = omega (arith, length-hex bytes) in
     simp (le-ltb line-limit (length (hex bytes)) limit, unhex-of-hex bytes below)
+
+-- ---- two characters for each byte
+pub unhex-length : (line bytes : List ℕ) → unhex line ≡ some bytes → length line ≡ 2 * length bytes
+unfolding unhex
+unhex-length [] bytes e = let nothing : [] ≡ bytes = cc in ap (λ (l : List ℕ). 2 * length l) nothing
+unhex-length (x ∷ []) bytes e = absurd (let z : _≡_ {A = ℕ} 0 1 = cc in omega arith)
+unhex-length (x ∷ y ∷ line) bytes e =
+    by-tests (ltb (nibble x) 16 && ltb (nibble y) 16) (unhex line) (unhex-length line) refl e
+  where
+    by-tests : (t : Bool) (rest : Option (List ℕ))
+        → ((later : List ℕ) → unhex line ≡ some later → length line ≡ 2 * length later) → unhex line ≡ rest
+        → cond t (Option·map (_∷_ (nibble x * 16 + nibble y)) rest) none ≡ some bytes
+        → length (x ∷ y ∷ line) ≡ 2 * length bytes
+    by-tests true (some later) earlier rest-is e =
+        let bytes-are : (nibble x * 16 + nibble y) ∷ later ≡ bytes = cc in
+        let size = earlier later rest-is in
+        let more : length bytes ≡ suc (length later) = sym (ap length bytes-are) in
+        omega (arith, size, more)
+    by-tests true none earlier rest-is e = absurd (let z : _≡_ {A = ℕ} 0 1 = cc in omega arith)
+    by-tests false rest earlier rest-is e = absurd (let z : _≡_ {A = ℕ} 0 1 = cc in omega arith)

@@ -74,18 +74,18 @@ pub record WasTested (ida idb : ℕ) (a b : Body) (pair : Pair) (t : Touch) (c :
 module _ (a b : Body) (pair : Pair) (bytes : List ℕ) where
   -- an accepted frame names an id, and is that of its kind
   module _ (taken : refusal-in (change a b pair bytes .said) ≡ accepted) where
-    not-refused-alone : frame-refusal bytes ≡ accepted
+    pub not-refused : frame-refusal bytes ≡ accepted
     unfolding change
-    not-refused-alone =
+    not-refused =
         let number = frame-refusal bytes in
         by-test (eqb number accepted) (eqb-true number accepted) (λ some. simp some at taken)
 
     pub first-id : byte-at bytes 1 ≤ largest-id
-    first-id = first-known bytes not-refused-alone
+    first-id = first-known bytes not-refused
 
     pub is-of-kind : change a b pair bytes ≡ change-of-kind (byte-at bytes 0) a b pair bytes
     unfolding change
-    is-of-kind = simp (eq-eqb (frame-refusal bytes) accepted not-refused-alone)
+    is-of-kind = simp (eq-eqb (frame-refusal bytes) accepted not-refused)
 
   -- ---- a new shape that is accepted forgets its pairs
   built-forgets : (t : Bool) (n : ℕ) (made : Body)
