@@ -39,10 +39,11 @@ use Rattle.contact_definitions.specs.WorldManifold.{b2-world-manifold-initializ
 use Rattle.record_definitions.specs.World.{blank-body, circle-body, outline-body, placed, fresh-pair, fresh-world}
 use Rattle.record_definitions.specs.World.{piece-of, forget-below}
 use Rattle.record_definitions.specs.Touch.{meet-circle, meet-outline, meet, skin, world-points, touches-after}
-use Rattle.record_definitions.specs.Touch.{states-of, touch-of, tested-as, tested}
+use Rattle.record_definitions.specs.Touch.{states-of, touch-of, tested-as, tested, piece-tested, pieces-tested}
+use Rattle.record_definitions.specs.Touch.{first-refusal}
 use Rattle.record_definitions.specs.Frame.{frame-length, well-formed, frame-refusal, circle-change, outline-change}
 use Rattle.record_definitions.specs.Frame.{place-change, listed, test-refusal, test-change, change-of-kind, change}
-use Rattle.record_definitions.specs.Answer.{head-bytes, point-bytes, touch-bytes}
+use Rattle.record_definitions.specs.Answer.{head-bytes, point-bytes, touch-bytes, touch-lines}
 use Rattle.record_definitions.specs.Step.{change-in, changed, after-frame, said-of-frame}
 use Rattle.record_definitions.specs.Export.{last-said, in-order, export-said, export-number, export-output}
 use Rattle.record_definitions.proofs.Heats.{Exports}
@@ -95,24 +96,24 @@ pub record ExportCases : Type 0 where
 pub export-cases : ExportCases
 unfolding neg add sub mul div le lt eq ofBits toBits root-digits whole-root rounded-root sqrt b2-sqrt b2-add b2-sub
     b2-neg b2-scale b2-dot b2-length-squared b2-length b2-distance-vec2-squared b2-normalize b2-mul-rot-by-vec2
-    b2-mul-transform-by-vec2 point-in-range radius-in-range rotation-in-range transform-in-range
-    local-normal-in-range contact-point-in-range vector-at rotation-at placement-at unhex circle-in-range farther
-    with-local-point with-count with-one-point counted-points same-id id-among ids-of ids-in point-state
-    states-of-ids points-in-range manifold-in-range b2-world-manifold-initialize blank-body circle-body placed
-    fresh-pair fresh-world forget-below meet-circle meet skin world-points touches-after states-of touch-of tested-as
-    tested frame-length well-formed frame-refusal circle-change place-change listed test-refusal test-change
-    change-of-kind change head-bytes point-bytes touch-bytes change-in changed after-frame said-of-frame too-near
-    welded comes-before start closer next row edges long-enough fan b2-min outline-of-corners outline-of-welded
-    b2-polygon-shape-set polygon-in-range normal-in-range points-at outline-body outline-change meet-outline
-    b2-cross-vec-by-scalar b2-cross b2-mul-t-rot b2-mul-t-rot-by-vec2 b2-mul-t-transform-by-vec2 b2-mul-t-transform
-    face-separation b2-find-max-separation axis-of polygons-axis incident-place incident-end b2-find-incident-edge
-    local-tangent face-middle face-along outline-face within-skins outline-point outline-manifold polygons-manifold
+    b2-mul-transform-by-vec2 point-in-range radius-in-range rotation-in-range transform-in-range local-normal-in-range
+    contact-point-in-range vector-at rotation-at placement-at unhex circle-in-range farther with-local-point with-count
+    with-one-point counted-points same-id id-among ids-of ids-in point-state states-of-ids points-in-range
+    manifold-in-range b2-world-manifold-initialize blank-body circle-body placed fresh-pair fresh-world forget-below
+    meet-circle meet skin world-points touches-after states-of touch-of tested-as tested frame-length well-formed
+    frame-refusal circle-change place-change listed test-refusal test-change change-of-kind change head-bytes
+    point-bytes touch-bytes touch-lines change-in changed after-frame said-of-frame too-near welded comes-before start
+    closer next row edges long-enough fan b2-min outline-of-corners outline-of-welded b2-polygon-shape-set
+    polygon-in-range normal-in-range points-at outline-body outline-change meet-outline b2-cross-vec-by-scalar b2-cross
+    b2-mul-t-rot b2-mul-t-rot-by-vec2 b2-mul-t-transform-by-vec2 b2-mul-t-transform face-separation
+    b2-find-max-separation axis-of polygons-axis incident-place incident-end b2-find-incident-edge local-tangent
+    face-middle face-along outline-face within-skins outline-point outline-manifold polygons-manifold
     b2-collide-polygons circle-separation circle-at-corner circle-at-face circle-at-best polygon-circle-manifold
     b2-collide-polygon-and-circle clip-distance crossing clipped-by clipped clip-in-range b2-clip-segment-to-line
     clipped-to-sides only points-from with-points manifold-of-ends some-below least first-greatest first-least
     swapped-id with-kind on-face on-other plane-separation plane-middle carried-points world-of-face
-    contact-number-in-range export-number export-output export-said in-order last-said
-    piece-of piece-tested pieces-tested first-refusal
+    contact-number-in-range export-number export-output export-said in-order last-said piece-of piece-tested
+    pieces-tested first-refusal
 export-cases = record {
   two-points = record { returns = refl; leaves = refl };
   one-point = record { returns = refl; leaves = refl };

@@ -43,11 +43,12 @@ use Rattle.contact_definitions.specs.EdgeReference.{point-as-it-is, placed-face
 use Rattle.record_definitions.specs.World.{blank-body, circle-body, outline-body, wall-body, placed, fresh-pair}
 use Rattle.record_definitions.specs.World.{fresh-world, piece-of, forget-below}
 use Rattle.record_definitions.specs.Touch.{meet-circle, meet-outline, meet, skin, world-points, touches-after}
-use Rattle.record_definitions.specs.Touch.{states-of, touch-of, tested-as, tested}
+use Rattle.record_definitions.specs.Touch.{states-of, touch-of, tested-as, tested, piece-tested, pieces-tested}
+use Rattle.record_definitions.specs.Touch.{first-refusal}
 use Rattle.record_definitions.specs.Frame.{frame-length, well-formed, frame-refusal, circle-change, outline-change}
 use Rattle.record_definitions.specs.Frame.{wall-at, wall-change, place-change, listed, test-refusal, test-change}
 use Rattle.record_definitions.specs.Frame.{change-of-kind, change}
-use Rattle.record_definitions.specs.Answer.{head-bytes, point-bytes, touch-bytes}
+use Rattle.record_definitions.specs.Answer.{head-bytes, point-bytes, touch-bytes, touch-lines}
 use Rattle.record_definitions.specs.Step.{change-in, changed, after-frame, said-of-frame}
 use Rattle.record_definitions.specs.Touches.{lines-from, printed-lines, touches}
 use Rattle.record_definitions.proofs.Heats.{Runs}
@@ -140,26 +141,25 @@ pub record WallHeats : Type 0 where
 pub wall-heats : WallHeats
 unfolding neg add sub mul div le lt eq ofBits toBits root-digits whole-root rounded-root sqrt b2-sqrt b2-add b2-sub
     b2-neg b2-scale b2-dot b2-length-squared b2-length b2-distance-vec2-squared b2-normalize b2-mul-rot-by-vec2
-    b2-mul-transform-by-vec2 point-in-range radius-in-range rotation-in-range transform-in-range
-    local-normal-in-range contact-point-in-range vector-at rotation-at placement-at unhex frame-of hex
-    circle-in-range farther with-local-point with-count with-one-point counted-points same-id id-among ids-of ids-in
-    point-state states-of-ids points-in-range manifold-in-range b2-world-manifold-initialize blank-body circle-body
-    placed fresh-pair fresh-world forget-below meet-circle meet skin world-points touches-after states-of touch-of
-    tested-as tested frame-length well-formed frame-refusal circle-change place-change listed test-refusal test-change
-    change-of-kind change head-bytes point-bytes touch-bytes change-in changed after-frame said-of-frame lines-from
-    printed-lines touches too-near welded comes-before start closer next row edges long-enough fan b2-min
-    outline-of-corners outline-of-welded b2-polygon-shape-set polygon-in-range normal-in-range points-at outline-body
-    outline-change meet-outline b2-cross-vec-by-scalar b2-cross b2-mul-t-rot b2-mul-t-rot-by-vec2
+    b2-mul-transform-by-vec2 point-in-range radius-in-range rotation-in-range transform-in-range local-normal-in-range
+    contact-point-in-range vector-at rotation-at placement-at unhex frame-of hex circle-in-range farther
+    with-local-point with-count with-one-point counted-points same-id id-among ids-of ids-in point-state states-of-ids
+    points-in-range manifold-in-range b2-world-manifold-initialize blank-body circle-body placed piece-of fresh-pair
+    fresh-world forget-below meet-circle meet skin world-points touches-after states-of touch-of tested-as tested
+    piece-tested pieces-tested first-refusal frame-length well-formed frame-refusal circle-change place-change listed
+    test-refusal test-change change-of-kind change head-bytes point-bytes touch-bytes touch-lines change-in changed
+    after-frame said-of-frame lines-from printed-lines touches too-near welded comes-before start closer next row edges
+    long-enough fan b2-min outline-of-corners outline-of-welded b2-polygon-shape-set polygon-in-range normal-in-range
+    points-at outline-body outline-change meet-outline b2-cross-vec-by-scalar b2-cross b2-mul-t-rot b2-mul-t-rot-by-vec2
     b2-mul-t-transform-by-vec2 b2-mul-t-transform b2-set-one-sided b2-set-two-sided edge-in-range wall-body wall-at
     wall-change circle-at-end circle-at-wall over-before over-after edge-circle-answer b2-collide-edge-and-circle
     edge-polygon-manifold b2-collide-edge-and-polygon placed-corner placed-normal right-of side-axis
     b2-compute-edge-separation outline-axis b2-compute-polygon-separation clearly-above primary-axis region-before
     region-after gauss-region smoothed edge-polygon-axis face-between within-radius most-against outline-end
-    outline-edge point-in-frame wall-manifold wall-edge point-as-it-is placed-face face-manifold clip-distance
-    crossing clipped-by clipped clip-in-range b2-clip-segment-to-line clipped-to-sides only points-from with-points
-    manifold-of-ends some-below least first-greatest first-least swapped-id with-kind on-face on-other
-    plane-separation plane-middle carried-points world-of-face contact-number-in-range circles-normal
-    world-of-circles
+    outline-edge point-in-frame wall-manifold wall-edge point-as-it-is placed-face face-manifold clip-distance crossing
+    clipped-by clipped clip-in-range b2-clip-segment-to-line clipped-to-sides only points-from with-points
+    manifold-of-ends some-below least first-greatest first-least swapped-id with-kind on-face on-other plane-separation
+    plane-middle carried-points world-of-face contact-number-in-range circles-normal world-of-circles
 wall-heats = record {
   wall-and-circle = refl;
   one-sided-wall = refl;
