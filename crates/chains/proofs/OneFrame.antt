@@ -3,37 +3,32 @@
 -- (`StillSeen`). Assumes nothing.
 use Prim.Native.Nat.{ℕ, _≤_, _<_}
 use mathlib.Core.Path.{_≡_, refl, sym, _∙_, ap, subst}
-use mathlib.Core.Bool.{Bool, true, false, not, cond, _&&_, false≢true}
+use mathlib.Core.Bool.{Bool, true, false, cond, false≢true}
 use mathlib.Core.List.{List, [], _∷_}
 use mathlib.Core.Logic.{_⊎_, inl, inr, ⊎-elim}
-use lib.Dec.{eqb, ltb}
+use lib.Dec.{eqb}
 use lib.ListN.{getD, replicate}
 use borrow.Author.Tests.{eqb-true}
 use Rattle.algebra.proofs.Booleans.{by-test}
-use Rattle.floats.specs.Ranges.{transform-in-range}
-use Rattle.lines.specs.Fields.{byte-at, points-at, placement-at}
+use Rattle.lines.specs.Fields.{byte-at, points-at}
 use Rattle.shape_definitions.specs.Circle.{circle-in-range}
 use Rattle.shape_definitions.specs.Polygon.{b2-polygon-shape-set}
-use Rattle.shape_definitions.specs.Refusal.{accepted, shape-out-of-range, placement-out-of-range, no-shape}
-use Rattle.shape_definitions.specs.Refusal.{unknown-turn}
-use Rattle.floats.specs.declared.b2_math.B2Transform.{B2Transform}
+use Rattle.shape_definitions.specs.Refusal.{accepted, shape-out-of-range}
 use Rattle.record_definitions.specs.declared.world.Body.{Body}
 use Rattle.record_definitions.specs.declared.world.Kept.{Kept}
 use Rattle.record_definitions.specs.declared.world.Pair.{Pair}
 use Rattle.record_definitions.specs.declared.touch.TestAnswer.{TestAnswer}
 use Rattle.record_definitions.specs.declared.touch.Touch.{Touch}
 use Rattle.record_definitions.specs.declared.frame.Change.{Change}
-use Rattle.record_definitions.specs.declared.frame.Said.{Said}
-use Rattle.record_definitions.specs.World.{no-body, wall-kind, chain-kind, blank-outline, wall-body, placed, piece-wall}
-use Rattle.record_definitions.specs.World.{pieces-of, piece-of, fresh-kept, kept-of}
+use Rattle.record_definitions.specs.World.{wall-kind, chain-kind, blank-outline, wall-body, placed, piece-wall}
+use Rattle.record_definitions.specs.World.{pieces-of, fresh-kept, kept-of}
 use Rattle.record_definitions.specs.Touch.{tested, piece-tested, pieces-tested, first-refusal}
 use Rattle.record_definitions.specs.Answer.{blank-touch, said-of-touches, result-of}
-use Rattle.record_definitions.specs.Frame.{largest-id, frame-refusal, refused, defined, moved, circle-at}
+use Rattle.record_definitions.specs.Frame.{largest-id, frame-refusal, refused, circle-at}
 use Rattle.record_definitions.specs.Frame.{circle-change, outline-change, wall-at, wall-change, chain-refusal}
-use Rattle.record_definitions.specs.Frame.{chain-change, placed-at, place-change, largest-turn, turn-at}
-use Rattle.record_definitions.specs.Frame.{turned-placement, turn-change, listed, test-refusal, further-tests, all-tests}
+use Rattle.record_definitions.specs.Frame.{chain-change}
+use Rattle.record_definitions.specs.Frame.{listed, test-refusal, further-tests, all-tests}
 use Rattle.record_definitions.specs.Frame.{results-of, keep, test-answered, test-change, change-of-kind, change}
-use Rattle.record_definitions.specs.Heat.{defines-shape}
 use Rattle.record_definitions.proofs.FrameRefusals.{last-kind, known-kind, first-known}
 use Rattle.record_definitions.proofs.PieceTests.{nth-test, piece-kept, all-said}
 use Rattle.record_definitions.proofs.Sound.{SoundBody}
@@ -43,100 +38,14 @@ use Rattle.chains.specs.ChainAsWalls.{piece-alone}
 use Rattle.chains.proofs.Refusals.{refusal-by, refused-alike, all-refused-alike}
 use Rattle.chains.proofs.Outcomes.{piece-pair, StillSeen, Outcome, both-ways, refused-as-wall, refused-as-own}
 use Rattle.chains.proofs.Outcomes.{piece-of-piece}
+use Rattle.chains.proofs.ShapeFrames.{piece-is, refused-seen, shape-seen, place-seen, turn-seen}
 
 -- ---- the first body: a chain, and its piece
 module _ (a : Body) (chain : a .kind ≡ chain-kind) (i : ℕ) (within : i < pieces-of a) (pair : Pair) where
   abbrev piece : Body
   piece = placed (wall-body (piece-wall (a .chain) i)) (a .xf)
 
-  pub piece-is : piece-of a i ≡ piece
-  unfolding piece-of
-  piece-is = rw chain refl
-
   module _ (bytes : List ℕ) (test : Bool) where
-    no-shape-made : (t : Bool) (n : ℕ) → eqb n accepted ≡ false → t && eqb n accepted ≡ false
-    no-shape-made true n some = some
-    no-shape-made false n some = refl
-
-    -- said as it is
-    as-said : (t : Bool) (said : Said) → piece-alone i said ≡ said → said ≡ cond t (piece-alone i said) said
-    as-said true said same = sym same
-    as-said false said same = refl
-
-    refused-seen : (n : ℕ) → eqb n accepted ≡ false
-        → Outcome bytes i test (refused n a pair) (refused n piece (piece-pair i pair))
-    unfolding piece-alone
-    refused-seen n some = inr (record {
-      not-new = no-shape-made (defines-shape bytes) n some;
-      said = as-said test (refused n a pair .said) refl;
-      body = sym piece-is;
-      chain = chain;
-      piece = within;
-      pair = refl;
-      keeps = refl;
-      keeps′ = refl;
-    })
-
-    -- a shape: the same for both, or refused
-    shape-seen : (ok : Bool) (new : Body) (n : ℕ) → byte-at bytes 1 ≤ largest-id → defines-shape bytes ≡ true
-        → (ok ≡ false → eqb n accepted ≡ false)
-        → Outcome bytes i test (cond ok (defined new pair) (refused n a pair))
-        (cond ok (defined new (piece-pair i pair)) (refused n piece (piece-pair i pair)))
-    shape-seen true new n named shape some = inl (record {
-      named = named;
-      new = rw shape refl;
-      said = refl;
-      body = refl;
-      forgets = refl;
-      forgets′ = refl;
-    })
-    shape-seen false new n named shape some = refused-seen n (some refl)
-
-    -- a placement: there is a shape
-    there : (c : Change) → cond (eqb (a .kind) no-body) (refused no-shape a pair) c ≡ c
-    there c = ap (λ (kind : ℕ). cond (eqb kind no-body) (refused no-shape a pair) c) chain
-
-    placed-piece : (xf : B2Transform) → placed piece xf ≡ piece-of (placed a xf) i
-    unfolding placed wall-body piece-of
-    placed-piece xf =
-        sym (ap (λ (kind : ℕ). cond (eqb kind chain-kind) (placed (wall-body (piece-wall (a .chain) i)) xf)
-        (placed a xf)) chain)
-
-    moved-seen : defines-shape bytes ≡ false → (xf : B2Transform)
-        → Outcome bytes i test (moved (placed a xf) pair) (moved (placed piece xf) (piece-pair i pair))
-    unfolding placed piece-alone
-    moved-seen no-new xf = inr (record {
-      not-new = rw no-new refl;
-      said = as-said test (moved (placed a xf) pair .said) refl;
-      body = placed-piece xf;
-      chain = chain;
-      piece = within;
-      pair = refl;
-      keeps = refl;
-      keeps′ = refl;
-    })
-
-    placed-seen : defines-shape bytes ≡ false → (xf : B2Transform)
-        → Outcome bytes i test (placed-at a pair xf) (placed-at piece (piece-pair i pair) xf)
-    placed-seen no-new xf =
-        both-ways bytes i test (not (transform-in-range xf)) _ _ _ _
-        (λ out. refused-seen placement-out-of-range refl) (λ inside. moved-seen no-new xf)
-
-    place-seen : defines-shape bytes ≡ false
-        → Outcome bytes i test (place-change a pair bytes) (place-change piece (piece-pair i pair) bytes)
-    unfolding place-change placed wall-body
-    place-seen no-new =
-        subst (λ (c : Change). Outcome bytes i test c (place-change piece (piece-pair i pair) bytes)) (sym (there _))
-        (placed-seen no-new (placement-at bytes 2))
-
-    turn-seen : defines-shape bytes ≡ false
-        → Outcome bytes i test (turn-change a pair bytes) (turn-change piece (piece-pair i pair) bytes)
-    unfolding turn-change placed wall-body
-    turn-seen no-new =
-        subst (λ (c : Change). Outcome bytes i test c (turn-change piece (piece-pair i pair) bytes)) (sym (there _))
-        (both-ways bytes i test (ltb largest-turn (turn-at bytes 10)) _ _ _ _ (λ above. refused-seen unknown-turn refl)
-        (λ known. placed-seen no-new (turned-placement bytes)))
-
     -- ---- a test, of the body whose id is named second: the same in both worlds, or the chain and the piece themselves
     module _ (b b′ : Body) (second : (b′ ≡ b) ⊎ ((b .kind ≡ chain-kind) × (b′ .kind ≡ wall-kind))) (ida idb : ℕ) where
       same-number : test-refusal ida idb (a .kind) (b .kind) ≡ test-refusal ida idb (piece .kind) (b′ .kind)
@@ -162,7 +71,7 @@ module _ (a : Body) (chain : a .kind ≡ chain-kind) (i : ℕ) (within : i < pie
       unfolding piece-tested
       alone =
           ap (λ (body : Body). tested ida idb body b (kept-of pair i))
-          (piece-of-piece (a .chain) i (a .xf) ∙ sym piece-is)
+          (piece-of-piece (a .chain) i (a .xf) ∙ sym (piece-is a chain i within pair))
 
       first-of-one : (n : ℕ) → n ≡ refusal-by b → cond (eqb n accepted) accepted n ≡ refusal-by b
       first-of-one n is =
@@ -207,7 +116,7 @@ module _ (a : Body) (chain : a .kind ≡ chain-kind) (i : ℕ) (within : i < pie
       answers-seen five is-test = record {
         not-new = rw five refl;
         said = rw is-test (ap (λ (t : Touch). said-of-touches t []) shown);
-        body = sym piece-is;
+        body = sym (piece-is a chain i within pair);
         chain = chain;
         piece = within;
         pair =
@@ -227,7 +136,7 @@ module _ (a : Body) (chain : a .kind ≡ chain-kind) (i : ℕ) (within : i < pie
           rw (chain-number, wall-number)
           (both-ways bytes i test (eqb (refusal-by b) accepted) chain-answers (refused (refusal-by b) a pair)
           wall-answers (refused (refusal-by b) piece (piece-pair i pair)) (λ taken. inr (answers-seen five is-test))
-          (λ other. refused-seen (refusal-by b) other))
+          (λ other. refused-seen a chain i within pair bytes test (refusal-by b) other))
 
     -- ---- any frame
     module _ (b b′ : Body) (second : (b′ ≡ b) ⊎ ((b .kind ≡ chain-kind) × (b′ .kind ≡ wall-kind)))
@@ -260,7 +169,7 @@ module _ (a : Body) (chain : a .kind ≡ chain-kind) (i : ℕ) (within : i < pie
           (test-answered a pair (piece-tested ida idb a b pair 0) (further-tests ida idb a b pair)) (wall-test body))
           (sym (other-body second is-listed))
           (answered-seen b a-sound b-sound a-caps b-caps is-listed ida idb five is))
-          (λ against. refused-seen number against))
+          (λ against. refused-seen a chain i within pair bytes test number against))
 
       kind-seen : frame-refusal bytes ≡ accepted
           → Outcome bytes i test (change-of-kind (byte-at bytes 0) a b pair bytes)
@@ -271,17 +180,17 @@ module _ (a : Body) (chain : a .kind ≡ chain-kind) (i : ℕ) (within : i < pie
           let named = first-known bytes taken in
           let outline = b2-polygon-shape-set blank-outline (points-at bytes 3 (byte-at bytes 2)) in
           both-ways bytes i test (eqb kind 1) _ _ _ _
-          (λ one. shape-seen (circle-in-range (circle-at bytes)) _ shape-out-of-range named (rw one refl) (λ out. refl))
+          (λ one. shape-seen a chain i within pair bytes test (circle-in-range (circle-at bytes)) _ shape-out-of-range named (rw one refl) (λ out. refl))
           (λ no-1. both-ways bytes i test (eqb kind 2) _ _ _ _
-          (λ two. shape-seen (eqb (outline .refusal) accepted) _ (outline .refusal) named (rw (no-1, two) refl)
+          (λ two. shape-seen a chain i within pair bytes test (eqb (outline .refusal) accepted) _ (outline .refusal) named (rw (no-1, two) refl)
           (λ out. out))
           (λ no-2. both-ways bytes i test (eqb kind 3) _ _ _ _
-          (λ three. shape-seen (eqb (wall-at bytes .refusal) accepted) _ (wall-at bytes .refusal) named
+          (λ three. shape-seen a chain i within pair bytes test (eqb (wall-at bytes .refusal) accepted) _ (wall-at bytes .refusal) named
           (rw (no-1, no-2, three) refl) (λ out. out))
-          (λ no-3. both-ways bytes i test (eqb kind 4) _ _ _ _ (λ four. place-seen (rw (eqb-true kind 4 four) refl))
-          (λ no-4. both-ways bytes i test (eqb kind 6) _ _ _ _ (λ six. turn-seen (rw (eqb-true kind 6 six) refl))
+          (λ no-3. both-ways bytes i test (eqb kind 4) _ _ _ _ (λ four. place-seen a chain i within pair bytes test (rw (eqb-true kind 4 four) refl))
+          (λ no-4. both-ways bytes i test (eqb kind 6) _ _ _ _ (λ six. turn-seen a chain i within pair bytes test (rw (eqb-true kind 6 six) refl))
           (λ no-6. both-ways bytes i test (eqb kind 7) _ _ _ _
-          (λ seven. shape-seen (eqb (chain-refusal bytes) accepted) _ (chain-refusal bytes) named
+          (λ seven. shape-seen a chain i within pair bytes test (eqb (chain-refusal bytes) accepted) _ (chain-refusal bytes) named
           (rw (no-1, no-2, no-3, seven) refl) (λ out. out))
           (λ no-7. let five = last-kind kind (byte-at bytes 2) (known-kind bytes taken) no-1 no-2 no-3 no-4 no-6 no-7 in
           test-seen (byte-at bytes 1) (byte-at bytes 2) five (is-test five named)))))))
@@ -291,4 +200,4 @@ module _ (a : Body) (chain : a .kind ≡ chain-kind) (i : ℕ) (within : i < pie
       change-seen =
           let number = frame-refusal bytes in
           both-ways bytes i test (eqb number accepted) _ _ _ _
-          (λ taken. kind-seen (eqb-true number accepted taken)) (λ refused. refused-seen number refused)
+          (λ taken. kind-seen (eqb-true number accepted taken)) (λ refused. refused-seen a chain i within pair bytes test number refused)

@@ -45,7 +45,8 @@ use Rattle.record_definitions.proofs.SoundTests.{counted-right, second-is-outli
 use Rattle.record_ranges.proofs.Vectors.{caps-sub, cap-dot}
 use Rattle.record_ranges.proofs.Shapes.{WallCaps, zero-cap}
 use Rattle.record_ranges.proofs.Manifolds.{ranged-taken}
-use Rattle.record_ranges.proofs.Bodies.{CappedBody, piece-capped}
+use Rattle.record_ranges.proofs.Bodies.{CappedBody}
+use Rattle.record_ranges.proofs.Chains.{piece-capped}
 use Rattle.record_ranges.proofs.Contacts.{met-ranged}
 
 -- ---- a piece that is long enough has a squared length above 0

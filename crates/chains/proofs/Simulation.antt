@@ -2,12 +2,11 @@
 -- new shape there leaves them alike, and any other line leaves them so. Assumes nothing.
 use Prim.Native.Nat.{ℕ, _≤_, _<_}
 use mathlib.Core.Path.{_≡_, refl, sym, _∙_, ap, subst}
-use mathlib.Core.Bool.{Bool, true, false, cond, _&&_, _||_}
+use mathlib.Core.Bool.{Bool, true, false, cond, _&&_}
 use mathlib.Core.List.{List}
 use mathlib.Core.Logic.{_⊎_, inl, inr}
 use native.Mathlib.Omega.{arith}
 use lib.Dec.{eqb}
-use lib.ListN.{length, length-set}
 use borrow.Author.Tests.{eqb-true, eqb-false, eq-eqb, ne-eqb}
 use Rattle.algebra.proofs.Booleans.{by-test}
 use Rattle.lines.specs.Fields.{byte-at}
@@ -17,21 +16,22 @@ use Rattle.record_definitions.specs.declared.world.Body.{Body}
 use Rattle.record_definitions.specs.declared.world.Pair.{Pair}
 use Rattle.record_definitions.specs.declared.world.World.{World}
 use Rattle.record_definitions.specs.declared.frame.Change.{Change}
-use Rattle.record_definitions.specs.World.{wall-kind, chain-kind, wall-body, placed, piece-of, fresh-pair, body-at}
+use Rattle.record_definitions.specs.World.{piece-of, fresh-pair, body-at}
 use Rattle.record_definitions.specs.World.{pair-at}
 use Rattle.record_definitions.specs.Frame.{largest-id, change}
 use Rattle.record_definitions.specs.Export.{refusal-in}
-use Rattle.record_definitions.specs.Step.{first-place, second-place, changed, change-in, after-frame, said-of-frame}
+use Rattle.record_definitions.specs.Step.{first-place, second-place, change-in, said-of-frame}
 use Rattle.record_definitions.specs.Step.{after-line, said-of-line}
 use Rattle.record_definitions.specs.Heat.{defines-shape}
-use Rattle.record_definitions.proofs.Sound.{Sound}
-use Rattle.record_definitions.proofs.SoundKept.{frame-keeps-sound}
-use Rattle.record_ranges.proofs.Kept.{CappedWorld, frame-keeps-capped}
 use Rattle.chains.specs.ChainAsWalls.{tests-first, seen, renews}
 use Rattle.chains.proofs.Outcomes.{piece-pair, Renewed, StillSeen, Outcome}
-use Rattle.chains.proofs.OneFrame.{piece-is, change-seen}
-use Rattle.chains.proofs.Lookups.{body-there, pair-there, pairs-length, same-world, change-other}
-use Rattle.chains.proofs.SeenWorlds.{Seen, fresh-piece}
+use Rattle.chains.proofs.ShapeFrames.{piece-is}
+use Rattle.chains.proofs.OneFrame.{change-seen}
+use Rattle.chains.proofs.Lookups.{same-world}
+use Rattle.chains.proofs.SeenWorlds.{Seen}
+use Rattle.chains.proofs.OtherFrames.{body-after, body-after′, pair-after, pair-after′, bodies-after}
+use Rattle.chains.proofs.OtherFrames.{pairs-after-size, sound-after, capped-after, second, changes-same}
+use Rattle.chains.proofs.OtherFrames.{b-small, not-named, other-seen}
 
 -- ---- one frame
 module _ (k i : ℕ) (w w′ : World) (same : Seen k i w w′) (line : List ℕ) where
@@ -49,125 +49,6 @@ module _ (k i : ℕ) (w w′ : World) (same : Seen k i w w′) (line : List ℕ)
 
   abbrev c′ : Change
   c′ = change-in w′ bytes
-
-  a-small : a < 8
-  a-small = omega arith
-
-  b-small : b < 8
-  b-small = omega arith
-
-  -- what is found after it
-  body-after : (x : ℕ) → body-at (after-line w line) x ≡ cond (eqb x a) (c .body) (body-at w x)
-  unfolding after-frame changed
-  body-after x = body-there (w .bodies) a x (c .body) (same .sound .bodies-size) a-small
-
-  body-after′ : (x : ℕ) → body-at (after-line w′ line) x ≡ cond (eqb x a) (c′ .body) (body-at w′ x)
-  unfolding after-frame changed
-  body-after′ x = body-there (w′ .bodies) a x (c′ .body) (same .bodies-size) a-small
-
-  abbrev then : Bool → ℕ → ℕ → Pair → Pair → Pair
-  then forget x y new old = cond forget (cond (eqb x a || eqb y a) fresh-pair old) (cond (eqb x a && eqb y b) new old)
-
-  pair-after : (x y : ℕ) → x < 8 → y < 8
-      → pair-at (after-line w line) x y ≡ then (c .forget) x y (c .pair) (pair-at w x y)
-  unfolding after-frame changed
-  pair-after x y x-small y-small =
-      pair-there (w .pairs) a b x y (c .pair) (same .sound .pairs-size) a-small b-small x-small y-small (c .forget)
-
-  pair-after′ : (x y : ℕ) → x < 8 → y < 8
-      → pair-at (after-line w′ line) x y ≡ then (c′ .forget) x y (c′ .pair) (pair-at w′ x y)
-  unfolding after-frame changed
-  pair-after′ x y x-small y-small =
-      pair-there (w′ .pairs) a b x y (c′ .pair) (same .pairs-size) a-small b-small x-small y-small (c′ .forget)
-
-  bodies-after : length (after-line w′ line .bodies) ≡ 8
-  unfolding after-frame changed
-  bodies-after = simp length-set (same .bodies-size)
-
-  pairs-after-size : length (after-line w′ line .pairs) ≡ 64
-  unfolding after-frame changed
-  pairs-after-size = pairs-length (c′ .forget) (w′ .pairs) a b (c′ .pair) ∙ same .pairs-size
-
-  sound-after : Sound (after-line w line)
-  sound-after = frame-keeps-sound w bytes (same .sound)
-
-  capped-after : CappedWorld (after-line w line)
-  capped-after = frame-keeps-capped w bytes (same .capped)
-
-  -- the second body: the same, or the chain and its piece
-  wall-is : body-at w′ k .kind ≡ wall-kind
-  unfolding placed wall-body
-  wall-is =
-      ap (λ (body : Body). body .kind)
-      (same .wall ∙ piece-is (body-at w k) (same .chain) i (same .piece) fresh-pair)
-
-  second : (body-at w′ b ≡ body-at w b) ⊎ ((body-at w b .kind ≡ chain-kind) × (body-at w′ b .kind ≡ wall-kind))
-  second =
-      by-test (eqb b k)
-      (λ own. let is = eqb-true b k own in
-      inr (ap (λ (x : ℕ). body-at w x .kind) is ∙ same .chain, ap (λ (x : ℕ). body-at w′ x .kind) is ∙ wall-is))
-      (λ other. inl (same .others b b-small (eqb-false b k other)))
-
-  -- ---- a frame of another body
-  module _ (other : a ≡ k → ⊥) where
-    changes-same : c′ ≡ c
-    unfolding change-in
-    changes-same =
-        ap (λ (body : Body). change body (body-at w′ b) (pair-at w′ a b) bytes) (same .others a a-small other)
-        ∙ ap (λ (pair : Pair). change (body-at w a) (body-at w′ b) pair bytes)
-        (same .pairs a b a-small b-small other)
-        ∙ change-other (body-at w a) (body-at w b) (body-at w′ b) (pair-at w a b) bytes second
-
-    not-named : eqb (byte-at bytes 1) k ≡ false
-    not-named = ne-eqb (byte-at bytes 1) k (λ is. other (omega (arith, same .small)))
-
-    k-other : eqb k a ≡ false
-    k-other = ne-eqb k a (λ is. other (sym is))
-
-    kept-chain : body-at (after-line w line) k ≡ body-at w k
-    kept-chain = body-after k ∙ rw k-other refl
-
-    push : (t u : Bool) (old : Pair)
-        → cond t (cond (false || u) fresh-pair (piece-pair i old)) (piece-pair i old)
-        ≡ piece-pair i (cond t (cond (false || u) fresh-pair old) old)
-    push true true old = sym (fresh-piece i)
-    push true false old = refl
-    push false u old = refl
-
-    own-kept : (y : ℕ) → y < 8
-        → pair-at (after-line w′ line) k y ≡ piece-pair i (pair-at (after-line w line) k y)
-    own-kept y y-small =
-        let old = pair-at w k y in
-        let now : pair-at (after-line w line) k y
-        ≡ cond (c .forget) (cond (false || eqb y a) fresh-pair old) old =
-        pair-after k y (same .small) y-small ∙ rw k-other refl in
-        let now′ : pair-at (after-line w′ line) k y
-        ≡ cond (c .forget) (cond (false || eqb y a) fresh-pair (piece-pair i old)) (piece-pair i old) =
-        pair-after′ k y (same .small) y-small ∙ rw (changes-same, k-other, same .own y y-small) refl in
-        now′ ∙ push (c .forget) (eqb y a) old ∙ ap (piece-pair i) (sym now)
-
-    other-seen : Seen k i (after-line w line) (after-line w′ line)
-    other-seen = record {
-      small = same .small;
-      sound = sound-after;
-      capped = capped-after;
-      bodies-size = bodies-after;
-      pairs-size = pairs-after-size;
-      chain = ap (λ (body : Body). body .kind) kept-chain ∙ same .chain;
-      piece = rw kept-chain (same .piece);
-      wall = body-after′ k ∙ rw k-other (same .wall ∙ ap (λ (body : Body). piece-of body i) (sym kept-chain));
-      others = λ x x-small other.
-          body-after′ x
-          ∙ ap (λ (d : Change). cond (eqb x a) (d .body) (body-at w′ x)) changes-same
-          ∙ ap (λ (body : Body). cond (eqb x a) (c .body) body) (same .others x x-small other)
-          ∙ sym (body-after x);
-      own = own-kept;
-      pairs = λ x y x-small y-small other.
-          pair-after′ x y x-small y-small
-          ∙ ap (λ (d : Change). then (d .forget) x y (d .pair) (pair-at w′ x y)) changes-same
-          ∙ ap (then (c .forget) x y (c .pair)) (same .pairs x y x-small y-small other)
-          ∙ sym (pair-after x y x-small y-small);
-    }
 
   -- ---- a frame of the chain itself
   module _ (own : a ≡ k) where
@@ -189,12 +70,12 @@ module _ (k i : ℕ) (w w′ : World) (same : Seen k i w w′) (line : List ℕ)
         (sym is)
         (subst (λ (pair : Pair). Outcome bytes i test (change (body-at w k) (body-at w b) (pair-at w k b) bytes)
         (change (body-at w′ k) (body-at w′ b) pair bytes))
-        (sym (same .own b b-small))
+        (sym (same .own b (b-small k i w w′ same line)))
         (subst (λ (body : Body). Outcome bytes i test (change (body-at w k) (body-at w b) (pair-at w k b) bytes)
         (change body (body-at w′ b) (piece-pair i (pair-at w k b)) bytes))
         (sym (same .wall ∙ piece-is (body-at w k) (same .chain) i (same .piece) fresh-pair))
         (change-seen (body-at w k) (same .chain) i (same .piece) (pair-at w k b) bytes test (body-at w b) (body-at w′ b)
-        second (same .sound .each k) (same .sound .each b) (same .capped .each k) (same .capped .each b) is-test)))
+        (second k i w w′ same line) (same .sound .each k) (same .sound .each b) (same .capped .each k) (same .capped .each b) is-test)))
 
     outcome : Outcome bytes i test c c′
     unfolding change-in
@@ -207,26 +88,26 @@ module _ (k i : ℕ) (w w′ : World) (same : Seen k i w w′) (line : List ℕ)
     other-place x other = ne-eqb x a (λ is. other (is ∙ own))
 
     own-changed : body-at (after-line w line) k ≡ c .body
-    own-changed = body-after k ∙ rw k-own refl
+    own-changed = body-after k i w w′ same line k ∙ rw k-own refl
 
     -- still a chain, and its piece
     still : StillSeen bytes i test c c′ → Seen k i (after-line w line) (after-line w′ line)
     still s = record {
       small = same .small;
-      sound = sound-after;
-      capped = capped-after;
-      bodies-size = bodies-after;
-      pairs-size = pairs-after-size;
+      sound = sound-after k i w w′ same line;
+      capped = capped-after k i w w′ same line;
+      bodies-size = (bodies-after k i w w′ same line);
+      pairs-size = (pairs-after-size k i w w′ same line);
       chain = ap (λ (body : Body). body .kind) own-changed ∙ s .chain;
       piece = rw own-changed (s .piece);
-      wall = body-after′ k ∙ rw k-own (s .body ∙ ap (λ (body : Body). piece-of body i) (sym own-changed));
+      wall = body-after′ k i w w′ same line k ∙ rw k-own (s .body ∙ ap (λ (body : Body). piece-of body i) (sym own-changed));
       others = λ x x-small other.
-          body-after′ x
+          body-after′ k i w w′ same line x
           ∙ rw (other-place x other)
-          (same .others x x-small other ∙ sym (body-after x ∙ rw (other-place x other) refl));
+          (same .others x x-small other ∙ sym (body-after k i w w′ same line x ∙ rw (other-place x other) refl));
       own = own-pair;
       pairs = λ x y x-small y-small other.
-          pair-after′ x y x-small y-small
+          pair-after′ k i w w′ same line x y x-small y-small
           ∙ rw (s .keeps′, other-place x other)
           (same .pairs x y x-small y-small other ∙ sym (now x y x-small y-small other));
     }
@@ -237,33 +118,33 @@ module _ (k i : ℕ) (w w′ : World) (same : Seen k i w w′) (line : List ℕ)
         push false new old = refl
 
         now : (x y : ℕ) → x < 8 → y < 8 → (x ≡ k → ⊥) → pair-at (after-line w line) x y ≡ pair-at w x y
-        now x y x-small y-small other = pair-after x y x-small y-small ∙ rw (s .keeps, other-place x other) refl
+        now x y x-small y-small other = pair-after k i w w′ same line x y x-small y-small ∙ rw (s .keeps, other-place x other) refl
 
         own-pair : (y : ℕ) → y < 8 → pair-at (after-line w′ line) k y ≡ piece-pair i (pair-at (after-line w line) k y)
         own-pair y y-small =
             let old = pair-at w k y in
             let written : pair-at (after-line w line) k y ≡ cond (eqb y b) (c .pair) old =
-            pair-after k y (same .small) y-small ∙ rw (s .keeps, k-own) refl in
+            pair-after k i w w′ same line k y (same .small) y-small ∙ rw (s .keeps, k-own) refl in
             let written′ : pair-at (after-line w′ line) k y
             ≡ cond (eqb y b) (piece-pair i (c .pair)) (piece-pair i old) =
-            pair-after′ k y (same .small) y-small ∙ rw (s .keeps′, k-own, s .pair, same .own y y-small) refl in
+            pair-after′ k i w w′ same line k y (same .small) y-small ∙ rw (s .keeps′, k-own, s .pair, same .own y y-small) refl in
             written′ ∙ push (eqb y b) (c .pair) old ∙ ap (piece-pair i) (sym written)
 
     -- a new shape: the same world
     renewed : Renewed bytes i test c c′ → after-line w′ line ≡ after-line w line
     renewed r =
-        same-world (after-line w line) (after-line w′ line) (sound-after .bodies-size) bodies-after
-        (sound-after .pairs-size) pairs-after-size
-        (λ x x-small. body-after′ x
+        same-world (after-line w line) (after-line w′ line) ((sound-after k i w w′ same line) .bodies-size) (bodies-after k i w w′ same line)
+        ((sound-after k i w w′ same line) .pairs-size) (pairs-after-size k i w w′ same line)
+        (λ x x-small. body-after′ k i w w′ same line x
         ∙ by-test (eqb x a)
-        (λ is. rw is (r .body ∙ sym (body-after x ∙ rw is refl)))
+        (λ is. rw is (r .body ∙ sym (body-after k i w w′ same line x ∙ rw is refl)))
         (λ other. rw other (same .others x x-small (λ e. eqb-false x a other (e ∙ sym own))
-        ∙ sym (body-after x ∙ rw other refl))))
-        (λ x y x-small y-small. pair-after′ x y x-small y-small
+        ∙ sym (body-after k i w w′ same line x ∙ rw other refl))))
+        (λ x y x-small y-small. pair-after′ k i w w′ same line x y x-small y-small
         ∙ by-test (eqb x a)
-        (λ is. rw (r .forgets′, is) (sym (pair-after x y x-small y-small ∙ rw (r .forgets, is) refl)))
+        (λ is. rw (r .forgets′, is) (sym (pair-after k i w w′ same line x y x-small y-small ∙ rw (r .forgets, is) refl)))
         (λ other. rw (r .forgets′, other, same .pairs x y x-small y-small (λ e. eqb-false x a other (e ∙ sym own)))
-        (sym (pair-after x y x-small y-small ∙ rw (r .forgets, other) refl))))
+        (sym (pair-after k i w w′ same line x y x-small y-small ∙ rw (r .forgets, other) refl))))
 
   -- ---- any frame
   abbrev NewStep : Type 0
@@ -315,9 +196,9 @@ module _ (k i : ℕ) (w w′ : World) (same : Seen k i w w′) (line : List ℕ)
       by-test (eqb a k)
       (λ own. let is = eqb-true a k own in by-outcome is (outcome is))
       (λ away. let other = eqb-false a k away in
-      let not-id = not-named other in
+      let not-id = not-named k i w w′ same line other in
       inr (
         rw not-id (second-fails (defines-shape bytes) (eqb (refusal-in (c .said)) accepted)),
-        rw (not-id, last-fails (eqb (byte-at bytes 0) 5)) (ap (λ (d : Change). d .said) (changes-same other)),
-        other-seen other,
+        rw (not-id, last-fails (eqb (byte-at bytes 0) 5)) (ap (λ (d : Change). d .said) (changes-same k i w w′ same line other)),
+        other-seen k i w w′ same line other,
       ))

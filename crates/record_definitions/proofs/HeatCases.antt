@@ -27,8 +27,8 @@ use Rattle.contact_definitions.specs.WorldManifold.{circles-normal, world-of-ci
 use Rattle.contact_definitions.specs.WorldManifold.{manifold-in-range, b2-world-manifold-initialize}
 use Rattle.record_definitions.specs.declared.world.World.{World}
 use Rattle.record_definitions.specs.declared.touch.Touch.{Touch}
-use Rattle.record_definitions.specs.World.{blank-body, circle-body, placed, fresh-pair, fresh-world, body-at}
-use Rattle.record_definitions.specs.World.{pair-at, forget-below, piece-of, kept-of}
+use Rattle.record_definitions.specs.World.{blank-body, circle-body, placed, fresh-pair, fresh-world}
+use Rattle.record_definitions.specs.World.{forget-below, piece-of}
 use Rattle.record_definitions.specs.Touch.{meet-circle, meet, skin, world-points, touches-after, states-of}
 use Rattle.record_definitions.specs.Touch.{touch-of, tested-as, tested, piece-tested, pieces-tested}
 use Rattle.record_definitions.specs.Touch.{first-refusal}

@@ -17,7 +17,6 @@ use Rattle.record_definitions.specs.declared.touch.Touch.{Touch}
 use Rattle.record_definitions.specs.declared.frame.Answer.{Answer}
 use Rattle.record_definitions.specs.declared.frame.Answer.the-variants.{Tested}
 use Rattle.record_definitions.specs.declared.frame.Change.{Change}
-use Rattle.record_definitions.specs.declared.frame.Said.{Said}
 use Rattle.record_definitions.specs.World.{blank-outline, body-at, pair-at}
 use Rattle.record_definitions.specs.Touch.{piece-tested, first-refusal}
 use Rattle.record_definitions.specs.Answer.{answer-bytes, said-alone, touch-lines, said-line}

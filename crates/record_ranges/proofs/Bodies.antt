@@ -26,21 +26,18 @@ use Rattle.shape_definitions.specs.Polygon.{all-points, b2-polygon-shape-set}
 use Rattle.shape_definitions.specs.Refusal.{accepted}
 use Rattle.contact_definitions.proofs.Counts.{either}
 use Rattle.record_definitions.specs.declared.world.Body.{Body}
-use lib.ListN.{replicate}
-use Rattle.shape_definitions.specs.Outline.{origin}
 use Rattle.record_definitions.specs.declared.world.Chain.{Chain}
 use Rattle.record_definitions.specs.World.{at-origin, blank-outline, blank-wall, blank-body, circle-body, outline-body}
-use Rattle.record_definitions.specs.World.{wall-body, placed, chain-kind, blank-chain, chain-body, piece-wall, piece-of}
+use Rattle.record_definitions.specs.World.{wall-body, placed, blank-chain, piece-wall}
 use Rattle.record_definitions.specs.Touch.{skin}
-use Rattle.record_definitions.specs.Frame.{circle-at, wall-at, chain-points, chain-at, chain-refusal, turn-at}
+use Rattle.record_definitions.specs.Frame.{circle-at, wall-at, turn-at}
 use Rattle.record_definitions.specs.Frame.{turned-placement}
 use Rattle.record_definitions.proofs.Changes.{by-choice, both}
-use Rattle.record_definitions.proofs.SoundChains.{chain-taken}
 use Rattle.record_ranges.proofs.Caps.{Cap}
 use Rattle.record_ranges.proofs.Vectors.{Caps, Turns}
 use Rattle.record_ranges.proofs.Shapes.{zero-cap, one-cap, origin-caps, CircleCaps, WallCaps, OutlineCaps}
 use Rattle.record_ranges.proofs.Shapes.{AtPlace}
-use Rattle.record_ranges.proofs.Outlines.{Each, each-at, each-over, origins, built-caps, blank-outline-caps}
+use Rattle.record_ranges.proofs.Outlines.{Each, each-at, origins, built-caps, blank-outline-caps}
 use Rattle.record_ranges.proofs.Outlines.{skin-taken}
 use Rattle.floats.specs.B2Common.{b2-polygon-radius}
 use native.Mathlib.Omega.{arith}
@@ -67,7 +64,7 @@ point-caps bytes at taken =
       y-cap = bounded-cap (float-at bytes (at + 4)) 20 (2 ^ 20) (le-of-eq refl) (both .1);
     }
 
-points-caps : (bytes : List ℕ) (at n : ℕ) → all-points point-in-range (points-at bytes at n) ≡ true
+pub points-caps : (bytes : List ℕ) (at n : ℕ) → all-points point-in-range (points-at bytes at n) ≡ true
     → Each (points-at bytes at n) 20
 unfolding points-at Each
 points-caps bytes at zero taken = tt
@@ -114,23 +111,23 @@ turned-caps bytes taken =
     component-cap part = record { own = part .own; size = omega (arith, part .small) }
 
 -- ---- bodies that frames make
-at-origin-caps : AtPlace at-origin
+pub at-origin-caps : AtPlace at-origin
 at-origin-caps =
     record { turn = record { sine = zero-cap 0; cosine = one-cap }; position = origin-caps 20 }
 
-blank-wall-caps : WallCaps blank-wall
+pub blank-wall-caps : WallCaps blank-wall
 blank-wall-caps = record { from = origin-caps 20; to = origin-caps 20 }
 
-skin-is-taken : radius-in-range b2-polygon-radius ≡ true
+pub skin-is-taken : radius-in-range b2-polygon-radius ≡ true
 skin-is-taken = is-true (radius-in-range b2-polygon-radius) skin-taken
 
 -- a chain whose points are of at most 2^20 m
-walls-capped : (chain : Chain) → Each (chain .points) 20 → (i : ℕ) → WallCaps (piece-wall chain i)
+pub walls-capped : (chain : Chain) → Each (chain .points) 20 → (i : ℕ) → WallCaps (piece-wall chain i)
 unfolding piece-wall
 walls-capped chain points i =
     record { from = each-at (chain .points) 20 points (i + 1); to = each-at (chain .points) 20 points (i + 2) }
 
-blank-chain-caps : (i : ℕ) → WallCaps (piece-wall blank-chain i)
+pub blank-chain-caps : (i : ℕ) → WallCaps (piece-wall blank-chain i)
 blank-chain-caps = walls-capped blank-chain (origins 10 20)
 
 pub blank-capped : CappedBody blank-body
@@ -229,36 +226,3 @@ placed-capped body xf h place = record {
   chain = h .chain;
   skin-taken = h .skin-taken;
 }
-
--- ---- chains, and their pieces
-pub chain-capped : (bytes : List ℕ) → chain-refusal bytes ≡ accepted → CappedBody (chain-body (chain-at bytes))
-unfolding chain-body chain-at skin
-chain-capped bytes accepts =
-    let taken = chain-taken bytes accepts in
-    let points = points-caps bytes 3 (byte-at bytes 2 + 2) (taken .in-range) in
-    record {
-      place = at-origin-caps;
-      circle = record { centre = origin-caps 20 };
-      outline = blank-outline-caps;
-      wall = blank-wall-caps;
-      chain = walls-capped (chain-at bytes)
-          (each-over (chain-points bytes) (replicate 10 origin) 20 points (origins 10 20));
-      skin-taken = skin-is-taken;
-    }
-
-pub piece-capped : (body : Body) (i : ℕ) → CappedBody body → CappedBody (piece-of body i)
-unfolding piece-of piece-wall placed wall-body skin
-piece-capped body i h =
-    by-choice CappedBody (eqb (body .kind) chain-kind) _ _
-    (λ is. record {
-      place = h .place;
-      circle = record { centre = origin-caps 20 };
-      outline = blank-outline-caps;
-      wall = h .chain i;
-      chain = blank-chain-caps;
-      skin-taken = piece-skin (body .chain) i;
-    })
-    (λ other. h)
-  where
-    piece-skin : (chain : Chain) (j : ℕ) → radius-in-range (piece-wall chain j .«m_radius») ≡ true
-    piece-skin chain j = skin-is-taken

@@ -27,7 +27,8 @@ use Rattle.record_definitions.specs.Step.{first-place, second-place, changed, c
 use Rattle.record_definitions.proofs.Changes.{by-choice}
 use Rattle.record_ranges.proofs.Outlines.{built-radius}
 use Rattle.record_ranges.proofs.Bodies.{CappedBody, blank-capped, circle-capped, outline-capped, wall-capped}
-use Rattle.record_ranges.proofs.Bodies.{placement-caps, turned-caps, placed-capped, chain-capped}
+use Rattle.record_ranges.proofs.Bodies.{placement-caps, turned-caps, placed-capped}
+use Rattle.record_ranges.proofs.Chains.{chain-capped}
 use Rattle.record_ranges.proofs.Shapes.{AtPlace}
 
 pub record CappedWorld (w : World) : Type 0 where

@@ -10,6 +10,7 @@ pub mod FaceCalls
 pub mod WallCalls
 pub mod Outlines
 pub mod Bodies
+pub mod Chains
 pub mod Kept
 pub mod Contacts
 pub mod Theorem

@@ -40,9 +40,9 @@ returns-3 c =
       ids1 .counted-ids .ensures,
       ids2 .counted-ids2 .ensures,
       ids-of-two m1 (sym (length-map (m1 .points) _) ∙ start .good .1 .0 .1 .1 .0 .1 .0 .1)
-      (ids1 .before .before .if1 .left),
+          (ids1 .before .before .if1 .left),
       ids-of-two m2 (sym (length-map (m2 .points) _) ∙ start .good .1 .1 .0 .1 .1 .0 .1 .0 .1)
-      (ids1 .before .if2 .left),
+          (ids1 .before .if2 .left),
     )
 
 pub b2-get-point-states-spec : {M : Type 1} → statement M
