@@ -42,4 +42,5 @@ pub mod TurnFrames
 pub mod TurnCases
 pub mod TableCases
 pub mod Controls
+pub mod ChainCases
 pub mod MarkedCases
