@@ -19,6 +19,7 @@ use Rattle.shape_definitions.specs.Edge.{edge-in-range}
 use Rattle.contact_definitions.specs.B2CollideCircle.{farther}
 use Rattle.contact_definitions.specs.B2CollideEdge.{circle-at-end, circle-at-wall, over-before, over-after}
 use Rattle.contact_definitions.specs.B2CollideEdge.{edge-circle-answer, b2-collide-edge-and-circle}
+use Rattle.contact_definitions.specs.EdgeAxis.{right-of}
 use Rattle.contact_definitions.specs.Searches.{some-below}
 use Rattle.contact_definitions.specs.Manifold.{counted-points, with-local-point, with-count, with-kind}
 use Rattle.contact_definitions.specs.Manifold.{with-one-point}
@@ -94,9 +95,9 @@ unfolding neg add sub mul div le lt eq ofBits toBits root-digits whole-root roun
     forget-below meet-circle meet skin world-points touches-after states-of touch-of tested-as tested frame-length
     well-formed frame-refusal circle-change place-change listed test-refusal test-change change-of-kind change
     head-bytes point-bytes touch-bytes change-in changed after-frame said-of-frame lines-from printed-lines touches
-    points-at b2-mul-t-rot-by-vec2 b2-mul-t-transform-by-vec2 edge-in-range wall-body circle-at-end circle-at-wall
-    over-before over-after edge-circle-answer b2-collide-edge-and-circle some-below with-kind on-face on-other
-    plane-separation plane-middle carried-points world-of-face contact-number-in-range piece-of piece-tested
+    points-at b2-mul-t-rot-by-vec2 b2-mul-t-transform-by-vec2 edge-in-range wall-body right-of circle-at-end
+    circle-at-wall over-before over-after edge-circle-answer b2-collide-edge-and-circle some-below with-kind on-face
+    on-other plane-separation plane-middle carried-points world-of-face contact-number-in-range piece-of piece-tested
     pieces-tested first-refusal touch-lines chain-at long-piece chain-refusal chain-change chain-body piece-wall
     circles-normal world-of-circles
 chain-cases = record { pieces = refl; chains-refused = refl; two-pieces = refl }
