@@ -1,6 +1,6 @@
 //! Frame 05: the test of a pair.
-use super::shapes::Shape::{Circle, Outline, Wall};
-use super::{Answer, Body, Pair, Program};
+use super::shapes::Shape::{self, Circle, Outline, Wall};
+use super::{Answer, Body, Contact, Program};
 use crate::ranges::{within, CONTACT, LOCAL_NORMAL, SIZE};
 use box2d_rs::b2_collision::*;
 use box2d_rs::b2_math::B2vec2;
@@ -16,8 +16,8 @@ fn put_point(line: &mut Vec<u8>, p: B2vec2) {
     put(line, p.y);
 }
 
-/// The contact of a listed pair: 13 of others, 2 by a stored centroid, 8.
-fn contact(a: &Body, b: &Body) -> Result<B2manifold, u8> {
+/// The contact of a piece of a with b, a listed pair: 13 of others, 2 by a stored centroid, 8.
+fn contact(piece: &Shape, a: &Body, b: &Body) -> Result<B2manifold, u8> {
     let mut m = B2manifold::default();
     let (xf_a, xf_b) = (&a.place, &b.place);
     let tested = |outlines: &[&B2polygonShape]| {
@@ -28,7 +28,7 @@ fn contact(a: &Body, b: &Body) -> Result<B2manifold, u8> {
             Err(2)
         }
     };
-    match (&a.shape, &b.shape) {
+    match (piece, &b.shape) {
         (Circle(a), Circle(b)) => b2_collide_circles(&mut m, a, xf_a, b, xf_b),
         (Outline(a), Circle(b)) => {
             tested(&[a])?;
@@ -63,28 +63,38 @@ fn given(m: &B2manifold) -> Result<(), u8> {
     }
 }
 
-/// 05 a b: 12, 13, then the contact's refusals. A touch begins at a test that finds points where the pair's last test
-/// found none, or where there was no last test; a refused test is none.
+/// 05 a b: 12, 13, then the contacts' refusals, of which the first is the answer and leaves every piece as it was.
 pub fn test(program: &mut Program, frame: &[u8]) -> Answer {
     let (ida, idb) = (frame[1] as usize, frame[2] as usize);
-    let (a, b) = (program.bodies[ida].ok_or(12)?, program.bodies[idb].ok_or(12)?);
+    let both = [ida, idb].map(|id| program.bodies[id].as_ref().ok_or(12));
+    let (a, b) = (both[0]?, both[1]?);
     if ida == idb {
         return Err(13);
     }
-    let m = contact(&a, &b)?;
-    given(&m)?;
-    let mut world = B2worldManifold::default();
-    world.initialize(&m, a.place, a.shape.radius(), b.place, b.shape.radius());
-    let (mut old, mut new) = ([B2pointState::B2NullState; 2], [B2pointState::B2NullState; 2]);
+    let found = a.shape.pieces().iter().map(|piece| {
+        let m = contact(piece, a, b)?;
+        given(&m).map(|()| m)
+    });
+    let found = found.collect::<Result<Vec<B2manifold>, u8>>()?;
     let pair = &mut program.pairs[ida][idb];
-    b2_get_point_states(&mut old, &mut new, &pair.last.unwrap_or_default(), &m);
-    let begins = m.point_count > 0 && pair.last.map_or(true, |last| last.point_count == 0);
-    *pair = Pair { last: Some(m), touches: pair.touches.saturating_add(begins as u32) };
+    pair.resize(found.len(), Contact::default());
+    Ok(found.iter().zip(pair).map(|(m, kept)| line(frame, kept, m, a, b)).collect())
+}
+
+/// The line of a piece and its new contact, which is kept. A touch begins at a test that finds points where the last
+/// test found none, or where there was no last test; a refused test is none.
+fn line(frame: &[u8], kept: &mut Contact, m: &B2manifold, a: &Body, b: &Body) -> Vec<u8> {
+    let mut world = B2worldManifold::default();
+    world.initialize(m, a.place, a.shape.radius(), b.place, b.shape.radius());
+    let (mut old, mut new) = ([B2pointState::B2NullState; 2], [B2pointState::B2NullState; 2]);
+    b2_get_point_states(&mut old, &mut new, &kept.last.unwrap_or_default(), m);
+    let begins = m.point_count > 0 && kept.last.map_or(true, |last| last.point_count == 0);
+    *kept = Contact { last: Some(*m), touches: kept.touches.saturating_add(begins as u32) };
 
     let kind = if m.point_count == 0 { 0 } else { m.manifold_type as u8 };
-    let mut line = vec![5, ida as u8, idb as u8, m.point_count as u8, kind];
+    let mut line = vec![frame[0], frame[1], frame[2], m.point_count as u8, kind];
     line.extend(old.iter().chain(&new).map(|state| *state as u8));
-    line.extend(pair.touches.to_be_bytes());
+    line.extend(kept.touches.to_be_bytes());
     if m.point_count > 0 {
         put_point(&mut line, world.normal);
     }
@@ -92,5 +102,5 @@ pub fn test(program: &mut Program, frame: &[u8]) -> Answer {
         put_point(&mut line, world.points[i]);
         put(&mut line, world.separations[i]);
     }
-    Ok(line)
+    line
 }
