@@ -79,8 +79,7 @@ extern "C" uint32_t box2d_export(const uint8_t *frames, size_t length, uint8_t *
     }
     if (length > 0) return 256 + 10;
     refusals_begin();
-    static Program program;
-    program = Program();
+    static Program program; // each call draws both bodies, which forgets the calls before
     const uint8_t test[3] = {5, 0, 1};
     const uint8_t *line = program.answer[0];
     for (int i = 0; i < 5; i++) {

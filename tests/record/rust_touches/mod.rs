@@ -14,8 +14,31 @@ const LONGEST_FRAME: usize = 67;
 const LONGEST_CHAIN: usize = 83;
 const LONGEST_TEST: usize = 45;
 
-/// The bytes of each line, or the number of a refusal.
-type Answer = Result<Vec<Vec<u8>>, u8>;
+/// The lines, or the number of a refusal.
+type Answer = Result<Vec<Line>, u8>;
+
+/// The bytes of a line, so many of them.
+pub struct Line {
+    bytes: [u8; LONGEST_TEST],
+    length: usize,
+}
+
+impl Line {
+    fn of(bytes: &[u8]) -> Line {
+        let mut line = Line { bytes: [0; LONGEST_TEST], length: 0 };
+        line.put(bytes);
+        line
+    }
+
+    fn put(&mut self, more: &[u8]) {
+        self.bytes[self.length..self.length + more.len()].copy_from_slice(more);
+        self.length += more.len();
+    }
+
+    fn bytes(&self) -> &[u8] {
+        &self.bytes[..self.length]
+    }
+}
 
 /// A kind of frame: its length by its third byte, where these are known; how many ids follow the kind; what it does.
 struct Kind {
@@ -63,17 +86,21 @@ struct Contact {
     touches: u32,
 }
 
-/// One for each piece; none before the first accepted test. A body that is no chain is one piece.
-type Pair = Vec<Contact>;
+/// An ordered pair, from its first accepted test on: its ids, and a contact for each piece. A body that is no chain is
+/// one piece.
+struct Pair {
+    ids: [u8; 2],
+    contacts: Vec<Contact>,
+}
 
 #[derive(Default)]
 pub struct Program {
     bodies: [Option<Body>; IDS],
-    pairs: [[Pair; IDS]; IDS],
+    pairs: Vec<Pair>,
 }
 
 fn accepted() -> Answer {
-    Ok(vec![vec![0]])
+    Ok(vec![Line::of(&[0])])
 }
 
 fn words(bytes: &[u8]) -> Vec<u32> {
@@ -88,12 +115,8 @@ impl Program {
     /// A new shape: at the origin, unturned, its pairs forgotten.
     fn made(&mut self, id: u8, shape: Shape) -> Answer {
         let place = B2Transform { p: B2vec2::new(0.0, 0.0), q: B2Rot { s: 0.0, c: 1.0 } };
-        let id = id as usize;
-        self.bodies[id] = Some(Body { shape, place });
-        for other in 0..IDS {
-            self.pairs[id][other] = Pair::default();
-            self.pairs[other][id] = Pair::default();
-        }
+        self.bodies[id as usize] = Some(Body { shape, place });
+        self.pairs.retain(|pair| pair.ids[0] != id && pair.ids[1] != id);
         accepted()
     }
 
@@ -133,8 +156,8 @@ pub fn touches(input: &[u8]) -> Vec<u8> {
         lines.pop(); // after the last line feed there is no line
     }
     for line in lines {
-        for bytes in program.line(line).unwrap_or_else(|refusal| vec![vec![0xff, refusal]]) {
-            for byte in bytes {
+        for answer in program.line(line).unwrap_or_else(|refusal| vec![Line::of(&[0xff, refusal])]) {
+            for byte in answer.bytes() {
                 output.extend([byte >> 4, byte & 15].map(|d| b"0123456789abcdef"[d as usize]));
             }
             output.push(b'\n');
@@ -172,8 +195,8 @@ fn tested(frames: &[u8], room: usize) -> Answer {
 pub fn export(frames: &[u8], out: &mut [u8]) -> u32 {
     match tested(frames, out.len()) {
         Ok(lines) => {
-            let line = lines.concat();
-            out[..line.len()].copy_from_slice(&line);
+            let line = lines[0].bytes();
+            out[..line.len()].copy_from_slice(line);
             line.len() as u32
         }
         Err(refusal) => 256 + refusal as u32,
