@@ -193,11 +193,12 @@ struct Program {
         static b2Manifold found[PIECES];
         for (size_t i = 0; i < a.pieces(); i++)
             if (!contact(found[i], a, i, b)) return refused(8);
-        pairs[ida][idb].resize(a.pieces());
+        std::vector<Contact> &pair = pairs[ida][idb];
+        pair.resize(a.pieces());
         for (size_t i = 0; i < a.pieces(); i++) {
             Line to{answer[i]};
             to.byte(5), to.byte(ida), to.byte(idb);
-            put(to, pairs[ida][idb][i], found[i], a, b);
+            put(to, pair[i], found[i], a, b);
             length[i] = (size_t)(to.at - answer[i]);
         }
         return a.pieces();

@@ -82,15 +82,16 @@ fn refused(answer: &Answered, names: [&str; 2], tally: &mut Tally) {
 fn drawn(answer: &Answered, old: &str, tally: &mut Tally) {
     let (line, count) = (answer.frame, byte(answer.frame, 2));
     let fits = line.len() == 2 * (HEAD + POINT * (count + 2));
+    let digits = line.iter().all(|c| b"0123456789abcdef".contains(c));
     let odd: [(&str, bool); 8] = [
-        ("chain of 165 digits", line.len() == 165),
-        ("chain of 166 digits", line.len() == 166 && answer.first() == 0),
-        ("chain of 167 digits", line.len() == 167),
-        ("chain of 168 digits", line.len() == 168),
-        ("chain of nine points", fits && count == 9),
-        ("chain of a wrong length", !fits && line.len() % 2 == 0 && (2..9).contains(&count)),
-        ("chain of odd digits", line.len() % 2 == 1),
-        ("chain with another character", fits && line.iter().any(|c| !b"0123456789abcdef".contains(c))),
+        ("chain of 165 digits", digits && line.len() == 165),
+        ("chain of 166 digits", answer.first() == 0 && line.len() == 166),
+        ("chain of 167 digits", digits && line.len() == 167),
+        ("chain of 168 digits", digits && line.len() == 168),
+        ("chain of nine points", digits && fits && count == 9),
+        ("chain of a wrong length", digits && !fits && line.len() % 2 == 0 && (2..9).contains(&count)),
+        ("chain of odd digits", digits && line.len() % 2 == 1),
+        ("chain with another character", fits && !digits),
     ];
     odd.iter().filter(|(_, met)| *met).for_each(|(name, _)| tally.met(name));
     if !fits || count > 8 || answer.refusal() == Some(10) {

@@ -61,19 +61,17 @@ fn row(random: &mut Random, points: usize, size: f64) -> Vec<[f32; 2]> {
 }
 
 impl Heat<'_> {
-    /// An id under which a shape of these kinds stands, or is drawn.
+    /// An id, but one, under which a shape of these kinds stands, or is drawn.
     fn one_of(&mut self, kinds: &[Kind], but: Option<usize>) -> usize {
-        for _ in 0..8 {
-            let id = self.id();
-            if Some(id) != but && self.bodies[id].as_ref().map_or(false, |body| kinds.contains(&body.kind)) {
-                return id;
-            }
+        let ids: Vec<usize> = (0..20).map(|_| self.id()).filter(|id| Some(*id) != but).collect();
+        let fits = |id: &&usize| self.bodies[**id].as_ref().map_or(false, |body| kinds.contains(&body.kind));
+        if let Some(id) = ids.iter().take(8).find(fits) {
+            return *id;
         }
-        let id = (but.unwrap_or(self.id()) + 1) % self.bodies.len();
         let kind = self.random.of(kinds);
         let body = body_of(self.random, self.scale, kind);
-        self.draw(id, body);
-        id
+        self.draw(ids[0], body);
+        ids[0]
     }
 
     /// A robot or a ball slides along a chain: from a piece over the next joint, or more of them, and back.
