@@ -1,6 +1,6 @@
 //! The touch record's speed: frames a second of our program, of the second program over the Rust and of the one over
-//! Box2D 2.4.1, on one heat sent over and over and on placements of one body, by frame 04 and by frame 06; and ns a
-//! call of the export. usage: record OURS BOX2D HEAT [ROUNDS]
+//! Box2D 2.4.1, on one heat sent over and over, on placements of one body, by frame 04 and by frame 06, and on a box
+//! along a chain; and ns a call of the export. usage: record OURS BOX2D HEAT [ROUNDS]
 //! Programs are run as they are used, from a file to a file, and must print the same; then ROUNDS times to nowhere, in
 //! turns. A figure is the least processor time of them, the system's for it included. `record touches` is the second
 //! program over the Rust.
@@ -100,8 +100,25 @@ fn placements(by_number: bool) -> Vec<u8> {
         }
         frames.push(frame);
     }
+    lines(&frames)
+}
+
+fn lines(frames: &[Vec<u8>]) -> Vec<u8> {
     let line = |frame: &Vec<u8>| frame.iter().map(|b| format!("{b:02x}")).collect::<String>() + "\n";
     frames.iter().map(line).collect::<String>().into_bytes()
+}
+
+/// A chain of seven pieces, and a box that slides along it, placed and tested in turn: a test has seven lines.
+fn along_chain() -> Vec<u8> {
+    let mut frames = vec![vec![7, 0, 8], vec![2, 1, 4]];
+    (0..10).for_each(|i| [9.0 - 2.0 * i as f32, (i % 2) as f32 / 4.0].iter().for_each(|x| number(&mut frames[0], *x)));
+    [-0.5, -0.5, 0.5, -0.5, 0.5, 0.5, -0.5, 0.5].iter().for_each(|x| number(&mut frames[1], *x));
+    for step in 0..2048 {
+        let mut frame = vec![4, 1];
+        [7.0 - step as f32 / 128.0, 0.625, 0.0, 1.0].iter().for_each(|x| number(&mut frame, *x));
+        frames.extend([frame, vec![5, 0, 1]]);
+    }
+    lines(&frames)
 }
 
 /// The four frames of two outlines with so many corners each, overlapping by a little; the last one moves with i.
@@ -169,6 +186,7 @@ fn main() {
         (words[2].as_str(), heat),
         ("a box placed at each turn number by frame 04", placements(false)),
         ("a box placed at each turn number by frame 06", placements(true)),
+        ("a box placed along a chain and tested", along_chain()),
     ];
     inputs.iter().for_each(|(name, once)| programs(&words[0], &words[1], name, once, rounds));
     [3, 4, 8].iter().for_each(|corners| exports(*corners, 5 * rounds));

@@ -4,25 +4,29 @@
 #include "box2d_bytes.hpp"
 #include "box2d_headings.hpp"
 #include "box2d_words.hpp"
+#include <vector>
 
 namespace {
 
 const float SIZE = 1048576.0f;
-enum { IDS = 8, LONGEST_FRAME = 67, LONGEST_TEST = 45 };
-enum Kind : uint8_t { NOTHING = 0, CIRCLE = 1, OUTLINE = 2, WALL = 3 };
+// a chain's points, the ones before and after left aside, and its pieces; bytes of a frame and of a test's line
+enum { IDS = 8, POINTS = 8, PIECES = POINTS - 1, LONGEST_FRAME = 67, LONGEST_CHAIN = 83, LONGEST_TEST = 45 };
+enum Kind : uint8_t { NOTHING = 0, CIRCLE = 1, OUTLINE = 2, WALL = 3, CHAIN = 7 };
 
 struct Body {
     Kind kind = NOTHING;
     b2Transform place;
     b2CircleShape circle;
     b2PolygonShape outline;
-    b2EdgeShape wall;
+    std::vector<b2EdgeShape> walls; // one, or the pieces of a chain
     float radius() const { return kind == CIRCLE ? circle.m_radius : b2_polygonRadius; }
+    size_t pieces() const { return kind == WALL || kind == CHAIN ? walls.size() : 1; }
 };
 
-// An ordered pair's contact at its last accepted test, without points where there was none, and its touches so far.
-struct Pair {
-    b2Manifold last;
+// What an ordered pair keeps of a piece of its first body: the contact at the last accepted test, without points where
+// there was none, and the touches so far.
+struct Contact {
+    b2Manifold last = b2Manifold();
     uint32_t touches = 0;
 };
 
@@ -38,21 +42,21 @@ template <class Call> bool completes(Call call) {
 
 struct Program {
     Body bodies[IDS];
-    Pair pairs[IDS][IDS];
-    uint8_t answer[LONGEST_TEST];
+    std::vector<Contact> pairs[IDS][IDS]; // none before the first accepted test
+    uint8_t answer[PIECES][LONGEST_TEST];
+    size_t length[PIECES];
 
-    Program() {
-        for (auto &row : pairs) for (auto &pair : row) pair.last.pointCount = 0;
-    }
-
+    // Each kind of frame leaves the lines of its answer in `answer`, their bytes in `length`, and returns how many.
     size_t refused(uint32_t number) {
-        answer[0] = 0xff;
-        answer[1] = (uint8_t)number;
-        return 2;
+        answer[0][0] = 0xff;
+        answer[0][1] = (uint8_t)number;
+        length[0] = 2;
+        return 1;
     }
 
     size_t accepted() {
-        answer[0] = 0;
+        answer[0][0] = 0;
+        length[0] = 1;
         return 1;
     }
 
@@ -60,8 +64,8 @@ struct Program {
         bodies[id].kind = kind;
         bodies[id].place.SetIdentity();
         for (int other = 0; other < IDS; other++) {
-            pairs[id][other].last.pointCount = pairs[other][id].last.pointCount = 0;
-            pairs[id][other].touches = pairs[other][id].touches = 0;
+            pairs[id][other].clear();
+            pairs[other][id].clear();
         }
         return accepted();
     }
@@ -83,7 +87,7 @@ struct Program {
         uint32_t id = frame[1];
         int count = frame[2];
         Bytes in{frame + 3};
-        static b2Vec2 points[8];
+        static b2Vec2 points[POINTS];
         static b2PolygonShape built;
         bool in_range = true;
         for (int i = 0; i < count; i++) {
@@ -106,9 +110,30 @@ struct Program {
             v[i] = in.vec();
             if (!within(v[i])) return refused(2);
         }
-        if (one_sided) bodies[id].wall.SetOneSided(v[0], v[1], v[2], v[3]);
-        else bodies[id].wall.SetTwoSided(v[0], v[1]);
+        std::vector<b2EdgeShape> wall(1);
+        if (one_sided) wall[0].SetOneSided(v[0], v[1], v[2], v[3]);
+        else wall[0].SetTwoSided(v[0], v[1]);
+        bodies[id].walls = wall;
         return made(id, WALL);
+    }
+
+    // 07 id count, the point before, the points, the point after: 15, 2, 16
+    size_t chain(const uint8_t *frame) {
+        uint32_t id = frame[1];
+        const int count = frame[2];
+        Bytes in{frame + 3};
+        if (count < 2) return refused(15);
+        b2Vec2 v[POINTS + 2];
+        for (int i = 0; i < count + 2; i++) {
+            v[i] = in.vec();
+            if (!within(v[i])) return refused(2);
+        }
+        for (int i = 1; i < count; i++)
+            if (!(b2DistanceSquared(v[i], v[i + 1]) > 0.005f * 0.005f)) return refused(16);
+        std::vector<b2EdgeShape> walls((size_t)count - 1);
+        for (int i = 0; i < count - 1; i++) walls[(size_t)i].SetOneSided(v[i], v[i + 1], v[i + 2], v[i + 3]);
+        bodies[id].walls = walls;
+        return made(id, CHAIN);
     }
 
     // 04 id x y sine cosine
@@ -139,16 +164,8 @@ struct Program {
         return accepted();
     }
 
-    // 05 a b. A touch begins where a pair that had no point gets one.
-    size_t test(const uint8_t *frame) {
-        uint32_t ida = frame[1], idb = frame[2];
-        Body &a = bodies[ida], &b = bodies[idb];
-        if (a.kind == NOTHING || b.kind == NOTHING) return refused(12);
-        bool listed = a.kind == CIRCLE ? b.kind == CIRCLE : b.kind == CIRCLE || b.kind == OUTLINE;
-        if (ida == idb || !listed) return refused(13);
-        if (a.kind == OUTLINE && !within(a.outline.m_centroid)) return refused(2);
-        if (b.kind == OUTLINE && !within(b.outline.m_centroid)) return refused(2);
-        static b2Manifold m;
+    // The contact of a piece of a with b: whether it is not refused with 8.
+    bool contact(b2Manifold &m, const Body &a, size_t piece, const Body &b) {
         m = b2Manifold();
         if (a.kind == CIRCLE) {
             b2CollideCircles(&m, &a.circle, a.place, &b.circle, b.place);
@@ -157,45 +174,67 @@ struct Program {
         } else if (a.kind == OUTLINE) {
             b2CollidePolygons(&m, &a.outline, a.place, &b.outline, b.place);
         } else if (b.kind == CIRCLE) {
-            auto call = [&] { b2CollideEdgeAndCircle(&m, &a.wall, a.place, &b.circle, b.place); };
-            if (!completes(call)) return refused(8);
+            return completes([&] { b2CollideEdgeAndCircle(&m, &a.walls[piece], a.place, &b.circle, b.place); });
         } else {
-            b2CollideEdgeAndPolygon(&m, &a.wall, a.place, &b.outline, b.place);
+            b2CollideEdgeAndPolygon(&m, &a.walls[piece], a.place, &b.outline, b.place);
         }
-        Pair &pair = pairs[ida][idb];
-        b2PointState states[4];
-        b2GetPointStates(states, states + 2, &pair.last, &m);
-        if (pair.last.pointCount == 0 && m.pointCount > 0 && pair.touches < UINT32_MAX) pair.touches++;
-        pair.last = m;
+        return true;
+    }
 
-        Line to{answer};
-        to.byte(5), to.byte(ida), to.byte(idb);
+    // 05 a b: a line for each piece of a. What the pair keeps changes when no piece is refused.
+    size_t test(const uint8_t *frame) {
+        uint32_t ida = frame[1], idb = frame[2];
+        Body &a = bodies[ida], &b = bodies[idb];
+        if (a.kind == NOTHING || b.kind == NOTHING) return refused(12);
+        bool listed = a.kind == CIRCLE ? b.kind == CIRCLE : b.kind == CIRCLE || b.kind == OUTLINE;
+        if (ida == idb || !listed) return refused(13);
+        if (a.kind == OUTLINE && !within(a.outline.m_centroid)) return refused(2);
+        if (b.kind == OUTLINE && !within(b.outline.m_centroid)) return refused(2);
+        static b2Manifold found[PIECES];
+        for (size_t i = 0; i < a.pieces(); i++)
+            if (!contact(found[i], a, i, b)) return refused(8);
+        std::vector<Contact> &pair = pairs[ida][idb];
+        pair.resize(a.pieces());
+        for (size_t i = 0; i < a.pieces(); i++) {
+            Line to{answer[i]};
+            to.byte(5), to.byte(ida), to.byte(idb);
+            put(to, pair[i], found[i], a, b);
+            length[i] = (size_t)(to.at - answer[i]);
+        }
+        return a.pieces();
+    }
+
+    // The rest of a piece's line. A touch begins where a piece that had no point gets one.
+    void put(Line &to, Contact &kept, const b2Manifold &m, const Body &a, const Body &b) {
+        b2PointState states[4];
+        b2GetPointStates(states, states + 2, &kept.last, &m);
+        if (kept.last.pointCount == 0 && m.pointCount > 0 && kept.touches < UINT32_MAX) kept.touches++;
+        kept.last = m;
         to.byte((uint32_t)m.pointCount), to.byte(m.pointCount == 0 ? 0 : (uint32_t)m.type);
         for (auto state : states) to.byte((uint32_t)state);
-        to.word(pair.touches);
+        to.word(kept.touches);
         if (m.pointCount > 0) {
             b2WorldManifold world;
             world.Initialize(&m, a.place, a.radius(), b.place, b.radius());
             to.vec(world.normal);
             for (int i = 0; i < m.pointCount; i++) to.vec(world.points[i]), to.number(world.separations[i]);
         }
-        return (size_t)(to.at - answer);
     }
 
-    size_t frame(const uint8_t *bytes, size_t length);
+    size_t frame(const uint8_t *bytes, size_t count);
 
     // One line without its line feed.
-    size_t line(const uint8_t *text, size_t length) {
-        uint8_t bytes[LONGEST_FRAME];
-        if (length == 0 || length > 2 * LONGEST_FRAME || length % 2 == 1) return refused(10);
-        for (size_t i = 0; i < length; i++) {
+    size_t line(const uint8_t *text, size_t digits) {
+        uint8_t bytes[LONGEST_CHAIN];
+        if (digits == 0 || digits > 2 * LONGEST_CHAIN || digits % 2 == 1) return refused(10);
+        for (size_t i = 0; i < digits; i++) {
             uint8_t c = text[i], digit;
             if (c >= '0' && c <= '9') digit = (uint8_t)(c - '0');
             else if (c >= 'a' && c <= 'f') digit = (uint8_t)(c - 'a' + 10);
             else return refused(10);
             bytes[i / 2] = (uint8_t)(i % 2 == 0 ? digit << 4 : bytes[i / 2] | digit);
         }
-        return frame(bytes, length / 2);
+        return frame(bytes, digits / 2);
     }
 };
 

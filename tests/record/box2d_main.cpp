@@ -3,18 +3,17 @@
 #include <cstdio>
 #include <vector>
 
-extern "C" size_t box2d_touches(const uint8_t *input, size_t length, uint8_t *out);
+extern "C" void box2d_touches(const uint8_t *input, size_t length, void (*put)(void *, const uint8_t *, size_t),
+                              void *out);
 
 int main() {
-    const size_t longest_answer = 91;
     std::vector<uint8_t> input(1 << 16);
-    size_t length = 0, lines = 1;
+    size_t length = 0;
     while (size_t n = std::fread(input.data() + length, 1, input.size() - length, stdin)) {
         length += n;
         if (length == input.size()) input.resize(2 * length);
     }
-    for (size_t i = 0; i < length; i++) lines += input[i] == '\n';
-    std::vector<uint8_t> out(longest_answer * lines);
-    size_t count = box2d_touches(input.data(), length, out.data());
-    return std::fwrite(out.data(), 1, count, stdout) == count ? 0 : 1;
+    auto put = [](void *, const uint8_t *text, size_t count) { std::fwrite(text, 1, count, stdout); };
+    box2d_touches(input.data(), length, put, nullptr);
+    return std::fflush(stdout) == 0 && !std::ferror(stdout) ? 0 : 1;
 }

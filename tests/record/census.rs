@@ -1,4 +1,6 @@
 //! What the heats of a run had in them, counted from inputs and the right outputs.
+use crate::answers::{answered, byte, float, Answered, IDS};
+use crate::chain_census;
 use crate::kinds::{kind, KINDS};
 use crate::ranges::SIZE;
 use crate::support::Tally;
@@ -8,76 +10,56 @@ const QUARTER: usize = 1024;
 
 const STATES: [&str; 4] = ["null", "add", "persist", "remove"];
 
-pub fn lines(text: &[u8]) -> Vec<&[u8]> {
-    let mut lines: Vec<&[u8]> = text.split(|c| *c == b'\n').collect();
-    if lines.last().map_or(false, |rest| rest.is_empty()) {
-        lines.pop();
-    }
-    lines
-}
-
-pub fn byte(line: &[u8], i: usize) -> usize {
-    let digits = line.get(2 * i..2 * i + 2).and_then(|two| std::str::from_utf8(two).ok());
-    digits.and_then(|two| usize::from_str_radix(two, 16).ok()).unwrap_or(0)
-}
-
-/// The first line in which two outputs differ, with its frame.
-pub fn difference(input: &[u8], wanted: &[u8], got: &[u8]) -> String {
-    let (frames, wanted, got) = (lines(input), lines(wanted), lines(got));
-    let text = |list: &[&[u8]], i: usize| {
-        list.get(i).map_or("no line".into(), |line| String::from_utf8_lossy(&line[..line.len().min(200)]).into_owned())
-    };
-    match (0..wanted.len().max(got.len())).find(|i| wanted.get(*i) != got.get(*i)) {
-        Some(i) => format!("line {}: {:?} gives {}, not {}", i + 1, text(&frames, i), text(&got, i), text(&wanted, i)),
-        None => "lines are the same".to_string(),
-    }
-}
-
 /// What stands under an id: the shape's name, and how it is turned.
 #[derive(Clone, Copy, Default)]
-struct Stands {
-    name: &'static str,
-    turn: &'static str,
+pub struct Stands {
+    pub name: &'static str,
+    pub turn: &'static str,
 }
 
 pub fn add(input: &[u8], output: &[u8], tally: &mut Tally) {
-    let mut bodies = [Stands::default(); 8];
-    for (line, answer) in lines(input).iter().zip(lines(output)) {
-        damage(line, tally);
-        match (byte(answer, 0), kind(byte(line, 0))) {
-            (0xff, Some(row)) if byte(answer, 1) != 10 => {
-                tally.met(&format!("{} refusal {}", row.name, byte(answer, 1)));
-                if row.name == "heading" {
-                    refused_heading(line, byte(answer, 1), tally);
-                }
-            }
-            (0xff, _) => tally.met(&format!("refusal {}", byte(answer, 1))),
-            (0, Some(row)) => {
-                tally.met(&format!("{} accepted", row.name));
-                let body = &mut bodies[byte(line, 1)];
-                if row.makes_shape {
-                    tally.met(&format!("shape under id {}", byte(line, 1)));
-                    let one_sided = row.name == "wall" && byte(line, 2) == 1;
-                    *body = Stands { name: if one_sided { "one-sided wall" } else { row.name }, turn: "unturned" };
-                    if row.name == "outline" {
-                        tally.met(&format!("outline of {} points", byte(line, 2)));
-                    }
-                } else if row.name == "heading" {
-                    body.turn = heading(number(line), tally);
-                } else {
-                    body.turn = turn(line);
-                }
-            }
-            _ => tested(line, answer, &bodies, tally),
-        }
+    let mut bodies = [Stands::default(); IDS];
+    let mut chains = chain_census::Chains::default();
+    for answer in answered(input, output) {
+        damage(answer.frame, tally);
+        let both = [1, 2].map(|i| bodies.get(byte(answer.frame, i)).copied().unwrap_or_default());
+        chains.add(&answer, both, tally);
+        frame(&answer, &mut bodies, tally);
     }
     if input.last().map_or(false, |c| *c != b'\n') {
         tally.met("no line feed at the end");
     }
 }
 
-fn float(line: &[u8], at: usize) -> f32 {
-    f32::from_bits((at..at + 4).fold(0, |bits, i| bits << 8 | byte(line, i) as u32))
+/// Counts a frame by its kind and its answer.
+fn frame(answer: &Answered, bodies: &mut [Stands; IDS], tally: &mut Tally) {
+    let line = answer.frame;
+    match (answer.refusal(), answer.first(), kind(byte(line, 0))) {
+        (Some(refusal), _, Some(row)) if refusal != 10 => {
+            tally.met(&format!("{} refusal {refusal}", row.name));
+            if row.name == "heading" {
+                refused_heading(line, refusal, tally);
+            }
+        }
+        (Some(refusal), _, _) => tally.met(&format!("refusal {refusal}")),
+        (None, 0, Some(row)) => {
+            tally.met(&format!("{} accepted", row.name));
+            let body = &mut bodies[byte(line, 1)];
+            if row.makes_shape {
+                tally.met(&format!("shape under id {}", byte(line, 1)));
+                let one_sided = row.name == "wall" && byte(line, 2) == 1;
+                *body = Stands { name: if one_sided { "one-sided wall" } else { row.name }, turn: "unturned" };
+                if ["outline", "chain"].contains(&row.name) {
+                    tally.met(&format!("{} of {} points", row.name, byte(line, 2)));
+                }
+            } else if row.name == "heading" {
+                body.turn = heading(number(line), tally);
+            } else {
+                body.turn = turn(line);
+            }
+        }
+        _ => answer.lines.iter().for_each(|piece| tested(line, piece, bodies, tally)),
+    }
 }
 
 /// How a placement turns, by its sine and cosine.
@@ -132,8 +114,9 @@ pub fn pieces(pieces: usize, length: usize, tally: &mut Tally) {
     }
 }
 
-/// Counts a test by its ids, its pair, its points, their face, the turns and its states. Its touches: see rulebook.rs.
-fn tested(line: &[u8], answer: &[u8], bodies: &[Stands; 8], tally: &mut Tally) {
+/// Counts a line of a test by its ids, its pair, its points, their face, the turns and its states. Its touches: see
+/// rulebook.rs.
+fn tested(line: &[u8], answer: &[u8], bodies: &[Stands; IDS], tally: &mut Tally) {
     let both = [1, 2].map(|i| bodies[byte(line, i)]);
     let pair = both.map(|body| body.name).join("-");
     tally.met(&format!("{pair} {}", ["apart", "1 point", "2 points"][byte(answer, 3)]));
@@ -153,7 +136,8 @@ fn tested(line: &[u8], answer: &[u8], bodies: &[Stands; 8], tally: &mut Tally) {
 fn damage(line: &[u8], tally: &mut Tally) {
     let has = |test: fn(&u8) -> bool| line.iter().any(test);
     let heading = |length: fn(usize) -> bool| line.starts_with(b"06") && length(line.len());
-    let odd: [(&str, bool); 12] = [
+    let digits = |count: usize| line.len() == count && line.iter().all(|c| c.is_ascii_hexdigit());
+    let odd: [(&str, bool); 13] = [
         ("heading of 11 bytes", heading(|length| length == 22)),
         ("heading of 13 bytes", heading(|length| length == 26)),
         ("heading of odd digits", heading(|length| length % 2 == 1)),
@@ -162,8 +146,9 @@ fn damage(line: &[u8], tally: &mut Tally) {
         ("NUL", has(|c| *c == 0)),
         ("byte from 80 on", has(|c| *c >= 0x80)),
         ("upper case", has(|c| c.is_ascii_uppercase())),
-        ("134 digits", line.len() == 134 && line.iter().all(|c| c.is_ascii_hexdigit())),
-        ("135 digits", line.len() == 135 && line.iter().all(|c| c.is_ascii_hexdigit())),
+        ("134 digits", digits(134)),
+        ("135 digits", digits(135)),
+        ("136 digits, and no chain", digits(136) && !line.starts_with(b"07")),
         ("5000 characters", line.len() >= 5000),
         ("100000 characters", line.len() >= 100_000),
     ];
@@ -173,7 +158,7 @@ fn damage(line: &[u8], tally: &mut Tally) {
 /// What a run has to meet.
 pub fn wanted() -> Vec<String> {
     // the most points of a pair, and the kinds of its contacts
-    let pairs: [(&str, usize, &[u8]); 7] = [
+    let pairs: [(&str, usize, &[u8]); 9] = [
         ("circle-circle", 1, &[0]),
         ("outline-circle", 1, &[1]),
         ("outline-outline", 2, &[1, 2]),
@@ -181,6 +166,8 @@ pub fn wanted() -> Vec<String> {
         ("wall-outline", 2, &[1, 2]),
         ("one-sided wall-circle", 1, &[0, 1]),
         ("one-sided wall-outline", 2, &[1, 2]),
+        ("chain-circle", 1, &[0, 1]),
+        ("chain-outline", 2, &[1, 2]),
     ];
     let mut list: Vec<String> = Vec::new();
     for (pair, most, kinds) in pairs {
@@ -194,6 +181,8 @@ pub fn wanted() -> Vec<String> {
     }
     list.extend((0..8).map(|id| format!("shape under id {id}")));
     list.extend((3..9).map(|count| format!("outline of {count} points")));
+    list.extend((2..9).map(|count| format!("chain of {count} points")));
+    list.extend(chain_census::wanted());
     for row in &KINDS {
         list.extend(row.refusals.iter().map(|refusal| format!("{} refusal {refusal}", row.name)));
     }
@@ -224,6 +213,7 @@ pub fn wanted() -> Vec<String> {
         "upper case",
         "134 digits",
         "135 digits",
+        "136 digits, and no chain",
         "5000 characters",
         "100000 characters",
         "no line feed at the end",

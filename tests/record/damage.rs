@@ -1,5 +1,7 @@
 //! What is wrong in random heats: frames that are refused, and damaged lines.
-use crate::heats::{Heat, IDS};
+use crate::answers::IDS;
+use crate::chains::POINTS;
+use crate::heats::Heat;
 use crate::kinds::{any, unknown_id, weighted};
 use crate::robots::{body_of, floats, hex, point, shape_frame, Body, Kind};
 
@@ -36,9 +38,9 @@ impl Heat<'_> {
     /// A frame that is well formed and, mostly, refused.
     pub fn refused(&mut self) {
         let id = self.id() as u8;
-        if self.random.once_in(12) {
+        if self.random.once_in(8) {
             let (kind, id) = (any(self.random), unknown_id(self.random));
-            let frame = (kind.any)(self.random, id);
+            let frame = self.random.of(&[kind.any, kind.refused])(self.random, id);
             return self.frame(&frame);
         }
         let kind = weighted(self.random);
@@ -55,11 +57,27 @@ impl Heat<'_> {
         }
     }
 
+    /// A line at the longest, or about it: 134 digits are an outline of eight points, 166 a chain of them.
+    pub fn long_line(&mut self) {
+        let (id, kind) = (self.id(), self.random.of(&[Kind::Outline, Kind::Chain, Kind::Chain]));
+        let count = if kind == Kind::Chain { POINTS + 2 } else { POINTS };
+        let points = (0..count).map(|_| point(self.random, 1.0)).collect();
+        let body = Body { points, ..body_of(self.random, 1.0, kind) };
+        let mut line = hex(&shape_frame(id as u8, &body));
+        match self.random.below(5) {
+            0 => drop(line.pop()),
+            1 => {}
+            _ => line.extend(vec![b'0'; self.random.of(&[1, 1, 2, 2, 16, 32, 1000])]),
+        }
+        self.line(&line);
+        self.bodies[id] = None;
+    }
+
     /// A line that is no frame, or hardly one: damaged digits, wrong lengths, unknown kinds, other bytes, none at all.
     pub fn damaged(&mut self) {
         let id = if self.random.once_in(4) { 8 } else { self.id() as u8 };
         let random = &mut *self.random;
-        let kind = any(random);
+        let kind = weighted(random);
         let mut line = hex(&(kind.any)(random, id));
         let place = random.below(line.len() as u64) as usize;
         let odd = random.of(b"/:@`gGAFxz \t\r\0\x0b\x7f\x80\xc3\xff");
@@ -70,22 +88,14 @@ impl Heat<'_> {
             3 => line.push(b'\r'),
             4 => drop(line.remove(place)),
             5 => line.truncate(place),
-            6 | 13 => line.extend(b"00"),
             14 | 15 => line.truncate(line.len() - 2),
             7 => line = Vec::new(),
             8 => line[0..2].copy_from_slice(random.of(&[b"00", b"0b", b"0f", b"10", b"7f", b"ee", b"ff"])),
             9 if kind.third => line[4..6].copy_from_slice(random.of(&[b"02", b"09", b"10", b"ff"])),
-            9 | 10 => {
-                // 134 digits are a frame of eight points; 135 and more are overlong, whatever they begin with
-                let points = (0..8).map(|_| point(random, 1.0)).collect();
-                let body = Body { points, ..body_of(random, 1.0, Kind::Outline) };
-                line = hex(&shape_frame(id, &body));
-                let more = random.of(&[0, 0, 1, 2, 16, 32, 66, 1000]);
-                line.extend(vec![b'0'; more]);
-            }
+            6 | 9 | 10 | 13 => line.extend(b"00"),
             11 => {
-                line = vec![b'0'; random.of(&[133, 134, 135, 136, 150, 166, 300])];
-                line[1] = random.of(b"123456");
+                line = vec![b'0'; random.of(&[133, 134, 135, 136, 150, 165, 166, 167, 168, 300])];
+                line[1] = random.of(b"1234567");
             }
             12 => line = (0..random.below(200)).map(|_| random.next() as u8).filter(|c| *c != b'\n').collect(),
             _ => line = vec![random.next() as u8 | 1; if random.once_in(8) { 100_000 } else { 5000 }],

@@ -1,7 +1,7 @@
 //! Our export beside the second programs': good and damaged frames, outputs of 0 to 64 bytes. Both slices end or begin
 //! at pages that cannot be read or written.
 use crate::heats::export_frames;
-use crate::robots::{heading_frame, turn_number};
+use crate::robots::{body_of, heading_frame, shape_frame, turn_number, Kind};
 use crate::second;
 use crate::support::{Random, Tally};
 
@@ -54,7 +54,7 @@ impl Guarded {
     }
 }
 
-const DAMAGES: [&str; 10] = [
+const DAMAGES: [&str; 11] = [
     "whole",
     "cut short",
     "a byte too many",
@@ -65,6 +65,7 @@ const DAMAGES: [&str; 10] = [
     "a number changed",
     "any bytes",
     "a heading in a placement's place",
+    "a chain in an outline's place",
 ];
 
 /// Where the slices are: at the beginning or the end of their pages.
@@ -77,7 +78,7 @@ fn input(random: &mut Random) -> (Vec<u8>, &'static str) {
     let which = random.below(4) as usize;
     match damage {
         3 => frames[which][1] = random.of(&[0, 1, 2, 7, 8, 255]),
-        4 => frames[which][0] = random.of(&[0, 1, 2, 3, 4, 5, 6, 255]),
+        4 => frames[which][0] = random.of(&[0, 1, 2, 3, 4, 5, 6, 7, 255]),
         5 => frames[2 * (which / 2)][2] = random.of(&[0, 1, 2, 3, 7, 8, 9, 255]),
         6 => frames.swap(which, random.below(4) as usize),
         7 => {
@@ -91,6 +92,10 @@ fn input(random: &mut Random) -> (Vec<u8>, &'static str) {
         9 => {
             let placement = 2 * (which / 2) + 1;
             frames[placement] = heading_frame((which / 2) as u8, [0.0, 0.0], turn_number(random));
+        }
+        10 => {
+            let chain = body_of(random, 1.0, Kind::Chain);
+            frames[2 * (which / 2)] = shape_frame((which / 2) as u8, &chain);
         }
         _ => {}
     }

@@ -1,11 +1,12 @@
-//! Random heats: lines of frames in which circles, outlines and walls meet, rest, roll and part, with new shapes under
-//! old ids, frames that are refused, and damaged lines. Bodies of one heat share a size, now and then an extreme one.
+//! Random heats: lines of frames in which circles, outlines, walls and chains meet, rest, roll, slide and part, with
+//! new shapes under old ids, frames that are refused, and damaged lines. Bodies of one heat share a size, now and then
+//! an extreme one.
+use crate::answers::IDS;
 use crate::generators::{grid, unit};
 use crate::ranges::SIZE;
 use crate::robots::{angle, body, feature, hex, outline, place_frame, point, shape_frame, turn_number, Body, Kind, TURN};
 use crate::support::Random;
 
-pub const IDS: usize = 8;
 const SLOP: f32 = 0.005;
 
 /// A heat as it is written: what stands under each id, and the lines so far.
@@ -38,15 +39,19 @@ impl Heat<'_> {
         // one id stays empty for a while
         let id = if self.random.once_in(40) { self.id() } else { self.random.below(IDS as u64 - 1) as usize };
         let body = body(self.random, self.scale);
-        self.frame(&shape_frame(id as u8, &body));
-        self.bodies[id] = Some(body);
+        self.draw(id, body);
         if self.random.once_in(2) {
             self.turn(id);
             self.place(id);
         }
     }
 
-    fn place(&mut self, id: usize) {
+    pub fn draw(&mut self, id: usize, body: Body) {
+        self.frame(&shape_frame(id as u8, &body));
+        self.bodies[id] = Some(body);
+    }
+
+    pub fn place(&mut self, id: usize) {
         if let Some(body) = &self.bodies[id] {
             let frame = place_frame(id as u8, body);
             self.frame(&frame);
@@ -54,7 +59,7 @@ impl Heat<'_> {
     }
 
     /// By sine and cosine, or by a turn number.
-    fn turn(&mut self, id: usize) {
+    pub fn turn(&mut self, id: usize) {
         let turn = angle(self.random);
         let number = turn_number(self.random);
         let by_number = self.random.once_in(2);
@@ -128,7 +133,7 @@ impl Heat<'_> {
             if let (Some(body_a), Some(body_b)) = (&self.bodies[a], &self.bodies[b]) {
                 let listed = match (body_a.kind, body_b.kind) {
                     (Kind::Circle, Kind::Circle) => true,
-                    (Kind::Outline | Kind::Wall, Kind::Circle | Kind::Outline) => true,
+                    (Kind::Outline | Kind::Wall | Kind::Chain, Kind::Circle | Kind::Outline) => true,
                     _ => false,
                 };
                 if a != b && (listed || self.random.once_in(20)) {
@@ -140,7 +145,7 @@ impl Heat<'_> {
     }
 
     /// A pair meets, and is tested over some steps in which it rests, slides, rolls or parts.
-    fn scene(&mut self) {
+    pub fn scene(&mut self) {
         let Some((a, b)) = self.pair() else { return self.new_shape() };
         self.meet(a, b);
         for _ in 0..1 + self.random.below(6) {
@@ -179,13 +184,15 @@ impl Heat<'_> {
 }
 
 /// What a heat does next: how often, whether a calm heat does it too, and what.
-const ACTIONS: [(usize, bool, fn(&mut Heat)); 6] = [
+const ACTIONS: [(usize, bool, fn(&mut Heat)); 8] = [
     (2, true, |heat| heat.new_shape()),
-    (2, false, |heat| heat.refused()),
-    (2, false, |heat| heat.damaged()),
+    (6, false, |heat| heat.refused()),
+    (4, false, |heat| heat.damaged()),
+    (2, false, |heat| heat.long_line()),
     (1, false, |heat| heat.tiny_wall()),
     (17, true, |heat| heat.scene()),
     (1, true, |heat| heat.bounces()),
+    (3, true, |heat| heat.slide()),
 ];
 
 /// A heat of about this many lines.

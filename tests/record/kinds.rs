@@ -1,7 +1,8 @@
 //! The kinds of frame, a row each: how heats send it, what is wrong in the ones that are refused, and what a run has to
 //! meet of it. A new kind of frame is a new row here, a function for what is wrong in it, and, where bodies are made or
 //! moved by it, a place in the heats.
-use crate::generators::float;
+use crate::chains::{chain, POINTS};
+use crate::generators::{float, unit};
 use crate::ranges::SIZE;
 use crate::robots::{angle, body_of, floats, heading_frame, place_frame, point, shape_frame, turn_number};
 use crate::robots::{Kind as Shape, TURN};
@@ -23,7 +24,7 @@ pub struct Kind {
     pub refusals: &'static [u8],
 }
 
-pub static KINDS: [Kind; 6] = [
+pub static KINDS: [Kind; 7] = [
     Kind {
         kind: 1,
         name: "circle",
@@ -87,6 +88,16 @@ pub static KINDS: [Kind; 6] = [
         refused: heading,
         weight: 6,
         refusals: &[6, 11, 12, 14],
+    },
+    Kind {
+        kind: 7,
+        name: "chain",
+        makes_shape: true,
+        third: true,
+        any: |random, id| shape_frame(id, &body_of(random, 1.0, Shape::Chain)),
+        refused: refused_chain,
+        weight: 8,
+        refusals: &[2, 11, 15, 16],
     },
 ];
 
@@ -185,4 +196,33 @@ fn test(random: &mut Random, id: u8) -> Vec<u8> {
         0 => vec![5, id, id],
         _ => vec![5, random.of(&[id, other]), random.of(&[id, other])],
     }
+}
+
+/// 15 for one point or none, 11 before it; 10 for nine; 2 for any of the points; 16 for neighbours at, below or above
+/// the limit, and not for the points before and after. Two of them at once, too.
+fn refused_chain(random: &mut Random, id: u8) -> Vec<u8> {
+    let scale = random.of(&[0.0, 1.0]);
+    let mut points = chain(random, scale);
+    match random.below(6) {
+        0 | 1 => points.truncate(2 + random.below(2) as usize),
+        2 if random.once_in(2) => points.resize(POINTS + 3, [7.0, 7.0]),
+        _ => {}
+    }
+    let (count, last) = (points.len() - 2, points.len() - 1);
+    let id = if count < 2 && random.once_in(3) { unknown_id(random) } else { id };
+    if count > 1 && random.below(3) > 0 {
+        // about the origin, so that the squared distance is worked out of small numbers
+        let (first, (s, c)) = (random.of(&[1, count - 1]), (unit(random) as f64 * 4.0).sin_cos());
+        let length = random.of(&[0.0, 0.004, 0.005, 0.005, 0.005, 0.0050000004, 0.0051]);
+        points[first] = [0.0, 0.0];
+        points[first + 1] = random.of(&[[length as f32, 0.0], [(length * c) as f32, (length * s) as f32]]);
+    }
+    if random.once_in(4) {
+        (points[0], points[last]) = (points[1], points[last - 1]);
+    }
+    if random.once_in(3) {
+        let any = random.below(points.len() as u64) as usize;
+        points[random.of(&[0, last, any])][random.below(2) as usize] = bad(random);
+    }
+    floats(&[7, id, count as u8], &points.concat())
 }

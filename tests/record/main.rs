@@ -1,7 +1,7 @@
 //! The touch record: our program and our export beside second programs over the unmodified Rust and over Box2D 2.4.1,
 //! bytes against bytes. Built with `--cfg papers` where the Rust is at hand and `--cfg box2d` where Box2D is.
 //! usage: record heats PROGRAM HEATS LENGTH SEED   compares PROGRAM on HEATS heats of about LENGTH lines, fed in pieces
-//!                                                 and holds the touches to the rulebook
+//!                                                 and holds the touches to the rulebook, chains to single walls
 //!        record export CASES SEED                 compares the export
 //!        record limits CASES SEED                 searches for what docs/LIMITS.md says does not happen
 //!        record store FOLDER HEATS LENGTH SEED    writes heats and their answers for tests/stored, which both share
@@ -9,7 +9,11 @@
 //!        record exports                           their export on lines ROOM FRAMES: what it returns and writes
 //!        record heat LENGTH SEED                  prints a heat
 #![allow(unknown_lints, unexpected_cfgs)]
+mod answers;
+mod as_walls;
 mod census;
+mod chain_census;
+mod chains;
 mod damage;
 mod export;
 mod fixed;
@@ -40,6 +44,7 @@ use support::{Random, Tally};
 /// long and a few of them 300 times.
 fn compare_heats(program: &str, heats: u64, length: usize, seed: u64) -> bool {
     let (mut tally, mut touches) = (Tally::new("heats"), Tally::new("touches by the rulebook"));
+    let mut walls = Tally::new("chains beside walls");
     for i in 0..FIXED.len() as u64 + heats {
         let mut random = Random::new(seed.wrapping_mul(1 << 32).wrapping_add(i));
         let fixed = FIXED.get(i as usize);
@@ -50,16 +55,18 @@ fn compare_heats(program: &str, heats: u64, length: usize, seed: u64) -> bool {
         let (ours, ended, pieces) = pieces::run(program, &input, &mut random);
         let name = || fixed.map_or_else(|| format!("'record heat {lines}' from seed {seed}, heat {i}"), |f| f.0.into());
         tally.case(agree && ended && ours == wanted, || {
-            let first = census::difference(&input, &wanted, &ours);
+            let first = answers::difference(&input, &wanted, &ours);
             let references = if agree { "" } else { "the references do not agree; " };
             format!("{}: {references}{}{first}", name(), if ended { "" } else { "the program ended badly; " })
         });
         census::pieces(pieces, input.len(), &mut tally);
         census::add(&input, &wanted, &mut tally);
         rulebook::follow(&input, &wanted, name, fixed.is_none(), &mut touches);
+        as_walls::compare(program, (&input, &ours), &mut random, name, &mut walls);
     }
     let ruled = touches.report(&rulebook::WANTED.map(String::from));
-    tally.report(&census::wanted()) && ruled
+    let equal = walls.report(&as_walls::wanted());
+    tally.report(&census::wanted()) && ruled && equal
 }
 
 /// The fixed heats and random ones, the last of them a hundred times as long, each with its answers.

@@ -1,4 +1,5 @@
-//! Circles, outlines and walls of random heats, where they are, and their frames.
+//! Circles, outlines, walls and chains of random heats, where they are, and their frames.
+use crate::chains::chain;
 use crate::generators::{grid, points, unit};
 use crate::support::Random;
 
@@ -11,10 +12,12 @@ pub enum Kind {
     Circle,
     Outline,
     Wall,
+    Chain,
 }
 
-/// A shape by its points (a circle's centre, an outline's list, a wall's ends, four if it is one-sided), and where it
-/// is: `turn` is sine and cosine, those of `number` where it is turned by a turn number, to about a last bit.
+/// A shape by its points (a circle's centre, an outline's list, a wall's ends, four if it is one-sided, a chain's with
+/// the ones before and after), and where it is: `turn` is sine and cosine, those of `number` where it is turned by a
+/// turn number, to about a last bit.
 #[derive(Clone)]
 pub struct Body {
     pub kind: Kind,
@@ -35,10 +38,11 @@ impl Body {
         }
     }
 
-    /// The points that carry the shape: a one-sided wall's ghosts are none.
+    /// The points that carry the shape: ghost points do not.
     pub fn corners(&self) -> &[[f32; 2]] {
-        if self.kind == Kind::Wall && self.points.len() == 4 {
-            &self.points[1..3]
+        let ghosts = self.kind == Kind::Chain || self.kind == Kind::Wall && self.points.len() == 4;
+        if ghosts {
+            &self.points[1..self.points.len() - 1]
         } else {
             &self.points
         }
@@ -74,6 +78,7 @@ pub fn shape_frame(id: u8, body: &Body) -> Vec<u8> {
         Kind::Circle => floats(&[1, id], &[list[0], list[1], body.radius]),
         Kind::Outline => floats(&[2, id, body.points.len() as u8], &list),
         Kind::Wall => floats(&[3, id, (body.points.len() == 4) as u8], &list),
+        Kind::Chain => floats(&[7, id, body.points.len() as u8 - 2], &list),
     }
 }
 
@@ -141,7 +146,8 @@ fn wall(random: &mut Random, scale: f32) -> Vec<[f32; 2]> {
 }
 
 pub fn body(random: &mut Random, scale: f32) -> Body {
-    let kind = random.of(&[Kind::Circle, Kind::Outline, Kind::Outline, Kind::Outline, Kind::Wall, Kind::Wall]);
+    let often = [(Kind::Circle, 2), (Kind::Outline, 6), (Kind::Wall, 4), (Kind::Chain, 2)];
+    let kind = random.of(&often.map(|(kind, weight)| vec![kind; weight]).concat());
     body_of(random, scale, kind)
 }
 
@@ -151,6 +157,7 @@ pub fn body_of(random: &mut Random, scale: f32, kind: Kind) -> Body {
         Kind::Circle => vec![[0.0, -0.0]],
         Kind::Outline => outline(random, scale),
         Kind::Wall => wall(random, scale),
+        Kind::Chain => chain(random, scale),
     };
     let radius = if random.once_in(8) { 0.0 } else { number(random, scale).abs() };
     Body { kind, points, radius, at: [0.0, 0.0], turn: [0.0, 1.0], number: None }
@@ -184,7 +191,9 @@ pub fn feature(random: &mut Random, body: &Body) -> ([f64; 2], [f64; 2]) {
         return ([p[0] as f64, p[1] as f64], random.of(&[[1.0, 0.0], [0.0, -1.0], [any.cos(), any.sin()]]));
     }
     let corners = body.corners();
-    let i = random.below(corners.len() as u64) as usize;
+    // a chain has no face from its last point to its first
+    let faces = corners.len() - (body.kind == Kind::Chain) as usize;
+    let i = random.below(faces as u64) as usize;
     let (p, q) = (corners[i], corners[(i + 1) % corners.len()]);
     let beside = unit(random) as f64 * 0.6 + 0.5;
     let t = random.of(&[0.0, 0.5, beside]);

@@ -1,15 +1,14 @@
 //! The touches of a heat by the rulebook, read from its lines and their answers alone: a pair's count rises by one at a
-//! test that finds points where its last test found none, or where there was no last test, and at no other. A refused
-//! test is no last test, and a new shape under either id leaves none. Counts what a run had of it.
-use crate::census::{byte, lines};
-use crate::kinds::kind;
+//! test that finds points where its last test found none, or where there was no last test, and at no other; each piece
+//! of a chain has a count of its own. A refused test is no last test, and a new shape under either id leaves none.
+//! Counts what a run had of it.
+use crate::answers::{answered, byte, IDS, PIECES};
 use crate::support::Tally;
 
-const IDS: usize = 8;
 const ADD: usize = 1;
 const REMOVE: usize = 3;
 
-/// What the printed lines have said of an ordered pair.
+/// What the printed lines have said of an ordered pair, by a piece of its first body.
 #[derive(Clone, Copy, Default)]
 struct Pair {
     /// The points of its last accepted test, if there was one since a new shape.
@@ -31,41 +30,45 @@ impl Pair {
         let renewed = if self.points() > 0 { Some(which) } else { self.renewed };
         *self = Pair { renewed, ..Pair::default() };
     }
+
+    fn tested(&mut self, line: &[u8]) {
+        let points = byte(line, 3);
+        let touched_before = self.touched_before || points > 0;
+        *self = Pair { last: Some(points), count: count(line), touched_before, ..Pair::default() };
+    }
 }
 
 fn count(answer: &[u8]) -> u32 {
     (9..13).fold(0, |count, i| count << 8 | byte(answer, i) as u32)
 }
 
-/// A case for each accepted test of a heat; what a random one has of the rule is counted.
+/// A case for each line of an accepted test of a heat; what a random one has of the rule is counted.
 pub fn follow(input: &[u8], output: &[u8], name: impl Fn() -> String, random: bool, tally: &mut Tally) {
-    let mut pairs = [[Pair::default(); IDS]; IDS];
-    for (i, (line, answer)) in lines(input).iter().zip(lines(output)).enumerate() {
-        let (a, b) = (byte(line, 1), byte(line, 2));
-        match (byte(answer, 0), kind(byte(line, 0))) {
-            (0, Some(row)) if row.makes_shape => (0..IDS).for_each(|other| {
-                pairs[a][other].forget("first");
-                pairs[other][a].forget("second");
+    let mut pairs = [[[Pair::default(); PIECES]; IDS]; IDS];
+    for (i, answer) in answered(input, output).iter().enumerate() {
+        let (a, b) = (byte(answer.frame, 1), byte(answer.frame, 2));
+        match (answer.refusal(), byte(answer.frame, 0)) {
+            _ if answer.makes_shape() => (0..IDS).for_each(|other| {
+                pairs[a][other].iter_mut().for_each(|pair| pair.forget("first"));
+                pairs[other][a].iter_mut().for_each(|pair| pair.forget("second"));
             }),
-            (0xff, Some(row)) if row.name == "test" && [2, 8].contains(&byte(answer, 1)) => {
-                pairs[a][b].refused_since = true;
-            }
-            (5, _) => {
-                let (pair, points) = (&mut pairs[a][b], byte(answer, 3));
-                let begins = points > 0 && pair.points() == 0;
-                let wanted = pair.count.saturating_add(begins as u32);
-                tally.case(count(answer) == wanted, || {
-                    format!("{}: line {}: {} touches, not {wanted}", name(), i + 1, count(answer))
-                });
-                if random {
-                    met(pair, answer, tally);
+            (Some(2 | 8), 5) => pairs[a][b].iter_mut().for_each(|pair| pair.refused_since = true),
+            (None, 5) => {
+                let others = pairs[a][b].map(|pair| pair.points() > 0);
+                for (piece, line) in answer.lines.iter().enumerate() {
+                    let pair = &mut pairs[a][b][piece];
+                    let wanted = pair.count.saturating_add((byte(line, 3) > 0 && pair.points() == 0) as u32);
+                    tally.case(count(line) == wanted, || {
+                        format!("{}: line {}: {} touches, not {wanted}", name(), i + 1, count(line))
+                    });
+                    if random {
+                        met(pair, line, tally);
+                        if count(line) > pair.count && others.contains(&true) {
+                            tally.met("begun on a piece after another");
+                        }
+                    }
+                    pair.tested(line);
                 }
-                *pair = Pair {
-                    last: Some(points),
-                    count: count(answer),
-                    touched_before: pair.touched_before || points > 0,
-                    ..Pair::default()
-                };
             }
             _ => {}
         }
@@ -99,7 +102,7 @@ fn met(pair: &Pair, answer: &[u8], tally: &mut Tally) {
 }
 
 /// What the random heats of a run have to meet.
-pub const WANTED: [&str; 9] = [
+pub const WANTED: [&str; 10] = [
     "begun with 1 point",
     "begun with 2 points",
     "begun again",
@@ -109,4 +112,5 @@ pub const WANTED: [&str; 9] = [
     "rolled to another point",
     "on after a refused test",
     "more than 255 touches",
+    "begun on a piece after another",
 ];

@@ -1,15 +1,23 @@
 //! What the second programs at hand say, and whether they agree.
 #[cfg(papers)]
 use crate::rust_touches;
+#[cfg(box2d)]
+use std::ffi::c_void;
 
 #[cfg(box2d)]
 extern "C" {
-    // tests/record/box2d_touches.cpp; the output has room for 91 characters a line
-    fn box2d_touches(input: *const u8, length: usize, out: *mut u8) -> usize;
+    // tests/record/box2d_touches.cpp; the output is what `put` is handed, a piece at a time, with `out`
+    fn box2d_touches(input: *const u8, length: usize, put: Put, out: *mut c_void);
     fn box2d_export(frames: *const u8, length: usize, out: *mut u8, out_length: usize) -> u32;
 }
 
-const LONGEST_ANSWER: usize = 91;
+#[cfg(box2d)]
+type Put = unsafe extern "C" fn(*mut c_void, *const u8, usize);
+
+#[cfg(box2d)]
+unsafe extern "C" fn put(out: *mut c_void, text: *const u8, length: usize) {
+    (*(out as *mut Vec<u8>)).extend(std::slice::from_raw_parts(text, length));
+}
 
 /// The whole output for an input, and whether both programs give it.
 pub fn touches(input: &[u8]) -> (Vec<u8>, bool) {
@@ -18,13 +26,11 @@ pub fn touches(input: &[u8]) -> (Vec<u8>, bool) {
     answers.push(rust_touches::touches(input));
     #[cfg(box2d)]
     {
-        let lines = 1 + input.iter().filter(|c| **c == b'\n').count();
-        let mut out = vec![0; LONGEST_ANSWER * lines];
-        let length = unsafe { box2d_touches(input.as_ptr(), input.len(), out.as_mut_ptr()) };
-        out.truncate(length);
+        let mut out: Vec<u8> = Vec::new();
+        unsafe { box2d_touches(input.as_ptr(), input.len(), put, &mut out as *mut Vec<u8> as *mut c_void) };
         answers.push(out);
     }
-    let _ = (input, LONGEST_ANSWER);
+    let _ = input;
     let last = answers.pop().expect("a reference");
     let agree = answers.iter().all(|answer| *answer == last);
     (last, agree)

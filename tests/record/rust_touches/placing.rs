@@ -1,5 +1,5 @@
 //! Frames 04 and 06: a body is placed, by sine and cosine or by a turn number.
-use super::{points, words, Answer, Program};
+use super::{accepted, points, words, Answer, Program};
 use crate::ranges;
 use box2d_rs::b2_math::{B2Rot, B2Transform};
 use std::f64::consts::TAU;
@@ -17,7 +17,7 @@ fn placed(program: &mut Program, id: u8, position: &[u32], q: B2Rot) -> Answer {
         return Err(6);
     }
     body.place = B2Transform { p: points(position)[0], q };
-    Ok(vec![0])
+    accepted()
 }
 
 /// 04 id x y sine cosine: 12, 6.
@@ -51,7 +51,7 @@ fn heading(number: u16) -> B2Rot {
 /// 06 id x y turn number: 12, 14, 6.
 pub fn head(program: &mut Program, frame: &[u8]) -> Answer {
     let number = u16::from_be_bytes([frame[10], frame[11]]);
-    program.bodies[frame[1] as usize].ok_or(12)?;
+    program.bodies[frame[1] as usize].as_ref().ok_or(12)?;
     if number >= TURN {
         return Err(14);
     }

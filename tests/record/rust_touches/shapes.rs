@@ -1,4 +1,4 @@
-//! Frames 01, 02 and 03: a new shape under an id.
+//! Frames 01, 02, 03 and 07: a new shape under an id.
 use super::{points, words, Answer, Program};
 use crate::ranges::{self, within, SIZE};
 use box2d_rs::b2_math::{b2_distance_vec2_squared, B2vec2};
@@ -7,11 +7,12 @@ use box2d_rs::shapes::b2_edge_shape::B2edgeShape;
 use box2d_rs::shapes::b2_polygon_shape::B2polygonShape;
 use std::panic::{catch_unwind, AssertUnwindSafe};
 
-#[derive(Clone, Copy)]
 pub enum Shape {
     Circle(B2circleShape),
     Outline(B2polygonShape),
     Wall(B2edgeShape),
+    /// Its pieces, each a one-sided wall.
+    Chain(Vec<Shape>),
 }
 
 impl Shape {
@@ -20,6 +21,15 @@ impl Shape {
             Shape::Circle(circle) => circle.base.m_radius,
             Shape::Outline(outline) => outline.base.m_radius,
             Shape::Wall(wall) => wall.base.m_radius,
+            Shape::Chain(pieces) => pieces[0].radius(),
+        }
+    }
+
+    /// What a test of it as the first body goes through, a line each: the pieces of a chain, or itself.
+    pub fn pieces(&self) -> &[Shape] {
+        match self {
+            Shape::Chain(pieces) => pieces,
+            one => std::slice::from_ref(one),
         }
     }
 }
@@ -74,11 +84,35 @@ pub fn wall(program: &mut Program, frame: &[u8]) -> Answer {
     if !within(&numbers, SIZE) {
         return Err(2);
     }
-    let (mut wall, ends) = (B2edgeShape::default(), points(&numbers));
+    let ends = points(&numbers);
     if frame[2] == 1 {
-        wall.set_one_sided(ends[0], ends[1], ends[2], ends[3]);
-    } else {
-        wall.set_two_sided(ends[0], ends[1]);
+        return program.made(frame[1], one_sided(&ends));
     }
+    let mut wall = B2edgeShape::default();
+    wall.set_two_sided(ends[0], ends[1]);
     program.made(frame[1], Shape::Wall(wall))
+}
+
+/// A wall from the second of four points to the third; the others are its ghost points.
+fn one_sided(four: &[B2vec2]) -> Shape {
+    let mut wall = B2edgeShape::default();
+    wall.set_one_sided(four[0], four[1], four[2], four[3]);
+    Shape::Wall(wall)
+}
+
+/// 07 id count, the point before, the points, the point after: 15, 2, 16.
+pub fn chain(program: &mut Program, frame: &[u8]) -> Answer {
+    let numbers = words(&frame[3..]);
+    let points = points(&numbers);
+    if frame[2] < 2 {
+        return Err(15);
+    }
+    if !within(&numbers, SIZE) {
+        return Err(2);
+    }
+    let apart = |two: &[B2vec2]| b2_distance_vec2_squared(two[0], two[1]) > 0.005f32 * 0.005;
+    if !points[1..points.len() - 1].windows(2).all(apart) {
+        return Err(16);
+    }
+    program.made(frame[1], Shape::Chain(points.windows(4).map(one_sided).collect()))
 }

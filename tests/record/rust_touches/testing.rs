@@ -1,23 +1,23 @@
 //! Frame 05: the test of a pair.
-use super::shapes::Shape::{Circle, Outline, Wall};
-use super::{Answer, Body, Pair, Program};
+use super::shapes::Shape::{self, Circle, Outline, Wall};
+use super::{Answer, Body, Contact, Line, Pair, Program};
 use crate::ranges::{within, CONTACT, LOCAL_NORMAL, SIZE};
 use box2d_rs::b2_collision::*;
 use box2d_rs::b2_math::B2vec2;
 use box2d_rs::shapes::b2_polygon_shape::B2polygonShape;
 use std::panic::{catch_unwind, AssertUnwindSafe};
 
-fn put(line: &mut Vec<u8>, number: f32) {
-    line.extend(number.to_bits().to_be_bytes());
+fn put(line: &mut Line, number: f32) {
+    line.put(&number.to_bits().to_be_bytes());
 }
 
-fn put_point(line: &mut Vec<u8>, p: B2vec2) {
+fn put_point(line: &mut Line, p: B2vec2) {
     put(line, p.x);
     put(line, p.y);
 }
 
-/// The contact of a listed pair: 13 of others, 2 by a stored centroid, 8.
-fn contact(a: &Body, b: &Body) -> Result<B2manifold, u8> {
+/// The contact of a piece of a with b, a listed pair: 13 of others, 2 by a stored centroid, 8.
+fn contact(piece: &Shape, a: &Body, b: &Body) -> Result<B2manifold, u8> {
     let mut m = B2manifold::default();
     let (xf_a, xf_b) = (&a.place, &b.place);
     let tested = |outlines: &[&B2polygonShape]| {
@@ -28,7 +28,7 @@ fn contact(a: &Body, b: &Body) -> Result<B2manifold, u8> {
             Err(2)
         }
     };
-    match (&a.shape, &b.shape) {
+    match (piece, &b.shape) {
         (Circle(a), Circle(b)) => b2_collide_circles(&mut m, a, xf_a, b, xf_b),
         (Outline(a), Circle(b)) => {
             tested(&[a])?;
@@ -63,28 +63,42 @@ fn given(m: &B2manifold) -> Result<(), u8> {
     }
 }
 
-/// 05 a b: 12, 13, then the contact's refusals. A touch begins at a test that finds points where the pair's last test
-/// found none, or where there was no last test; a refused test is none.
+/// 05 a b: 12, 13, then the contacts' refusals, of which the first is the answer and leaves every piece as it was.
 pub fn test(program: &mut Program, frame: &[u8]) -> Answer {
-    let (ida, idb) = (frame[1] as usize, frame[2] as usize);
-    let (a, b) = (program.bodies[ida].ok_or(12)?, program.bodies[idb].ok_or(12)?);
-    if ida == idb {
+    let ids = [frame[1], frame[2]];
+    let both = ids.map(|id| program.bodies[id as usize].as_ref().ok_or(12));
+    let (a, b) = (both[0]?, both[1]?);
+    if ids[0] == ids[1] {
         return Err(13);
     }
-    let m = contact(&a, &b)?;
-    given(&m)?;
+    let found = a.shape.pieces().iter().map(|piece| {
+        let m = contact(piece, a, b)?;
+        given(&m).map(|()| m)
+    });
+    let found = found.collect::<Result<Vec<B2manifold>, u8>>()?;
+    let place = program.pairs.iter().position(|pair| pair.ids == ids).unwrap_or_else(|| {
+        program.pairs.push(Pair { ids, contacts: vec![Contact::default(); found.len()] });
+        program.pairs.len() - 1
+    });
+    let contacts = &mut program.pairs[place].contacts;
+    Ok(found.iter().zip(contacts).map(|(m, kept)| line(frame, kept, m, a, b)).collect())
+}
+
+/// The line of a piece and its new contact, which is kept. A touch begins at a test that finds points where the last
+/// test found none, or where there was no last test; a refused test is none.
+fn line(frame: &[u8], kept: &mut Contact, m: &B2manifold, a: &Body, b: &Body) -> Line {
     let mut world = B2worldManifold::default();
-    world.initialize(&m, a.place, a.shape.radius(), b.place, b.shape.radius());
+    world.initialize(m, a.place, a.shape.radius(), b.place, b.shape.radius());
     let (mut old, mut new) = ([B2pointState::B2NullState; 2], [B2pointState::B2NullState; 2]);
-    let pair = &mut program.pairs[ida][idb];
-    b2_get_point_states(&mut old, &mut new, &pair.last.unwrap_or_default(), &m);
-    let begins = m.point_count > 0 && pair.last.map_or(true, |last| last.point_count == 0);
-    *pair = Pair { last: Some(m), touches: pair.touches.saturating_add(begins as u32) };
+    b2_get_point_states(&mut old, &mut new, &kept.last.unwrap_or_default(), m);
+    let begins = m.point_count > 0 && kept.last.map_or(true, |last| last.point_count == 0);
+    *kept = Contact { last: Some(*m), touches: kept.touches.saturating_add(begins as u32) };
 
     let kind = if m.point_count == 0 { 0 } else { m.manifold_type as u8 };
-    let mut line = vec![5, ida as u8, idb as u8, m.point_count as u8, kind];
-    line.extend(old.iter().chain(&new).map(|state| *state as u8));
-    line.extend(pair.touches.to_be_bytes());
+    let mut line = Line::of(frame);
+    line.put(&[m.point_count as u8, kind]);
+    line.put(&[old[0], old[1], new[0], new[1]].map(|state| state as u8));
+    line.put(&kept.touches.to_be_bytes());
     if m.point_count > 0 {
         put_point(&mut line, world.normal);
     }
@@ -92,5 +106,5 @@ pub fn test(program: &mut Program, frame: &[u8]) -> Answer {
         put_point(&mut line, world.points[i]);
         put(&mut line, world.separations[i]);
     }
-    Ok(line)
+    line
 }
