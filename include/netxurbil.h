@@ -25,10 +25,12 @@ enum netxurbil_refusal {
     NETXURBIL_UNKNOWN_ID = 11,            /* an id above 7 */
     NETXURBIL_NO_SHAPE = 12,              /* no shape under the id */
     NETXURBIL_PAIR_NOT_LISTED = 13,       /* a pair of shapes that is not tested */
-    NETXURBIL_UNKNOWN_TURN = 14           /* a turn number above 4,095; this call never returns it */
+    NETXURBIL_UNKNOWN_TURN = 14,          /* a turn number above 4,095; this call never returns it */
+    NETXURBIL_CHAIN_TOO_FEW = 15,         /* a chain of no point or of one; this call never returns it */
+    NETXURBIL_CHAIN_TOO_NEAR = 16         /* neighbouring points of a chain too near; this call never returns it */
 };
 
-#define NETXURBIL_VERSION "1.2"
+#define NETXURBIL_VERSION "1.3"
 
 /* The longest input: two outlines of eight points, and two placements. */
 #define NETXURBIL_INPUT 170
