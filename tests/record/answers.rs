@@ -62,6 +62,14 @@ pub fn answered<'a>(input: &'a [u8], output: &'a [u8]) -> Vec<Answered<'a>> {
     lines(input).into_iter().map(one).collect()
 }
 
+/// Whether an output has just the lines that the heat asks for: those of a test begin as the test does, no others.
+pub fn whole(heat: &[Answered], output: &[u8]) -> bool {
+    let count: usize = heat.iter().map(|answer| answer.lines.len()).sum();
+    let fits = |answer: &Answered, line: &[u8]| byte(line, 0) != 5 || line.starts_with(answer.frame);
+    count == lines(output).len()
+        && heat.iter().all(|answer| !answer.lines.is_empty() && answer.lines.iter().all(|line| fits(answer, line)))
+}
+
 /// The first line in which two outputs differ, with its frame.
 pub fn difference(input: &[u8], wanted: &[u8], got: &[u8]) -> String {
     let text = |line: Option<&&[u8]>| {

@@ -1,7 +1,7 @@
 //! Chains beside frame 03, by document 02: "each line equals that of frame 03 with the same four points under the same
 //! id, where all other frames are the same". In a heat, a frame 07 that was accepted becomes the frame 03 of one of its
 //! pieces. The program is run on both, and prints the same, but that a test of the chain has that piece's line alone.
-use crate::answers::{answered, byte, lines, Answered};
+use crate::answers::{answered, byte, lines, Answered, PIECES};
 use crate::pieces;
 use crate::support::{Random, Tally};
 
@@ -29,7 +29,12 @@ fn chains(heat: &[Answered]) -> Vec<Chain> {
         let next = (from + 1..heat.len()).find(|i| heat[*i].makes_shape() && byte(heat[*i].frame, 1) == id);
         Chain { id, from, to: next.unwrap_or(heat.len()) }
     };
-    let drawn = (0..heat.len()).filter(|i| heat[*i].makes_shape() && heat[*i].frame.starts_with(b"07"));
+    let drawn = |answer: &Answered| {
+        let (frame, count) = (answer.frame, byte(answer.frame, 2));
+        let fits = (2..PIECES + 2).contains(&count) && frame.len() == HEAD + POINT * (count + 2);
+        answer.makes_shape() && frame.starts_with(b"07") && fits
+    };
+    let drawn = (0..heat.len()).filter(|i| drawn(&heat[*i]));
     drawn.map(chain).filter(|chain| (chain.from..chain.to).any(|i| chain.tested(i, &heat[i]))).collect()
 }
 
@@ -92,7 +97,7 @@ pub fn compare(
 
 /// What a run has to meet.
 pub fn wanted() -> Vec<String> {
-    let mut list: Vec<String> = (0..7).map(|piece| format!("piece {piece}")).collect();
+    let mut list: Vec<String> = (0..PIECES).map(|piece| format!("piece {piece}")).collect();
     list.extend(["no point", "1 point", "2 points", "another's test", "a test after it"].map(String::from));
     list
 }

@@ -1,5 +1,5 @@
 //! What the heats of a run had in them, counted from inputs and the right outputs.
-use crate::answers::{answered, byte, float, Answered, IDS};
+use crate::answers::{byte, float, Answered, IDS};
 use crate::chain_census;
 use crate::kinds::{kind, KINDS};
 use crate::ranges::SIZE;
@@ -17,14 +17,14 @@ pub struct Stands {
     pub turn: &'static str,
 }
 
-pub fn add(input: &[u8], output: &[u8], tally: &mut Tally) {
+pub fn add(input: &[u8], heat: &[Answered], tally: &mut Tally) {
     let mut bodies = [Stands::default(); IDS];
     let mut chains = chain_census::Chains::default();
-    for answer in answered(input, output) {
+    for answer in heat {
         damage(answer.frame, tally);
         let both = [1, 2].map(|i| bodies.get(byte(answer.frame, i)).copied().unwrap_or_default());
-        chains.add(&answer, both, tally);
-        frame(&answer, &mut bodies, tally);
+        chains.add(answer, both, tally);
+        frame(answer, &mut bodies, tally);
     }
     if input.last().map_or(false, |c| *c != b'\n') {
         tally.met("no line feed at the end");

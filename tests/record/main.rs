@@ -54,14 +54,19 @@ fn compare_heats(program: &str, heats: u64, length: usize, seed: u64) -> bool {
         let (wanted, agree) = second::touches(&input);
         let (ours, ended, pieces) = pieces::run(program, &input, &mut random);
         let name = || fixed.map_or_else(|| format!("'record heat {lines}' from seed {seed}, heat {i}"), |f| f.0.into());
-        tally.case(agree && ended && ours == wanted, || {
+        let answered = answers::answered(&input, &wanted);
+        let whole = answers::whole(&answered, &wanted);
+        tally.case(agree && whole && ended && ours == wanted, || {
             let first = answers::difference(&input, &wanted, &ours);
             let references = if agree { "" } else { "the references do not agree; " };
-            format!("{}: {references}{}{first}", name(), if ended { "" } else { "the program ended badly; " })
+            let lines = if whole { "" } else { "too many lines, or too few; " };
+            format!("{}: {references}{lines}{}{first}", name(), if ended { "" } else { "the program ended badly; " })
         });
         census::pieces(pieces, input.len(), &mut tally);
-        census::add(&input, &wanted, &mut tally);
-        rulebook::follow(&input, &wanted, name, fixed.is_none(), &mut touches);
+        if whole {
+            census::add(&input, &answered, &mut tally);
+            rulebook::follow(&answered, name, fixed.is_none(), &mut touches);
+        }
         as_walls::compare(program, (&input, &ours), &mut random, name, &mut walls);
     }
     let ruled = touches.report(&rulebook::WANTED.map(String::from));

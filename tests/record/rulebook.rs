@@ -2,7 +2,7 @@
 //! test that finds points where its last test found none, or where there was no last test, and at no other; each piece
 //! of a chain has a count of its own. A refused test is no last test, and a new shape under either id leaves none.
 //! Counts what a run had of it.
-use crate::answers::{answered, byte, IDS, PIECES};
+use crate::answers::{byte, Answered, IDS, PIECES};
 use crate::support::Tally;
 
 const ADD: usize = 1;
@@ -43,9 +43,9 @@ fn count(answer: &[u8]) -> u32 {
 }
 
 /// A case for each line of an accepted test of a heat; what a random one has of the rule is counted.
-pub fn follow(input: &[u8], output: &[u8], name: impl Fn() -> String, random: bool, tally: &mut Tally) {
+pub fn follow(heat: &[Answered], name: impl Fn() -> String, random: bool, tally: &mut Tally) {
     let mut pairs = [[[Pair::default(); PIECES]; IDS]; IDS];
-    for (i, answer) in answered(input, output).iter().enumerate() {
+    for (i, answer) in heat.iter().enumerate() {
         let (a, b) = (byte(answer.frame, 1), byte(answer.frame, 2));
         match (answer.refusal(), byte(answer.frame, 0)) {
             _ if answer.makes_shape() => (0..IDS).for_each(|other| {
