@@ -96,7 +96,7 @@ pub static KINDS: [Kind; 7] = [
         third: true,
         any: |random, id| shape_frame(id, &body_of(random, 1.0, Shape::Chain)),
         refused: refused_chain,
-        weight: 8,
+        weight: 12,
         refusals: &[2, 11, 15, 16],
     },
 ];
@@ -220,7 +220,7 @@ fn refused_chain(random: &mut Random, id: u8) -> Vec<u8> {
     if random.once_in(4) {
         (points[0], points[last]) = (points[1], points[last - 1]);
     }
-    if random.once_in(3) {
+    if random.below(5) < 2 {
         let any = random.below(points.len() as u64) as usize;
         points[random.of(&[0, last, any])][random.below(2) as usize] = bad(random);
     }

@@ -1,7 +1,7 @@
-//! A second `touches` over the unmodified Rust, written from document 01's "The touch record", from document 02's frames
-//! 06 and 07 and its count of touches, and from nothing of ours: what the program prints for an input, and the export.
-//! The Rust's panics are refusals 3, 4, 5 and 8; 1, 2, 6, 9 and 10 to 16 are tested here. A kind of frame is a row of
-//! KINDS and a function in the file of its like.
+//! A second `touches` over the unmodified Rust, written from document 01's "The touch record", from document 02's
+//! frames 06 and 07 and its count of touches, and from nothing of ours: what the program prints for an input, and the
+//! export. The Rust's panics are refusals 3, 4, 5 and 8; 1, 2, 6, 9 and 10 to 16 are tested here. A kind of frame is a
+//! row of KINDS and a function in the file of its like.
 mod placing;
 mod shapes;
 mod testing;
@@ -78,8 +78,8 @@ struct Body {
     place: B2Transform,
 }
 
-/// What an ordered pair keeps of a piece of its first body: the contact at the last accepted test, if there was one, and
-/// the touches so far.
+/// What an ordered pair keeps of a piece of its first body: the contact at the last accepted test, if there was one,
+/// and the touches so far.
 #[derive(Clone, Copy, Default)]
 struct Contact {
     last: Option<B2manifold>,
