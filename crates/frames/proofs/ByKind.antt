@@ -9,7 +9,8 @@ use Rattle.shape_definitions.specs.Refusal.{accepted}
 use Rattle.record_definitions.specs.declared.world.Body.{Body}
 use Rattle.record_definitions.specs.declared.world.Pair.{Pair}
 use Rattle.record_definitions.specs.Frame.{well-formed, frame-refusal, refused, circle-change, outline-change}
-use Rattle.record_definitions.specs.Frame.{wall-change, place-change, turn-change, test-change, change-of-kind, change}
+use Rattle.record_definitions.specs.Frame.{wall-change, place-change, turn-change, chain-change, test-change}
+use Rattle.record_definitions.specs.Frame.{change-of-kind, change}
 use Rattle.record_definitions.proofs.FrameRefusals.{formed}
 
 -- ---- by the kind
@@ -34,11 +35,15 @@ module _ (a b : Body) (pair : Pair) (bytes : List ℕ) (kind : ℕ) where
   unfolding change-of-kind
   kind-6 is = rw is refl
 
-  other-kind : (kind ≡ 1 → ⊥) → (kind ≡ 2 → ⊥) → (kind ≡ 3 → ⊥) → (kind ≡ 4 → ⊥) → (kind ≡ 6 → ⊥)
+  kind-7 : kind ≡ 7 → chain-change a pair bytes ≡ change-of-kind kind a b pair bytes
+  unfolding change-of-kind
+  kind-7 is = rw is refl
+
+  other-kind : (kind ≡ 1 → ⊥) → (kind ≡ 2 → ⊥) → (kind ≡ 3 → ⊥) → (kind ≡ 4 → ⊥) → (kind ≡ 6 → ⊥) → (kind ≡ 7 → ⊥)
       → test-change (byte-at bytes 1) (byte-at bytes 2) a b pair ≡ change-of-kind kind a b pair bytes
   unfolding change-of-kind
-  other-kind no-1 no-2 no-3 no-4 no-6 =
-      simp (ne-eqb _ _ no-1, ne-eqb _ _ no-2, ne-eqb _ _ no-3, ne-eqb _ _ no-4, ne-eqb _ _ no-6)
+  other-kind no-1 no-2 no-3 no-4 no-6 no-7 =
+      simp (ne-eqb _ _ no-1, ne-eqb _ _ no-2, ne-eqb _ _ no-3, ne-eqb _ _ no-4, ne-eqb _ _ no-6, ne-eqb _ _ no-7)
 
 -- ---- the frame
 module _ (a b : Body) (pair : Pair) (bytes : List ℕ) (number : ℕ) (number-is : number ≡ frame-refusal bytes) where
@@ -70,10 +75,13 @@ module _ (a b : Body) (pair : Pair) (bytes : List ℕ) (number : ℕ) (number-is
       pub turn-is : kind ≡ 6 → turn-change a pair bytes ≡ change a b pair bytes
       turn-is is = kind-6 a b pair bytes kind is ∙ of-kind
 
+      pub chain-is : kind ≡ 7 → chain-change a pair bytes ≡ change a b pair bytes
+      chain-is is = kind-7 a b pair bytes kind is ∙ of-kind
+
       pub test-is : (ida idb : ℕ) → ida ≡ byte-at bytes 1 → idb ≡ byte-at bytes 2 → (kind ≡ 1 → ⊥) → (kind ≡ 2 → ⊥)
-          → (kind ≡ 3 → ⊥) → (kind ≡ 4 → ⊥) → (kind ≡ 6 → ⊥)
+          → (kind ≡ 3 → ⊥) → (kind ≡ 4 → ⊥) → (kind ≡ 6 → ⊥) → (kind ≡ 7 → ⊥)
           → test-change ida idb a b pair ≡ change a b pair bytes
-      test-is ida idb ida-is idb-is no-1 no-2 no-3 no-4 no-6 =
+      test-is ida idb ida-is idb-is no-1 no-2 no-3 no-4 no-6 no-7 =
           ap₂ (λ (i j : ℕ). test-change i j a b pair) ida-is idb-is
-          ∙ other-kind a b pair bytes kind no-1 no-2 no-3 no-4 no-6
+          ∙ other-kind a b pair bytes kind no-1 no-2 no-3 no-4 no-6 no-7
           ∙ of-kind

@@ -1,7 +1,7 @@
 -- The lengths of frames by their kind, and the room that a reader of each has. Assumes nothing.
 use Prim.Native.Nat.{ℕ, _+_, _*_, _≤_}
 use mathlib.Core.Path.{_≡_, refl, _∙_}
-use mathlib.Core.Bool.{Bool, true, false, not, _&&_, false≢true}
+use mathlib.Core.Bool.{Bool, true, false, not, cond, _&&_, false≢true}
 use mathlib.Core.List.{List}
 use native.Mathlib.Omega.{arith}
 use lib.Dec.{eqb, leb}
@@ -9,7 +9,7 @@ use lib.ListN.{length}
 use borrow.Author.Tests.{leb-true, eqb-true, eqb-false, ne-eqb}
 use Rattle.algebra.proofs.Booleans.{by-test}
 use Rattle.lines.specs.Fields.{byte-at}
-use Rattle.record_definitions.specs.Frame.{outline-length, wall-length, frame-length, well-formed}
+use Rattle.record_definitions.specs.Frame.{outline-length, wall-length, chain-length, frame-length, well-formed}
 
 module _ (kind third : ℕ) where
   pub circle-length : kind ≡ 1 → frame-length kind third ≡ 14
@@ -36,11 +36,23 @@ module _ (kind third : ℕ) where
   unfolding frame-length
   turn-length is = rw is refl
 
-  pub no-length : (kind ≡ 1 → ⊥) → (kind ≡ 2 → ⊥) → (kind ≡ 3 → ⊥) → (kind ≡ 4 → ⊥) → (kind ≡ 5 → ⊥) → (kind ≡ 6 → ⊥)
-      → frame-length kind third ≡ 0
+  pub chain-length-is : kind ≡ 7 → frame-length kind third ≡ chain-length third
   unfolding frame-length
-  no-length no-1 no-2 no-3 no-4 no-5 no-6 =
-      simp (ne-eqb _ _ no-1, ne-eqb _ _ no-2, ne-eqb _ _ no-3, ne-eqb _ _ no-4, ne-eqb _ _ no-5, ne-eqb _ _ no-6)
+  chain-length-is is = rw is refl
+
+  pub no-length : (kind ≡ 1 → ⊥) → (kind ≡ 2 → ⊥) → (kind ≡ 3 → ⊥) → (kind ≡ 4 → ⊥) → (kind ≡ 5 → ⊥) → (kind ≡ 6 → ⊥)
+      → (kind ≡ 7 → ⊥) → frame-length kind third ≡ 0
+  unfolding frame-length
+  no-length no-1 no-2 no-3 no-4 no-5 no-6 no-7 =
+      simp (
+        ne-eqb _ _ no-1,
+        ne-eqb _ _ no-2,
+        ne-eqb _ _ no-3,
+        ne-eqb _ _ no-4,
+        ne-eqb _ _ no-5,
+        ne-eqb _ _ no-6,
+        ne-eqb _ _ no-7,
+      )
 
 -- ---- well-formed frames: some size, and that length
 module _ (bytes : List ℕ) where
@@ -61,13 +73,20 @@ module _ (bytes : List ℕ) where
     pub circle-room : byte-at bytes 0 ≡ 1 → length bytes ≡ 14
     circle-room is = sized well .1 ∙ circle-length (byte-at bytes 0) (byte-at bytes 2) is
 
-    pub outline-room : byte-at bytes 0 ≡ 2 → (byte-at bytes 2 ≤ 8) × (length bytes ≡ 3 + 8 * byte-at bytes 2)
-    outline-room is =
+    -- at most eight points, and just the bytes that they need
+    counted-room : (head : ℕ) → size ≡ cond (leb (byte-at bytes 2) 8) (head + 8 * byte-at bytes 2) 0
+        → (byte-at bytes 2 ≤ 8) × (length bytes ≡ head + 8 * byte-at bytes 2)
+    counted-room head size-is =
         let count = byte-at bytes 2 in
-        let size-is : size ≡ outline-length count = outline-length-is (byte-at bytes 0) count is in
         by-test (leb count 8)
         (λ few. (leb-true count 8 few, sized well .1 ∙ size-is ∙ simp few))
         (λ many. absurd (sized well .0 (size-is ∙ simp many)))
+
+    pub outline-room : byte-at bytes 0 ≡ 2 → (byte-at bytes 2 ≤ 8) × (length bytes ≡ 3 + 8 * byte-at bytes 2)
+    outline-room is = counted-room 3 (outline-length-is (byte-at bytes 0) (byte-at bytes 2) is)
+
+    pub chain-room : byte-at bytes 0 ≡ 7 → (byte-at bytes 2 ≤ 8) × (length bytes ≡ 19 + 8 * byte-at bytes 2)
+    chain-room is = counted-room 19 (chain-length-is (byte-at bytes 0) (byte-at bytes 2) is)
 
     pub wall-room : byte-at bytes 0 ≡ 3 → (19 ≤ length bytes) × ((byte-at bytes 2 ≡ 0 → ⊥) → 35 ≤ length bytes)
     wall-room is =

@@ -5,9 +5,8 @@ use borrow.Author.Tests.{eq-eqb, ne-eqb}
 use Rattle.shape_definitions.specs.Refusal.{accepted}
 use Rattle.record_definitions.specs.declared.world.Body.{Body}
 use Rattle.record_definitions.specs.declared.world.Pair.{Pair}
-use Rattle.record_definitions.specs.declared.touch.TestAnswer.{TestAnswer}
-use Rattle.record_definitions.specs.Touch.{tested}
-use Rattle.record_definitions.specs.Frame.{refused, test-refusal, test-answered, test-change}
+use Rattle.record_definitions.specs.Touch.{piece-tested}
+use Rattle.record_definitions.specs.Frame.{refused, test-refusal, further-tests, test-answered, test-change}
 
 module _ (ida idb : ℕ) (a b : Body) (pair : Pair) (number : ℕ)
     (number-is : number ≡ test-refusal ida idb (a .kind) (b .kind)) where
@@ -15,7 +14,8 @@ module _ (ida idb : ℕ) (a b : Body) (pair : Pair) (number : ℕ)
   unfolding test-change
   test-refused some = rw (← number-is) (simp (ne-eqb number accepted some))
 
-  pub test-run : (t : TestAnswer) → number ≡ accepted → t ≡ tested ida idb a b pair
-      → test-answered a pair t ≡ test-change ida idb a b pair
+  pub test-run : number ≡ accepted
+      → test-answered a pair (piece-tested ida idb a b pair 0) (further-tests ida idb a b pair)
+      ≡ test-change ida idb a b pair
   unfolding test-change
-  test-run t none is = rw (← number-is, is) (simp (eq-eqb number accepted none))
+  test-run none = rw (← number-is) (simp (eq-eqb number accepted none))

@@ -6,6 +6,7 @@ ghost use Rattle.headings.specs.Headings.{quarter-waves};
 ghost use Rattle.lines.specs.Fields.{byte-at};
 ghost use Rattle.record_definitions.specs.Frame.{wall-at, circle-change, outline-change, wall-change, place-change};
 ghost use Rattle.record_definitions.specs.Frame.{turn-at, turn-change};
+use crate::changes;
 use crate::world;
 use floats::b2_math::B2Transform;
 use floats::ranges;
@@ -32,9 +33,9 @@ pub fn circle_frame(body: Body, pair: Pair, bytes: &[u8]) -> Change
     let m_radius = fields::float(bytes, 10);
     let circle = B2circleShape { m_radius, m_p };
     if circle_range::circle_in_range(circle) {
-        return world::defined(world::circle_body(circle), pair);
+        return changes::defined(world::circle_body(circle), pair);
     }
-    world::refused(refusal::SHAPE_OUT_OF_RANGE, body, pair)
+    changes::refused(refusal::SHAPE_OUT_OF_RANGE, body, pair)
 }
 
 // 02 id count points
@@ -48,9 +49,9 @@ pub fn outline_frame(body: Body, pair: Pair, bytes: &[u8]) -> Change
     let number = built.refusal;
     if number == refusal::ACCEPTED {
         let shape = built.shape;
-        return world::defined(world::outline_body(shape), pair);
+        return changes::defined(world::outline_body(shape), pair);
     }
-    world::refused(number, body, pair)
+    changes::refused(number, body, pair)
 }
 
 // The wall of a frame: two-sided, or with a ghost point before and after it.
@@ -77,9 +78,9 @@ pub fn wall_frame(body: Body, pair: Pair, bytes: &[u8]) -> Change
     let number = built.refusal;
     if number == refusal::ACCEPTED {
         let shape = built.shape;
-        return world::defined(world::wall_body(shape), pair);
+        return changes::defined(world::wall_body(shape), pair);
     }
-    world::refused(number, body, pair)
+    changes::refused(number, body, pair)
 }
 
 // 04 id x y sine cosine
@@ -88,13 +89,13 @@ pub fn place_frame(body: Body, pair: Pair, bytes: &[u8]) -> Change
     ensures { λ r. ⌜ r ≡ place-change body pair (now (bytes .entry)) ⌝ }
 {
     if body.kind == NO_BODY {
-        return world::refused(refusal::NO_SHAPE, body, pair);
+        return changes::refused(refusal::NO_SHAPE, body, pair);
     }
     let xf = fields::placement(bytes, 2);
     if ranges::transform_in_range(xf) {
-        return world::moved(world::placed(body, xf), pair);
+        return changes::moved(world::placed(body, xf), pair);
     }
-    world::refused(refusal::PLACEMENT_OUT_OF_RANGE, body, pair)
+    changes::refused(refusal::PLACEMENT_OUT_OF_RANGE, body, pair)
 }
 
 // Two bytes, highest first.
@@ -111,17 +112,17 @@ pub fn turn_frame(body: Body, pair: Pair, bytes: &[u8], sines: &[f32]) -> Change
     ensures { λ r. ⌜ r ≡ turn-change body pair (now (bytes .entry)) ⌝ }
 {
     if body.kind == NO_BODY {
-        return world::refused(refusal::NO_SHAPE, body, pair);
+        return changes::refused(refusal::NO_SHAPE, body, pair);
     }
     let number = turn_number(bytes, 10);
     if number > LARGEST_TURN {
-        return world::refused(refusal::UNKNOWN_TURN, body, pair);
+        return changes::refused(refusal::UNKNOWN_TURN, body, pair);
     }
     let p = fields::vector(bytes, 2);
     let q = turns::heading(sines, number);
     let xf = B2Transform { p, q };
     if ranges::transform_in_range(xf) {
-        return world::moved(world::placed(body, xf), pair);
+        return changes::moved(world::placed(body, xf), pair);
     }
-    world::refused(refusal::PLACEMENT_OUT_OF_RANGE, body, pair)
+    changes::refused(refusal::PLACEMENT_OUT_OF_RANGE, body, pair)
 }

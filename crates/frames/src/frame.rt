@@ -4,8 +4,9 @@ ghost use Rattle.headings.specs.Headings.{quarter-waves};
 ghost use Rattle.lines.specs.Fields.{byte-at};
 ghost use Rattle.record_definitions.specs.Frame as definitions;
 use crate::body_frames;
+use crate::chain_frame;
+use crate::changes;
 use crate::test_frame;
-use crate::world;
 use lines::fields;
 use record_definitions::frame::Change;
 use record_definitions::world::Body;
@@ -34,10 +35,21 @@ fn wall_length(flag: u8) -> usize
     }
 }
 
+// By the count, of at most eight points, with the one before and the one after; or 0.
+fn chain_length(count: u8) -> usize
+    ensures { λ r. ⌜ r ≡ definitions.chain-length count ⌝ }
+{
+    if count <= 8 {
+        return 19 + 8 * count as usize;
+    }
+    0
+}
+
 // The bytes of frame 04.
 pub const PLACEMENT_LENGTH: usize = 18;
 
-// By the kind and the third byte: the count of an outline, the flag of a wall. 0 where there is no such frame.
+// By the kind and the third byte: the count of an outline or a chain, the flag of a wall. 0 where there is no such
+// frame.
 pub fn frame_length(kind: u8, third: u8) -> usize
     ensures { λ r. ⌜ r ≡ definitions.frame-length kind third ⌝ }
 {
@@ -48,6 +60,7 @@ pub fn frame_length(kind: u8, third: u8) -> usize
         4 => PLACEMENT_LENGTH,
         5 => 3,
         6 => 12,
+        7 => chain_length(third),
         _ => 0,
     }
 }
@@ -97,7 +110,7 @@ pub fn frame(a: Body, b: Body, pair: Pair, bytes: &[u8], sines: &[f32]) -> Chang
 {
     let number = frame_refusal(bytes);
     if number != refusal::ACCEPTED {
-        return world::refused(number, a, pair);
+        return changes::refused(number, a, pair);
     }
     let kind = fields::byte(bytes, 0);
     match kind {
@@ -106,6 +119,7 @@ pub fn frame(a: Body, b: Body, pair: Pair, bytes: &[u8], sines: &[f32]) -> Chang
         3 => body_frames::wall_frame(a, pair, bytes),
         4 => body_frames::place_frame(a, pair, bytes),
         6 => body_frames::turn_frame(a, pair, bytes, sines),
+        7 => chain_frame::chain_frame(a, pair, bytes),
         _ => { test_frame::test_frame(fields::byte(bytes, 1), fields::byte(bytes, 2), a, b, pair) }
     }
 }

@@ -1,10 +1,13 @@
 // Frames: what any frame makes of the bodies and the pair that it names, and what is said of it.
 
-// Bodies, pairs and the world, made and changed.
+// Bodies, their pieces, pairs and the world; and what a frame changes.
+pub mod changes;
+pub mod pieces;
 pub mod world;
 
-// Frames 01 to 04 and 06.
+// Frames 01 to 04, 06 and 07.
 pub mod body_frames;
+pub mod chain_frame;
 
 // Frame 05: which pairs are tested, the contact of such a pair, and the result.
 pub mod listed_pairs;

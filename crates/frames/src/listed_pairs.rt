@@ -13,11 +13,13 @@ use contacts::b2_collide_edge;
 use contacts::b2_collide_polygon;
 use floats::b2_math::B2vec2;
 use record_definitions::world::Body;
+use record_definitions::world::CHAIN;
 use record_definitions::world::CIRCLE;
 use record_definitions::world::OUTLINE;
 use record_definitions::world::WALL;
 
-// The kinds that are tested: circle-circle, outline-circle, outline-outline, wall-circle, wall-outline.
+// The kinds that are tested: circle-circle, outline-circle, outline-outline, wall-circle, wall-outline, and a chain
+// where a wall is.
 pub fn listed(a: u8, b: u8) -> bool
     ensures { λ r. ⌜ r ≡ definitions.listed a b ⌝ }
 {
@@ -26,7 +28,9 @@ pub fn listed(a: u8, b: u8) -> bool
     let outlines = (a == OUTLINE) & (b == OUTLINE);
     let wall_circle = (a == WALL) & (b == CIRCLE);
     let wall_outline = (a == WALL) & (b == OUTLINE);
-    circles | outline_circle | outlines | wall_circle | wall_outline
+    let chain_circle = (a == CHAIN) & (b == CIRCLE);
+    let chain_outline = (a == CHAIN) & (b == OUTLINE);
+    circles | outline_circle | outlines | wall_circle | wall_outline | chain_circle | chain_outline
 }
 
 // Each test starts from this one.

@@ -1,14 +1,17 @@
 // Frame 05: a test of two bodies. Contact, world points, point states and touches.
 ghost use mathlib.Core.Path.{_≡_};
 ghost use mathlib.Core.Bool.{cond};
+ghost use Prim.Native.Nat.{_<_};
 ghost use lib.Dec.{eqb};
 ghost use Rattle.shape_definitions.specs.Refusal.{accepted};
 ghost use Rattle.contact_definitions.specs.WorldManifold.{default-world-manifold};
+ghost use Rattle.record_definitions.specs.World.{chain-kind, most-pieces};
 ghost use Rattle.record_definitions.specs.Touch as results;
 ghost use Rattle.record_definitions.specs.Frame as definitions;
+use crate::changes;
 use crate::listed_pairs;
+use crate::pieces;
 use crate::test_result;
-use crate::world;
 use contact_definitions::b2_collision::B2manifold;
 use contact_definitions::b2_collision::B2worldManifold;
 use contact_definitions::b2_collision::WorldAnswer;
@@ -19,7 +22,9 @@ use record_definitions::frame::Change;
 use record_definitions::frame::Said;
 use record_definitions::touch::TestAnswer;
 use record_definitions::world::Body;
+use record_definitions::world::CHAIN;
 use record_definitions::world::CIRCLE;
+use record_definitions::world::Kept;
 use record_definitions::world::NO_BODY;
 use record_definitions::world::OUTLINE;
 use record_definitions::world::Pair;
@@ -77,22 +82,22 @@ fn first_refusal(met: u8, world: u8) -> u8
     met
 }
 
-// What the test of bodies a and b answers under the ids that the frame gives, and what their pair keeps.
-fn tested(ida: u8, idb: u8, a: Body, b: Body, pair: Pair) -> TestAnswer
-    ensures { λ r. ⌜ r ≡ results.tested ida idb a b pair ⌝ }
+// What the test of bodies a and b answers under the ids that the frame gives, and what is kept of it.
+fn tested(ida: u8, idb: u8, a: Body, b: Body, kept: Kept) -> TestAnswer
+    ensures { λ r. ⌜ r ≡ results.tested ida idb a b kept ⌝ }
 {
     let met = listed_pairs::meet(a, b);
     let m = met.manifold;
     let points = world_points_of(a, b, m);
-    let old = pair.ids;
+    let old = kept.ids;
     let new = b2_collision::counted_ids(m);
     let states = b2_collision::states_of_ids(old, new);
-    let touches = test_result::touches_after(pair.touches, old.count, new.count);
+    let touches = test_result::touches_after(kept.touches, old.count, m.point_count);
     let w = points.world;
     TestAnswer {
         refusal: first_refusal(met.refusal, points.refusal),
         touch: test_result::touch_of(ida, idb, m, states, touches, w),
-        pair: Pair { ids: new, touches },
+        kept: Kept { ids: new, touches },
     }
 }
 
@@ -113,22 +118,76 @@ fn test_refusal(ida: u8, idb: u8, kinda: u8, kindb: u8) -> u8
     refusal::ACCEPTED
 }
 
-// The test's refusal, or its result.
-fn test_answered(body: Body, pair: Pair, t: TestAnswer) -> Change
-    ensures { λ r. ⌜ r ≡ definitions.test-answered body pair t ⌝ }
+// A body that is no chain is its own only piece.
+fn alone_tested(ida: u8, idb: u8, a: Body, b: Body, pair: Pair) -> Change
+    requires { ⌜ (a .kind ≡ chain-kind → ⊥) ⌝ }
+    ensures { λ r. ⌜ r ≡ definitions.test-answered a pair (results.piece-tested ida idb a b pair 0)
+        (definitions.further-tests ida idb a b pair) ⌝ }
 {
+    let old = pair.pieces;
+    let t = tested(ida, idb, a, b, old[0]);
     let number = t.refusal;
     if number != refusal::ACCEPTED {
-        return world::refused(number, body, pair);
+        return changes::refused(number, a, pair);
     }
     let touch = t.touch;
-    let kept = t.pair;
+    let kept = t.kept;
+    let mut pieces = old;
+    pieces[0] = kept;
+    Change {
+        said: changes::said_alone(Answer::Tested(touch)),
+        body: a,
+        pair: Pair { pieces },
+        forget: false,
+    }
+}
+
+// Piece i of the body, with what the pair keeps of it.
+fn piece_tested(ida: u8, idb: u8, a: Body, b: Body, pair: Pair, i: usize) -> TestAnswer
+    requires { ⌜ i < most-pieces ⌝ }
+    ensures { λ r. ⌜ r ≡ results.piece-tested ida idb a b pair i ⌝ }
+{
+    let old = pair.pieces;
+    tested(ida, idb, pieces::piece_of(a, i), b, old[i])
+}
+
+// A chain, piece after piece: the first refusal, or a result for each, and each piece keeps its own.
+fn chain_tested(ida: u8, idb: u8, a: Body, b: Body, pair: Pair) -> Change
+    requires { ⌜ a .kind ≡ chain-kind ⌝ }
+    ensures { λ r. ⌜ r ≡ definitions.test-answered a pair (results.piece-tested ida idb a b pair 0)
+        (definitions.further-tests ida idb a b pair) ⌝ }
+{
+    let chain = a.chain;
+    let further = pieces::further_pieces(chain.count);
+    let t = piece_tested(ida, idb, a, b, pair, 0);
+    let mut number = t.refusal;
+    let first = t.touch;
+    let kept = t.kept;
+    let mut pieces = pair.pieces;
+    pieces[0] = kept;
+    let blank = changes::blank_touch();
+    let mut more = [blank; 6];
+    let mut j = 0usize;
+    while j < further {
+        let t = piece_tested(ida, idb, a, b, pair, j + 1);
+        number = first_refusal(number, t.refusal);
+        let touch = t.touch;
+        let kept = t.kept;
+        more[j] = touch;
+        pieces[j + 1] = kept;
+        j += 1;
+    }
+    if number != refusal::ACCEPTED {
+        return changes::refused(number, a, pair);
+    }
     Change {
         said: Said {
-            answer: Answer::Tested(touch),
+            answer: Answer::Tested(first),
+            further,
+            more,
         },
-        body,
-        pair: kept,
+        body: a,
+        pair: Pair { pieces },
         forget: false,
     }
 }
@@ -139,7 +198,10 @@ pub fn test_frame(ida: u8, idb: u8, a: Body, b: Body, pair: Pair) -> Change
 {
     let number = test_refusal(ida, idb, a.kind, b.kind);
     if number != refusal::ACCEPTED {
-        return world::refused(number, a, pair);
+        return changes::refused(number, a, pair);
     }
-    test_answered(a, pair, tested(ida, idb, a, b, pair))
+    if a.kind == CHAIN {
+        return chain_tested(ida, idb, a, b, pair);
+    }
+    alone_tested(ida, idb, a, b, pair)
 }

@@ -13,7 +13,7 @@ use record_definitions::touch::TouchPoint;
 const LARGEST_COUNT: u32 = 4294967295;
 
 // By the number of points before and now: one more touch where a pair that had no point gets one.
-pub fn touches_after(touches: u32, before: usize, now: usize) -> u32
+pub fn touches_after(touches: u32, before: u8, now: usize) -> u32
     ensures { λ r. ⌜ r ≡ results.touches-after touches before now ⌝ }
 {
     if before > 0 {

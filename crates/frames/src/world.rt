@@ -1,10 +1,8 @@
-// Bodies, pairs and the world: what a new shape, a placement and a fresh program make of them; and what a frame
-// changes, by how it is answered.
+// Bodies, pairs and the world: what a new shape, a placement and a fresh program make of them.
 ghost use mathlib.Core.Path.{_≡_};
 ghost use Prim.Native.Nat.{_<_};
 ghost use Rattle.contact_definitions.specs.Manifold.{default-id};
 ghost use Rattle.record_definitions.specs.World as worlds;
-ghost use Rattle.record_definitions.specs.Frame as definitions;
 use contact_definitions::b2_collision::B2contactFeature;
 use contact_definitions::b2_collision::B2contactId;
 use contact_definitions::b2_collision::CountedIds;
@@ -12,11 +10,11 @@ use floats::b2_common::B2_POLYGON_RADIUS;
 use floats::b2_math::B2Rot;
 use floats::b2_math::B2Transform;
 use floats::b2_math::B2vec2;
-use record_definitions::frame::Answer;
-use record_definitions::frame::Change;
-use record_definitions::frame::Said;
 use record_definitions::world::Body;
+use record_definitions::world::CHAIN;
 use record_definitions::world::CIRCLE;
+use record_definitions::world::Chain;
+use record_definitions::world::Kept;
 use record_definitions::world::NO_BODY;
 use record_definitions::world::OUTLINE;
 use record_definitions::world::Pair;
@@ -73,6 +71,14 @@ pub fn blank_wall() -> B2edgeShape
     }
 }
 
+pub fn blank_chain() -> Chain
+    ensures { λ r. ⌜ r ≡ worlds.blank-chain ⌝ }
+{
+    let origin = B2vec2 { x: 0.0, y: 0.0 };
+    let points = [origin; 10];
+    Chain { points, count: 0 }
+}
+
 // No shape.
 pub fn blank_body() -> Body
     ensures { λ r. ⌜ r ≡ worlds.blank-body ⌝ }
@@ -83,6 +89,7 @@ pub fn blank_body() -> Body
         circle: blank_circle(),
         outline: blank_outline(),
         wall: blank_wall(),
+        chain: blank_chain(),
     }
 }
 
@@ -95,6 +102,7 @@ pub fn circle_body(circle: B2circleShape) -> Body
         circle,
         outline: blank_outline(),
         wall: blank_wall(),
+        chain: blank_chain(),
     }
 }
 
@@ -107,6 +115,7 @@ pub fn outline_body(outline: B2polygonShape) -> Body
         circle: blank_circle(),
         outline,
         wall: blank_wall(),
+        chain: blank_chain(),
     }
 }
 
@@ -119,6 +128,20 @@ pub fn wall_body(wall: B2edgeShape) -> Body
         circle: blank_circle(),
         outline: blank_outline(),
         wall,
+        chain: blank_chain(),
+    }
+}
+
+pub fn chain_body(chain: Chain) -> Body
+    ensures { λ r. ⌜ r ≡ worlds.chain-body chain ⌝ }
+{
+    Body {
+        kind: CHAIN,
+        xf: at_origin(),
+        circle: blank_circle(),
+        outline: blank_outline(),
+        wall: blank_wall(),
+        chain,
     }
 }
 
@@ -146,11 +169,11 @@ pub fn default_id() -> B2contactId
 }
 
 // No test yet.
-pub fn fresh_pair() -> Pair
-    ensures { λ r. ⌜ r ≡ worlds.fresh-pair ⌝ }
+pub fn fresh_kept() -> Kept
+    ensures { λ r. ⌜ r ≡ worlds.fresh-kept ⌝ }
 {
     let none = default_id();
-    Pair {
+    Kept {
         ids: CountedIds {
             count: 0,
             first: none,
@@ -158,6 +181,14 @@ pub fn fresh_pair() -> Pair
         },
         touches: 0,
     }
+}
+
+pub fn fresh_pair() -> Pair
+    ensures { λ r. ⌜ r ≡ worlds.fresh-pair ⌝ }
+{
+    let kept = fresh_kept();
+    let pieces = [kept; 7];
+    Pair { pieces }
 }
 
 pub fn fresh_world() -> World
@@ -184,46 +215,4 @@ pub fn forget(pairs: [Pair; 64], id: usize) -> [Pair; 64]
         j += 1;
     }
     ps
-}
-
-// Nothing changes.
-pub fn refused(number: u8, body: Body, pair: Pair) -> Change
-    ensures { λ r. ⌜ r ≡ definitions.refused number body pair ⌝ }
-{
-    Change {
-        said: Said {
-            answer: Answer::Refused(number),
-        },
-        body,
-        pair,
-        forget: false,
-    }
-}
-
-// A new shape.
-pub fn defined(body: Body, pair: Pair) -> Change
-    ensures { λ r. ⌜ r ≡ definitions.defined body pair ⌝ }
-{
-    Change {
-        said: Said {
-            answer: Answer::Accepted,
-        },
-        body,
-        pair,
-        forget: true,
-    }
-}
-
-// A new placement.
-pub fn moved(body: Body, pair: Pair) -> Change
-    ensures { λ r. ⌜ r ≡ definitions.moved body pair ⌝ }
-{
-    Change {
-        said: Said {
-            answer: Answer::Accepted,
-        },
-        body,
-        pair,
-        forget: false,
-    }
 }

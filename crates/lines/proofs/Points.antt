@@ -14,7 +14,7 @@ unfolding points-at
 length-points bytes at zero = refl
 length-points bytes at (suc n) = ap suc (length-points bytes (at + 8) n)
 
-points-next : (bytes : List ℕ) (at k : ℕ)
+pub points-next : (bytes : List ℕ) (at k : ℕ)
     → points-at bytes at (suc k) ≡ points-at bytes at k ++ (vector-at bytes (at + 8 * k) ∷ [])
 unfolding points-at
 points-next bytes at zero =

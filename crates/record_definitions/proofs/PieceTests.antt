@@ -51,7 +51,7 @@ module _ {A : Type 0} (d : A) where
 
 module _ (ida idb : ℕ) (a b : Body) (pair : Pair) where
   -- ---- n tests from piece j on
-  some-size : {B : Type 0} (f : TestAnswer → B) (j n : ℕ)
+  pub some-size : {B : Type 0} (f : TestAnswer → B) (j n : ℕ)
       → length (map f (pieces-tested ida idb a b pair j n)) ≡ n
   unfolding pieces-tested
   some-size f j zero = refl

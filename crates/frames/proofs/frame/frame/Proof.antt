@@ -2,8 +2,9 @@
 use mathlib.Core.Path.{sym, _∙_}
 use Rattle.record_definitions.specs.Frame.{test-change}
 use Rattle.frames.proofs.FrameLengths.{circle-room, outline-room, wall-room, place-room, turn-room}
+use Rattle.frames.proofs.FrameLengths.{chain-room}
 use Rattle.frames.proofs.ByKind.{refused-frame, well, circle-is, outline-is, wall-is, place-is, turn-is}
-use Rattle.frames.proofs.ByKind.{test-is}
+use Rattle.frames.proofs.ByKind.{chain-is, test-is}
 use borrow.Author.Needs.{needs}
 use Rattle.frames.proofs.frame.frame.Statement.{statement}
 use Rattle.frames.proofs.frame.frame.Tie as tie
@@ -84,6 +85,17 @@ turn-frame-requires c κs =
       start .pre six,
     )
 
+chain-frame-requires : tie.Need-chain-frame-requires
+chain-frame-requires c κs =
+    let byte = c .before .byte in
+    let if1 = c .before .before .if1 in
+    let frame-refusal = c .before .before .before .frame-refusal in
+    let args = c .before .before .before .before .before .before .args in
+    chain-room (args .bytes .now)
+    (well (args .a) (args .b) (args .pair) (args .bytes .now) _ (frame-refusal .ensures)
+    (if1 .left))
+    (sym (byte .ensures) ∙ c .match .keys6)
+
 byte-requires-2 : tie.Need-byte-requires-2
 byte-requires-2 c κs = search needs
 
@@ -150,6 +162,17 @@ returns-6 c =
 
 returns-7 : tie.Need-returns-7
 returns-7 c =
+    let match = c .before .match in
+    let byte = c .before .before .byte in
+    let if1 = c .before .before .before .if1 in
+    let frame-refusal = c .before .before .before .before .frame-refusal in
+    let args = c .before .before .before .before .before .before .before .args in
+    c .chain-frame .ensures
+    ∙ chain-is (args .a) (args .b) (args .pair) (args .bytes .now) _ (frame-refusal .ensures)
+    (if1 .left) _ (byte .ensures) (match .keys6)
+
+returns-8 : tie.Need-returns-8
+returns-8 c =
     let byte3 = c .before .byte3 in
     let byte2 = c .before .before .byte2 in
     let match = c .before .before .before .match in
@@ -161,8 +184,8 @@ returns-7 c =
     (test-is (args .a) (args .b) (args .pair) (args .bytes .now) _ (frame-refusal .ensures)
     (if1 .left) _ (byte .ensures)
     _ _ (byte2 .ensures) (byte3 .ensures)
-    (match .rest .0 .0 .0 .0 .1) (match .rest .0 .0 .0 .1) (match .rest .0 .0 .1) (match .rest .0 .1)
-    (match .rest .1))
+    (match .rest .0 .0 .0 .0 .0 .1) (match .rest .0 .0 .0 .0 .1) (match .rest .0 .0 .0 .1) (match .rest .0 .0 .1)
+    (match .rest .0 .1) (match .rest .1))
 
 pub frame-spec : {M : Type 1} → statement M
 frame-spec =
@@ -177,6 +200,7 @@ frame-spec =
     wall-frame-requires
     place-frame-requires
     turn-frame-requires
+    chain-frame-requires
     byte-requires-2
     byte-requires-3
     test-frame-requires
@@ -185,4 +209,5 @@ frame-spec =
     returns-4
     returns-5
     returns-6
-    returns-7)
+    returns-7
+    returns-8)

@@ -1,4 +1,4 @@
--- Refused at once, or answered as the test answers. Assumes nothing.
+-- Refused at once, or answered as the test answers: of a chain, or of any other body. Assumes nothing.
 use mathlib.Core.Path.{_∙_}
 use Rattle.frames.proofs.TestFrames.{test-refused, test-run}
 use borrow.Author.Needs.{needs}
@@ -13,25 +13,30 @@ refused-requires c κs = search needs
 
 returns : tie.Need-returns
 returns c =
-    let if1 = c .before .if1 in
     let test-refusal = c .before .before .test-refusal in
     let args = c .before .before .before .args in
-    c .refused .ensures ∙ test-refused _ _ _ (args .b) _ _ (test-refusal .ensures) (if1 .taken)
+    c .refused .ensures
+    ∙ test-refused _ _ (args .a) (args .b) (args .pair) _ (test-refusal .ensures) (c .before .if1 .taken)
 
-tested-requires : tie.Need-tested-requires
-tested-requires c κs = search needs
-
-test-answered-requires : tie.Need-test-answered-requires
-test-answered-requires c κs = search needs
+chain-tested-requires : tie.Need-chain-tested-requires
+chain-tested-requires c κs = search needs
 
 returns-2 : tie.Need-returns-2
 returns-2 c =
-    let tested = c .before .tested in
-    let if1 = c .before .before .if1 in
-    let test-refusal = c .before .before .before .test-refusal in
-    let args = c .before .before .before .before .args in
-    c .test-answered .ensures
-    ∙ test-run _ _ _ (args .b) _ _ (test-refusal .ensures) _ (if1 .left) (tested .ensures)
+    let test-refusal = c .before .before .before .before .test-refusal in
+    let args = c .before .before .before .before .before .args in
+    c .chain-tested .ensures
+    ∙ test-run _ _ (args .a) (args .b) (args .pair) _ (test-refusal .ensures) (c .before .before .before .if1 .left)
+
+alone-tested-requires : tie.Need-alone-tested-requires
+alone-tested-requires c κs = search needs
+
+returns-3 : tie.Need-returns-3
+returns-3 c =
+    let test-refusal = c .before .before .before .before .test-refusal in
+    let args = c .before .before .before .before .before .args in
+    c .alone-tested .ensures
+    ∙ test-run _ _ (args .a) (args .b) (args .pair) _ (test-refusal .ensures) (c .before .before .before .if1 .left)
 
 pub test-frame-spec : {M : Type 1} → statement M
 test-frame-spec =
@@ -40,6 +45,7 @@ test-frame-spec =
     test-refusal-requires
     refused-requires
     returns
-    tested-requires
-    test-answered-requires
-    returns-2)
+    chain-tested-requires
+    returns-2
+    alone-tested-requires
+    returns-3)

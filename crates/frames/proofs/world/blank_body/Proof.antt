@@ -16,13 +16,17 @@ blank-outline-requires c κs = search needs
 blank-wall-requires : tie.Need-blank-wall-requires
 blank-wall-requires c κs = search needs
 
+blank-chain-requires : tie.Need-blank-chain-requires
+blank-chain-requires c κs = search needs
+
 returns : tie.Need-returns
 unfolding blank-body
 returns c =
-    let blank-outline = c .before .blank-outline in
-    let blank-circle = c .before .before .blank-circle in
-    let at-origin = c .before .before .before .at-origin in
-    simp (c .blank-wall .ensures, blank-outline .ensures, blank-circle .ensures, at-origin .ensures)
+    let blank-wall = c .before .blank-wall in
+    let blank-outline = c .before .before .blank-outline in
+    let blank-circle = c .before .before .before .blank-circle in
+    let at-origin = c .before .before .before .before .at-origin in
+    simp (c .blank-chain .ensures, blank-wall .ensures, blank-outline .ensures, blank-circle .ensures, at-origin .ensures)
 
 pub blank-body-spec : {M : Type 1} → statement M
 blank-body-spec =
@@ -32,4 +36,5 @@ blank-body-spec =
     blank-circle-requires
     blank-outline-requires
     blank-wall-requires
+    blank-chain-requires
     returns)

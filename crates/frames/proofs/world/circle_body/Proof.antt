@@ -13,13 +13,23 @@ blank-outline-requires c κs = search needs
 blank-wall-requires : tie.Need-blank-wall-requires
 blank-wall-requires c κs = search needs
 
+blank-chain-requires : tie.Need-blank-chain-requires
+blank-chain-requires c κs = search needs
+
 returns : tie.Need-returns
 unfolding circle-body
 returns c =
-    let blank-outline = c .before .blank-outline in
-    let at-origin = c .before .before .at-origin in
-    simp (c .blank-wall .ensures, blank-outline .ensures, at-origin .ensures)
+    let blank-wall = c .before .blank-wall in
+    let blank-outline = c .before .before .blank-outline in
+    let at-origin = c .before .before .before .at-origin in
+    simp (c .blank-chain .ensures, blank-wall .ensures, blank-outline .ensures, at-origin .ensures)
 
 pub circle-body-spec : {M : Type 1} → statement M
 circle-body-spec =
-    tie.close (tie.spec at-origin-requires blank-outline-requires blank-wall-requires returns)
+    tie.close
+    (tie.spec
+    at-origin-requires
+    blank-outline-requires
+    blank-wall-requires
+    blank-chain-requires
+    returns)

@@ -13,13 +13,23 @@ blank-circle-requires c κs = search needs
 blank-wall-requires : tie.Need-blank-wall-requires
 blank-wall-requires c κs = search needs
 
+blank-chain-requires : tie.Need-blank-chain-requires
+blank-chain-requires c κs = search needs
+
 returns : tie.Need-returns
 unfolding outline-body
 returns c =
-    let blank-circle = c .before .blank-circle in
-    let at-origin = c .before .before .at-origin in
-    simp (c .blank-wall .ensures, blank-circle .ensures, at-origin .ensures)
+    let blank-wall = c .before .blank-wall in
+    let blank-circle = c .before .before .blank-circle in
+    let at-origin = c .before .before .before .at-origin in
+    simp (c .blank-chain .ensures, blank-wall .ensures, blank-circle .ensures, at-origin .ensures)
 
 pub outline-body-spec : {M : Type 1} → statement M
 outline-body-spec =
-    tie.close (tie.spec at-origin-requires blank-circle-requires blank-wall-requires returns)
+    tie.close
+    (tie.spec
+    at-origin-requires
+    blank-circle-requires
+    blank-wall-requires
+    blank-chain-requires
+    returns)

@@ -13,13 +13,23 @@ blank-circle-requires c κs = search needs
 blank-outline-requires : tie.Need-blank-outline-requires
 blank-outline-requires c κs = search needs
 
+blank-chain-requires : tie.Need-blank-chain-requires
+blank-chain-requires c κs = search needs
+
 returns : tie.Need-returns
 unfolding wall-body
 returns c =
-    let blank-circle = c .before .blank-circle in
-    let at-origin = c .before .before .at-origin in
-    simp (c .blank-outline .ensures, blank-circle .ensures, at-origin .ensures)
+    let blank-outline = c .before .blank-outline in
+    let blank-circle = c .before .before .blank-circle in
+    let at-origin = c .before .before .before .at-origin in
+    simp (c .blank-chain .ensures, blank-outline .ensures, blank-circle .ensures, at-origin .ensures)
 
 pub wall-body-spec : {M : Type 1} → statement M
 wall-body-spec =
-    tie.close (tie.spec at-origin-requires blank-circle-requires blank-outline-requires returns)
+    tie.close
+    (tie.spec
+    at-origin-requires
+    blank-circle-requires
+    blank-outline-requires
+    blank-chain-requires
+    returns)

@@ -1,0 +1,29 @@
+-- The wall of a chain, or the body itself. Assumes nothing.
+use mathlib.Core.Path.{_∙_}
+use Rattle.frames.proofs.BodyPieces.{own-piece, wall-piece}
+use borrow.Author.Needs.{needs}
+use Rattle.frames.proofs.pieces.piece_of.Statement.{statement}
+use Rattle.frames.proofs.pieces.piece_of.Tie as tie
+
+returns : tie.Need-returns
+returns c = own-piece _ _ (c .if1 .taken)
+
+piece-wall-requires : tie.Need-piece-wall-requires
+piece-wall-requires c κs = search needs
+
+wall-body-requires : tie.Need-wall-body-requires
+wall-body-requires c κs = search needs
+
+placed-requires : tie.Need-placed-requires
+placed-requires c κs = search needs
+
+returns-2 : tie.Need-returns-2
+returns-2 c =
+    let wall-body = c .before .wall-body in
+    let piece-wall = c .before .before .piece-wall in
+    let if1 = c .before .before .before .before .before .if1 in
+    c .placed .ensures ∙ rw (wall-body .ensures, piece-wall .ensures) (wall-piece _ _ (if1 .left))
+
+pub piece-of-spec : {M : Type 1} → statement M
+piece-of-spec =
+    tie.close (tie.spec returns piece-wall-requires wall-body-requires placed-requires returns-2)
