@@ -1,13 +1,15 @@
-// Answers, written to the front of a lent buffer: as bytes, for the export, and as a line, for the program. Each part
-// of a test's result is written into what the parts before it leave of the buffer.
+// Answers, written to the front of a lent buffer: as bytes, for the export, and as lines, for the program. Each part of
+// a test's result, and each line, is written into what the parts before it leave of the buffer.
 ghost use mathlib.Core.Path.{_≡_};
-ghost use Prim.Native.Nat.{_≤_};
-ghost use lib.ListN.{length};
+ghost use Prim.Native.Nat.{_*_, _≤_, min};
+ghost use lib.ListN.{length, take};
 ghost use Rattle.algebra.specs.Buffer.{over};
 ghost use Rattle.lines.specs.Buffers.{Put};
+ghost use Rattle.lines.specs.Hex.{line-of};
 ghost use Rattle.contact_definitions.specs.PointStates.{state-number};
 ghost use Rattle.record_definitions.specs.Answer.{names-bytes, states-bytes, head-bytes, point-bytes, touch-bytes};
-ghost use Rattle.record_definitions.specs.Answer.{answer-bytes, said-bytes, said-line, longest-answer, longest-line};
+ghost use Rattle.record_definitions.specs.Answer.{answer-bytes, said-bytes, touch-lines, said-line, longest-answer};
+ghost use Rattle.record_definitions.specs.Answer.{longest-line, most-further, longest-said};
 use contact_definitions::b2_collision::B2pointState;
 use contact_definitions::b2_collision::PointStates;
 use lines::fields;
@@ -27,7 +29,12 @@ const FIRST_POINT: usize = NORMAL + 12;
 pub const LONGEST_ANSWER: usize = FIRST_POINT + 12;
 
 // The characters of the longest line: its digits and the line feed.
-pub const LONGEST_LINE: usize = 2 * LONGEST_ANSWER + 1;
+const LONGEST_LINE: usize = 2 * LONGEST_ANSWER + 1;
+
+// The results of a chain behind its first piece, and the characters of all its lines.
+const MOST_FURTHER: usize = 6;
+
+pub const LONGEST_SAID: usize = (1 + MOST_FURTHER) * LONGEST_LINE;
 
 // Null 0, add 1, persist 2, remove 3.
 fn state_number(state: B2pointState) -> u8
@@ -137,11 +144,51 @@ pub fn put_said(out: &mut [u8], said: Said) -> usize
 }
 
 // How many characters.
-pub fn put_said_line(out: &mut [u8], said: Said) -> usize
+fn put_answer_line(out: &mut [u8], answer: Answer) -> usize
     requires { ⌜ longest-line ≤ length (now out) ⌝ }
-    ensures { λ r. ⌜ Put (said-line said) (now (out .entry)) r (now (out .exit)) ⌝ }
+    ensures { λ r. ⌜ Put (line-of (answer-bytes answer)) (now (out .entry)) r (now (out .exit)) ⌝ }
+    ensures { λ r. ⌜ r ≤ longest-line ⌝ }
 {
     let mut bytes = [0u8; LONGEST_ANSWER];
-    let n = put_said(&mut bytes, said);
+    let n = put_answer(&mut bytes, answer);
     hex::put_line(out, &bytes[..n])
+}
+
+// A count of further results; one past the row says the whole row.
+fn few(n: usize) -> usize
+    ensures { λ r. ⌜ r ≡ min n most-further ⌝ }
+{
+    if n > MOST_FURTHER { MOST_FURTHER } else { n }
+}
+
+// A line for each of the first n results.
+fn put_touch_lines(out: &mut [u8], touches: [Touch; MOST_FURTHER], n: usize) -> usize
+    requires { ⌜ most-further * longest-line ≤ length (now out) ⌝ }
+    ensures { λ r. ⌜ Put (touch-lines (take n touches)) (now (out .entry)) r (now (out .exit)) ⌝ }
+    ensures { λ r. ⌜ r ≤ most-further * longest-line ⌝ }
+{
+    let last = few(n);
+    let mut at = 0usize;
+    let mut i = 0usize;
+    while i < last {
+        at += put_answer_line(&mut out[at..], Answer::Tested(touches[i]));
+        i += 1;
+    }
+    at
+}
+
+// The answer's line, and one for each further piece of a chain. The further results are looked at only where there are
+// some.
+pub fn put_said_line(out: &mut [u8], said: Said) -> usize
+    requires { ⌜ longest-said ≤ length (now out) ⌝ }
+    ensures { λ r. ⌜ Put (said-line said) (now (out .entry)) r (now (out .exit)) ⌝ }
+{
+    let answer = said.answer;
+    let first = put_answer_line(out, answer);
+    let further = said.further;
+    if further == 0 {
+        return first;
+    }
+    let more = said.more;
+    first + put_touch_lines(&mut out[first..], more, further)
 }

@@ -34,7 +34,7 @@ size-within true one = omega arith
 size-within false true = omega arith
 size-within false false = omega arith
 
-answer-within : (answer : Answer) → length (answer-bytes answer) ≤ longest-answer
+pub answer-within : (answer : Answer) → length (answer-bytes answer) ≤ longest-answer
 answer-within Accepted = omega arith
 answer-within (Refused number) = omega arith
 answer-within (Tested t) =
@@ -43,7 +43,7 @@ answer-within (Tested t) =
 pub said-within : (said : Said) → length (said-bytes said) ≤ longest-answer
 said-within said = answer-within (said .answer)
 
-one-within : (bytes : List ℕ) → length bytes ≤ longest-answer → length (line-of bytes) ≤ longest-line
+pub one-within : (bytes : List ℕ) → length bytes ≤ longest-answer → length (line-of bytes) ≤ longest-line
 one-within bytes few = omega (arith, length-append (hex bytes) (line-feed ∷ []), length-hex bytes)
 
 lines-within : (touches : List Touch) → length (touch-lines touches) ≤ length touches * longest-line

@@ -1,54 +1,59 @@
--- The bytes, then their digits. Assumes nothing.
-use mathlib.Core.Path.{_≡_, sym}
-use native.Mathlib.Omega.{arith}
-use lib.ListN.{length, take}
-use lib.Seq.{length-take-le}
-use Rattle.record.proofs.Parts.{line-put}
+-- The answer's line, and behind it those of the further results. Assumes nothing.
+use Rattle.record.proofs.Lines.{put-next, said-alone-put}
 use borrow.Author.Needs.{needs}
 use Rattle.record.proofs.answer.put_said_line.Statement.{statement}
 use Rattle.record.proofs.answer.put_said_line.Tie as tie
 
-slice-aggregate-put-said : tie.Need-slice-aggregate-put-said
-slice-aggregate-put-said c = search needs
-
-put-said-requires : tie.Need-put-said-requires
-put-said-requires c κs = search needs
-
-array-share-prefix-bytes : tie.Need-array-share-prefix-bytes
-array-share-prefix-bytes c = search needs
-
-slice-aggregate-put-line : tie.Need-slice-aggregate-put-line
-slice-aggregate-put-line c =
-    let put-said′ = c .before .before .before .put-said in
-    sym (length-take-le (put-said′ .result) (put-said′ .last .0) (omega arith))
-
-put-line-requires : tie.Need-put-line-requires
-put-line-requires c κs =
-    let put-said′ = c .before .before .before .put-said in
-    let size : length (take (put-said′ .result) (put-said′ .last .0)) ≡ put-said′ .result =
-    length-take-le _ _ (omega arith) in
-    omega arith
+put-answer-line-requires : tie.Need-put-answer-line-requires
+put-answer-line-requires c κs = search needs
 
 same-length : tie.Need-same-length
 same-length c = search needs
 
 returns : tie.Need-returns
 returns c =
-    let put-line′ = c .before .before .put-line in
-    let put-said′ = c .before .before .before .before .before .before .put-said in
-    let at-args = c .before .before .before .before .before .before .before .before .before in
-    let args′ = at-args .args in
-    line-put _ _ (put-said′ .last .0) (args′ .out .now) _ (put-said′ .result) _
-    (put-said′ .ensures .0) (put-line′ .ensures)
+    let put-answer-line′ = c .before .before .before .put-answer-line in
+    let args′ = c .before .before .before .before .before .before .args in
+    said-alone-put (args′ .said) _ _ _ (c .if1 .taken) (put-answer-line′ .ensures .0)
+
+sub-put-touch-lines : tie.Need-sub-put-touch-lines
+sub-put-touch-lines c = search needs
+
+part-put-touch-lines-start : tie.Need-part-put-touch-lines-start
+part-put-touch-lines-start c = search needs
+
+part-put-touch-lines-end : tie.Need-part-put-touch-lines-end
+part-put-touch-lines-end c = search needs
+
+put-touch-lines-requires : tie.Need-put-touch-lines-requires
+put-touch-lines-requires c κs = search needs
+
+add-result : tie.Need-add-result
+add-result c = search needs
+
+same-length-2 : tie.Need-same-length-2
+same-length-2 c = search needs
+
+returns-2 : tie.Need-returns-2
+returns-2 c =
+    let put-touch-lines′ = c .before .before .put-touch-lines in
+    let at-put-answer-line = c .before .before .before .before .before .before .before .before in
+    let put-answer-line′ = at-put-answer-line .put-answer-line in
+    let args′ = at-put-answer-line .before .before .before .args in
+    put-next _ _ (args′ .out .now) (put-answer-line′ .last .0) _ _ _ (put-answer-line′ .ensures .0)
+    (put-touch-lines′ .ensures .0)
 
 pub put-said-line-spec : {M : Type 1} → statement M
 put-said-line-spec =
     tie.close
     (tie.spec
-    slice-aggregate-put-said
-    put-said-requires
-    array-share-prefix-bytes
-    slice-aggregate-put-line
-    put-line-requires
+    put-answer-line-requires
     same-length
-    returns)
+    returns
+    sub-put-touch-lines
+    part-put-touch-lines-start
+    part-put-touch-lines-end
+    put-touch-lines-requires
+    add-result
+    same-length-2
+    returns-2)
