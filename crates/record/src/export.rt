@@ -7,11 +7,13 @@ ghost use Rattle.lines.specs.Hex.{largest-frame};
 ghost use Rattle.shape_definitions.specs.Refusal.{malformed-frame};
 ghost use Rattle.record_definitions.specs.declared.frame.Answer.the-variants.{Refused};
 ghost use Rattle.record_definitions.specs.World.{fresh-world};
+ghost use Rattle.record_definitions.specs.Answer.{said-alone};
 ghost use Rattle.record_definitions.specs.Frame.{frame-length};
 ghost use Rattle.record_definitions.specs.Export as Export;
 ghost use Rattle.record.specs.BothChanges.{both-changes};
 use crate::answer;
 use crate::answer::LONGEST_ANSWER;
+use frames::changes;
 use frames::frame;
 use frames::frame::PLACEMENT_LENGTH;
 use frames::world;
@@ -106,11 +108,9 @@ fn run<'a>(f0: &'a [u8], f1: &'a [u8], f2: &'a [u8], f3: &'a [u8]) -> Said
 
 // Refusal 10.
 fn malformed() -> Said
-    ensures { λ r. ⌜ r ≡ record { answer = Refused malformed-frame } ⌝ }
+    ensures { λ r. ⌜ r ≡ said-alone (Refused malformed-frame) ⌝ }
 {
-    Said {
-        answer: Answer::Refused(refusal::MALFORMED_FRAME),
-    }
+    changes::said_alone(Answer::Refused(refusal::MALFORMED_FRAME))
 }
 
 // What is said of an input: 10 where it is not the four frames in their order, and else what they say.

@@ -4,11 +4,11 @@ ghost use Prim.Native.Nat.{_≤_, _<_, _%_, min};
 ghost use lib.ListN.{length, take};
 ghost use Rattle.lines.specs.Fields.{byte-at};
 ghost use Rattle.lines.specs.Hex.{largest-frame};
-ghost use Rattle.record_definitions.specs.Answer.{said-line, longest-line};
+ghost use Rattle.record_definitions.specs.Answer.{said-line, longest-said};
 ghost use Rattle.record_definitions.specs.Reading.{kept-length, with-character, begin, reading, FedAs};
 ghost use Rattle.record.specs.Decoding.{Named};
 use crate::answer;
-use crate::answer::LONGEST_LINE;
+use crate::answer::LONGEST_SAID;
 use frames::frame;
 use frames::world;
 use headings::turns;
@@ -81,10 +81,10 @@ fn keep(line: &mut [u8; KEPT_LENGTH], len: usize, x: u8) -> usize
     len
 }
 
-// The input in a piece, up to where the output has no room for another line. The table of sines is named once and lent
+// The input in a piece, up to where the output has no room for another answer. The table of sines is named once and lent
 // to every frame.
 pub fn feed(s: Reader, chunk: &[u8], out: &mut [u8]) -> Fed
-    ensures { λ r. ⌜ FedAs said-line longest-line s (now (chunk .entry)) (now (out .entry)) r (now (out .exit)) ⌝ }
+    ensures { λ r. ⌜ FedAs said-line longest-said s (now (chunk .entry)) (now (out .entry)) r (now (out .exit)) ⌝ }
 {
     let sines = turns::sines();
     let mut w = s.world;
@@ -93,7 +93,7 @@ pub fn feed(s: Reader, chunk: &[u8], out: &mut [u8]) -> Fed
     let mut at = 0usize;
     let mut i = 0usize;
     while i < chunk.len() {
-        if out.len() - at < LONGEST_LINE {
+        if out.len() - at < LONGEST_SAID {
             break;
         }
         let x = chunk[i];

@@ -7,7 +7,7 @@ ghost use mathlib.Core.Path.{_≡_};
 ghost use mathlib.Core.Bool.{true};
 ghost use Prim.Native.Nat.{_≤_, _<_};
 ghost use lib.ListN.{length, drop};
-ghost use Rattle.record_definitions.specs.Answer.{said-line, longest-line};
+ghost use Rattle.record_definitions.specs.Answer.{said-line, longest-said};
 ghost use Rattle.record_definitions.specs.Reading.{reading, after, printed};
 use libc::STDIN_FILENO;
 use libc::STDOUT_FILENO;
@@ -74,7 +74,7 @@ pub struct Going {
 
 // A whole piece of input: what it prints is written, as often as the output is full. It ends early where a write fails.
 fn piece(mut s: Reader, chunk: &[u8], out: &mut [u8], before: u64) -> Going
-    requires { ⌜ longest-line ≤ length (now out) ⌝ }
+    requires { ⌜ longest-said ≤ length (now out) ⌝ }
     ensures { λ r. ⌜ (r .more ≡ true → reading (r .reader) ≡ after (reading s) (now (chunk .entry))) ⌝ }
 {
     let mut answers = before;
@@ -145,7 +145,7 @@ fn input(chunk: &mut [u8], begun: usize, answers: u64) -> Got
 
 // Piece after piece. Nothing says that an input ends: the count of pieces does, after 2^64 - 1 of them.
 fn all(chunk: &mut [u8], out: &mut [u8])
-    requires { ⌜ (0 < length (now chunk)) × (longest-line ≤ length (now out)) ⌝ }
+    requires { ⌜ (0 < length (now chunk)) × (longest-said ≤ length (now out)) ⌝ }
 {
     let mut turns = u64::MAX;
     let mut reader = feed::start();

@@ -4,7 +4,7 @@ use Prim.Native.Nat.{_-_, _≤_}
 use mathlib.Core.Path.{sym, _∙_}
 use native.Mathlib.Omega.{arith}
 use lib.ListN.{length, take, length-map}
-use Rattle.record_definitions.specs.Answer.{said-line, longest-line}
+use Rattle.record_definitions.specs.Answer.{said-line, longest-said}
 use Rattle.record_definitions.proofs.Feeding.{SoFar, nothing-yet, fed-at-end, length-lent, put-fits}
 use Rattle.record.proofs.Turns.{row-held}
 use Rattle.record.proofs.feed.feed.Tie as tie
@@ -39,7 +39,7 @@ returns c =
     let size = sym (length-map (s .line) _) ∙ good′ .0 .1 .1 .1 .0 .1 .0 .1 in
     let row = row-held (s .line) (s .len) (held′ .result) (held′ .ensures) size in
     let so-far = rw row at (loop′ .inv) in
-    fed-at-end said-line longest-line s _ (args′ .out .now) _ _ _ _ _ _ so-far
+    fed-at-end said-line longest-said s _ (args′ .out .now) _ _ _ _ _ _ so-far
     (λ room. omega arith)
 
 pub returns-2 : tie.Need-returns-2 Inv-loop μ-loop
@@ -53,7 +53,7 @@ returns-2 c =
     let size = sym (length-map (s .line) _) ∙ good′ .0 .1 .1 .1 .0 .1 .0 .1 in
     let row = row-held (s .line) (s .len) (held′ .result) (held′ .ensures) size in
     let so-far = rw row at (loop′ .inv) in
-    fed-at-end said-line longest-line s _ (args′ .out .now) _ _ _ _ _ _ so-far
+    fed-at-end said-line longest-said s _ (args′ .out .now) _ _ _ _ _ _ so-far
     (λ room. absurd (omega (arith, c .if1 .taken, loop′ .inv .out-size)))
 
 -- ---- room for a line
