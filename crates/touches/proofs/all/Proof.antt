@@ -4,14 +4,14 @@ use mathlib.Core.Path.{_≡_, refl, sym, _∙_}
 use native.Mathlib.Omega.{arith}
 use lib.ListN.{length}
 use lib.Seq.{length-take-le}
-use Rattle.record_definitions.specs.Answer.{longest-line}
+use Rattle.record_definitions.specs.Answer.{longest-said}
 use borrow.Author.Needs.{needs}
 use Rattle.touches.proofs.all.Statement.{statement}
 use Rattle.touches.proofs.all.Tie as tie
 
 abbrev Inv-loop : tie.InvT-loop
 Inv-loop chunk₀ out₀ turns₀ reader₀ answers₀ chunk out turns reader answers =
-    (length chunk ≡ length chunk₀) × (length out ≡ length out₀) × (0 < length chunk₀) × (longest-line ≤ length out₀)
+    (length chunk ≡ length chunk₀) × (length out ≡ length out₀) × (0 < length chunk₀) × (longest-said ≤ length out₀)
 
 abbrev μ-loop : tie.MeasureT-loop
 μ-loop chunk₀ out₀ turns₀ reader₀ answers₀ chunk out turns reader answers = turns
