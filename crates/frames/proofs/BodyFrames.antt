@@ -26,6 +26,12 @@ use Rattle.record_definitions.specs.declared.world.Pair.{Pair}
 use Rattle.record_definitions.specs.World.{no-body, blank-outline, circle-body, outline-body, wall-body, placed}
 use Rattle.record_definitions.specs.Frame.{refused, defined, moved, wall-at, circle-change, outline-change, wall-change}
 use Rattle.record_definitions.specs.Frame.{place-change, largest-turn, turn-at, turned-placement, turn-change}
+use Rattle.frames.specs.declared.changes.BodyMade.{BodyMade}
+use Rattle.frames.specs.Made.{of-body}
+
+-- what is made of a body, with any pair
+pub with-pair : (pair : Pair) {made is : BodyMade} → made ≡ is → of-body made pair ≡ of-body is pair
+with-pair pair = ap (λ (made : BodyMade). of-body made pair)
 
 module _ (body : Body) (pair : Pair) (bytes : List ℕ) where
   -- ---- 01: p and r were read

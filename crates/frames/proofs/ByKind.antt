@@ -39,22 +39,20 @@ module _ (a b : Body) (pair : Pair) (bytes : List ℕ) (kind : ℕ) where
   unfolding change-of-kind
   kind-7 is = rw is refl
 
-  other-kind : (kind ≡ 1 → ⊥) → (kind ≡ 2 → ⊥) → (kind ≡ 3 → ⊥) → (kind ≡ 4 → ⊥) → (kind ≡ 6 → ⊥) → (kind ≡ 7 → ⊥)
-      → test-change (byte-at bytes 1) (byte-at bytes 2) a b pair ≡ change-of-kind kind a b pair bytes
+  kind-5 : kind ≡ 5 → test-change (byte-at bytes 1) (byte-at bytes 2) a b pair ≡ change-of-kind kind a b pair bytes
   unfolding change-of-kind
-  other-kind no-1 no-2 no-3 no-4 no-6 no-7 =
-      simp (ne-eqb _ _ no-1, ne-eqb _ _ no-2, ne-eqb _ _ no-3, ne-eqb _ _ no-4, ne-eqb _ _ no-6, ne-eqb _ _ no-7)
+  kind-5 is = rw is refl
 
 -- ---- the frame
+pub well : (bytes : List ℕ) (number : ℕ) → number ≡ frame-refusal bytes → number ≡ accepted → well-formed bytes ≡ true
+well bytes number number-is none = formed bytes (sym number-is ∙ none)
+
 module _ (a b : Body) (pair : Pair) (bytes : List ℕ) (number : ℕ) (number-is : number ≡ frame-refusal bytes) where
   pub refused-frame : (number ≡ accepted → ⊥) → refused number a pair ≡ change a b pair bytes
   unfolding change
   refused-frame some = rw (← number-is) (simp (ne-eqb number accepted some))
 
   module _ (none : number ≡ accepted) where
-    pub well : well-formed bytes ≡ true
-    well = formed bytes (sym number-is ∙ none)
-
     module _ (kind : ℕ) (kind-is : kind ≡ byte-at bytes 0) where
       of-kind : change-of-kind kind a b pair bytes ≡ change a b pair bytes
       unfolding change
@@ -78,10 +76,9 @@ module _ (a b : Body) (pair : Pair) (bytes : List ℕ) (number : ℕ) (number-is
       pub chain-is : kind ≡ 7 → chain-change a pair bytes ≡ change a b pair bytes
       chain-is is = kind-7 a b pair bytes kind is ∙ of-kind
 
-      pub test-is : (ida idb : ℕ) → ida ≡ byte-at bytes 1 → idb ≡ byte-at bytes 2 → (kind ≡ 1 → ⊥) → (kind ≡ 2 → ⊥)
-          → (kind ≡ 3 → ⊥) → (kind ≡ 4 → ⊥) → (kind ≡ 6 → ⊥) → (kind ≡ 7 → ⊥)
+      pub test-is : (ida idb : ℕ) → ida ≡ byte-at bytes 1 → idb ≡ byte-at bytes 2 → kind ≡ 5
           → test-change ida idb a b pair ≡ change a b pair bytes
-      test-is ida idb ida-is idb-is no-1 no-2 no-3 no-4 no-6 no-7 =
+      test-is ida idb ida-is idb-is is =
           ap₂ (λ (i j : ℕ). test-change i j a b pair) ida-is idb-is
-          ∙ other-kind a b pair bytes kind no-1 no-2 no-3 no-4 no-6 no-7
+          ∙ kind-5 a b pair bytes kind is
           ∙ of-kind

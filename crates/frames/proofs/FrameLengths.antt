@@ -1,6 +1,6 @@
 -- The lengths of frames by their kind, and the room that a reader of each has. Assumes nothing.
 use Prim.Native.Nat.{ℕ, _+_, _*_, _≤_}
-use mathlib.Core.Path.{_≡_, refl, _∙_}
+use mathlib.Core.Path.{_≡_, refl, sym, _∙_, ap}
 use mathlib.Core.Bool.{Bool, true, false, not, cond, _&&_, false≢true}
 use mathlib.Core.List.{List}
 use native.Mathlib.Omega.{arith}
@@ -73,10 +73,10 @@ module _ (bytes : List ℕ) where
     pub circle-room : byte-at bytes 0 ≡ 1 → length bytes ≡ 14
     circle-room is = sized well .1 ∙ circle-length (byte-at bytes 0) (byte-at bytes 2) is
 
-    -- at most eight points, and just the bytes that they need
-    counted-room : (head : ℕ) → size ≡ cond (leb (byte-at bytes 2) 8) (head + 8 * byte-at bytes 2) 0
-        → (byte-at bytes 2 ≤ 8) × (length bytes ≡ head + 8 * byte-at bytes 2)
-    counted-room head size-is =
+    -- of a count of at most eight points: `more` bytes beside those of the points
+    counted-room : (more : ℕ) → size ≡ cond (leb (byte-at bytes 2) 8) (more + 8 * byte-at bytes 2) 0
+        → (byte-at bytes 2 ≤ 8) × (length bytes ≡ more + 8 * byte-at bytes 2)
+    counted-room more size-is =
         let count = byte-at bytes 2 in
         by-test (leb count 8)
         (λ few. (leb-true count 8 few, sized well .1 ∙ size-is ∙ simp few))
@@ -105,3 +105,14 @@ module _ (bytes : List ℕ) where
 
     pub turn-room : byte-at bytes 0 ≡ 6 → length bytes ≡ 12
     turn-room is = sized well .1 ∙ turn-length (byte-at bytes 0) (byte-at bytes 2) is
+
+    -- a kind that is no other is the last
+    pub kind-left : (kind : ℕ) → kind ≡ byte-at bytes 0 → (kind ≡ 1 → ⊥) → (kind ≡ 2 → ⊥) → (kind ≡ 3 → ⊥)
+        → (kind ≡ 4 → ⊥) → (byte-at bytes 0 ≡ 5 → ⊥) → (kind ≡ 6 → ⊥) → kind ≡ 7
+    kind-left kind kind-is no-1 no-2 no-3 no-4 no-5 no-6 =
+        by-test (eqb kind 7)
+        (λ last. eqb-true kind 7 last)
+        (λ other. absurd (sized well .0
+        (ap (λ (k : ℕ). frame-length k (byte-at bytes 2)) (sym kind-is)
+        ∙ no-length kind (byte-at bytes 2) no-1 no-2 no-3 no-4 (λ is. no-5 (sym kind-is ∙ is)) no-6
+        (eqb-false kind 7 other))))

@@ -1,6 +1,7 @@
 // Frame 07: a chain of walls is defined. A caller has compared the frame's length with its count.
 ghost use mathlib.Core.Path.{_≡_};
 ghost use mathlib.Core.Bool.{not};
+ghost use mathlib.Core.List.{List};
 ghost use Prim.Native.Nat.{ℕ, _+_, _*_, _≤_};
 ghost use lib.ListN.{length, replicate, take};
 ghost use Rattle.algebra.specs.Buffer.{over};
@@ -9,18 +10,19 @@ ghost use Rattle.lines.specs.Fields.{byte-at, points-at};
 ghost use Rattle.shape_definitions.specs.Outline.{origin};
 ghost use Rattle.shape_definitions.specs.Polygon.{all-points};
 ghost use Rattle.contact_definitions.specs.Searches.{some-below};
+ghost use Rattle.record_definitions.specs.declared.world.Pair.{Pair};
 ghost use Rattle.record_definitions.specs.Frame as definitions;
+ghost use Rattle.frames.specs.Made.{of-body};
 use crate::changes;
+use crate::changes::BodyMade;
 use crate::world;
 use floats::b2_common::B2_LINEAR_SLOP;
 use floats::b2_math;
 use floats::b2_math::B2vec2;
 use floats::ranges;
 use lines::fields;
-use record_definitions::frame::Change;
 use record_definitions::world::Body;
 use record_definitions::world::Chain;
-use record_definitions::world::Pair;
 use shape_definitions::refusal;
 
 // n points, in the first places; places past them hold the origin.
@@ -79,12 +81,12 @@ fn some_short(chain: Chain, n: usize) -> bool
     false
 }
 
-// What the chain of a frame is refused for; or 0.
-fn chain_refusal(bytes: &[u8], chain: Chain) -> u8
-    requires { ⌜ (byte-at (now bytes) 2 ≤ 8) × (chain ≡ definitions.chain-at (now bytes)) ⌝ }
-    ensures { λ r. ⌜ r ≡ definitions.chain-refusal (now (bytes .entry)) ⌝ }
+// What a chain is refused for, whatever frame it was read from; or 0.
+fn chain_refusal(chain: Chain) -> u8
+    requires { ⌜ chain .count ≤ 8 ⌝ }
+    ensures { λ r. ⌜ ((bytes : List ℕ) → chain ≡ definitions.chain-at bytes → r ≡ definitions.chain-refusal bytes) ⌝ }
 {
-    let count = fields::byte(bytes, 2) as usize;
+    let count = chain.count;
     if count < 2 {
         return refusal::CHAIN_TOO_FEW;
     }
@@ -99,14 +101,14 @@ fn chain_refusal(bytes: &[u8], chain: Chain) -> u8
 }
 
 // 07 id count, the point before, the points, the point after
-pub fn chain_frame(body: Body, pair: Pair, bytes: &[u8]) -> Change
+pub fn chain_frame(body: Body, bytes: &[u8]) -> BodyMade
     requires { ⌜ (byte-at (now bytes) 2 ≤ 8) × (length (now bytes) ≡ 19 + 8 * byte-at (now bytes) 2) ⌝ }
-    ensures { λ r. ⌜ r ≡ definitions.chain-change body pair (now (bytes .entry)) ⌝ }
+    ensures { λ r. ⌜ ((pair : Pair) → of-body r pair ≡ definitions.chain-change body pair (now (bytes .entry))) ⌝ }
 {
     let chain = chain_read(bytes);
-    let number = chain_refusal(bytes, chain);
+    let number = chain_refusal(chain);
     if number == refusal::ACCEPTED {
-        return changes::defined(world::chain_body(chain), pair);
+        return changes::defined(world::chain_body(chain));
     }
-    changes::refused(number, body, pair)
+    changes::refused(number, body)
 }

@@ -1,12 +1,11 @@
-// What is said of a frame that is no test, and what a frame changes, by how it is answered.
+// What a frame makes, by how it is answered, and what is said of it.
 ghost use mathlib.Core.Path.{_≡_};
 ghost use Rattle.record_definitions.specs.Answer as answers;
-ghost use Rattle.record_definitions.specs.Frame as definitions;
+ghost use Rattle.frames.specs.Made.{refused-body, defined-body, moved-body};
 use contact_definitions::b2_collision::B2pointState;
 use contact_definitions::b2_collision::PointStates;
 use floats::b2_math::B2vec2;
 use record_definitions::frame::Answer;
-use record_definitions::frame::Change;
 use record_definitions::frame::Said;
 use record_definitions::touch::Touch;
 use record_definitions::touch::TouchPoint;
@@ -53,38 +52,48 @@ pub fn said_alone(answer: Answer) -> Said
     }
 }
 
+// What a frame that is no test makes of its body, and whether the body's pairs are forgotten.
+pub struct BodyMade {
+    pub answer: Answer,
+    pub body: Body,
+    pub forget: bool,
+}
+
+// What a test of a body that is no chain makes of the pair.
+pub struct TestMade {
+    pub answer: Answer,
+    pub pair: Pair,
+}
+
 // Nothing changes.
-pub fn refused(number: u8, body: Body, pair: Pair) -> Change
-    ensures { λ r. ⌜ r ≡ definitions.refused number body pair ⌝ }
+pub fn refused(number: u8, body: Body) -> BodyMade
+    ensures { λ r. ⌜ r ≡ refused-body number body ⌝ }
 {
-    Change {
-        said: said_alone(Answer::Refused(number)),
+    BodyMade {
+        answer: Answer::Refused(number),
         body,
-        pair,
         forget: false,
     }
 }
 
 // A new shape.
-pub fn defined(body: Body, pair: Pair) -> Change
-    ensures { λ r. ⌜ r ≡ definitions.defined body pair ⌝ }
+pub fn defined(body: Body) -> BodyMade
+    ensures { λ r. ⌜ r ≡ defined-body body ⌝ }
 {
-    Change {
-        said: said_alone(Answer::Accepted),
+    BodyMade {
+        answer: Answer::Accepted,
         body,
-        pair,
         forget: true,
     }
 }
 
 // A new placement.
-pub fn moved(body: Body, pair: Pair) -> Change
-    ensures { λ r. ⌜ r ≡ definitions.moved body pair ⌝ }
+pub fn moved(body: Body) -> BodyMade
+    ensures { λ r. ⌜ r ≡ moved-body body ⌝ }
 {
-    Change {
-        said: said_alone(Answer::Accepted),
+    BodyMade {
+        answer: Answer::Accepted,
         body,
-        pair,
         forget: false,
     }
 }

@@ -2,14 +2,23 @@
 ghost use mathlib.Core.Path.{_≡_};
 ghost use Rattle.headings.specs.Headings.{quarter-waves};
 ghost use Rattle.lines.specs.Fields.{byte-at};
+ghost use Rattle.record_definitions.specs.declared.world.Body.{Body};
+ghost use Rattle.record_definitions.specs.declared.world.Pair.{Pair};
+ghost use Rattle.record_definitions.specs.World.{chain-kind};
 ghost use Rattle.record_definitions.specs.Frame as definitions;
+ghost use Rattle.frames.specs.Made.{of-body, of-test};
 use crate::body_frames;
 use crate::chain_frame;
+use crate::chain_test;
 use crate::changes;
+use crate::changes::BodyMade;
+use crate::changes::TestMade;
 use crate::test_frame;
 use lines::fields;
+use record_definitions::frame::Answer;
 use record_definitions::frame::Change;
 use record_definitions::world::Body;
+use record_definitions::world::CHAIN;
 use record_definitions::world::LARGEST_ID;
 use record_definitions::world::Pair;
 use shape_definitions::refusal;
@@ -44,6 +53,9 @@ fn chain_length(count: u8) -> usize
     }
     0
 }
+
+// The kind of a test.
+pub const TEST: u8 = 5;
 
 // The bytes of frame 04.
 pub const PLACEMENT_LENGTH: usize = 18;
@@ -102,24 +114,81 @@ fn frame_refusal(bytes: &[u8]) -> u8
     refusal::ACCEPTED
 }
 
-// What a frame makes of the body that its first id names and of the pair, and what is said of it. The second body is
-// the one that its third byte names. Frame 06 alone reads the lent table: who sends none may lend an empty one.
-pub fn frame(a: Body, b: Body, pair: Pair, bytes: &[u8], sines: &[f32]) -> Change
-    requires { ⌜ (byte-at (now bytes) 0 ≡ 6 → now sines ≡ quarter-waves) ⌝ }
+// What a frame that is no test makes of the body that its first id names. Frame 06 alone reads the lent table: who
+// sends none may lend an empty one.
+pub fn body_frame(body: Body, bytes: &[u8], sines: &[f32]) -> BodyMade
+    requires { ⌜ (byte-at (now bytes) 0 ≡ 5 → ⊥) × (byte-at (now bytes) 0 ≡ 6 → now sines ≡ quarter-waves) ⌝ }
+    ensures { λ r. ⌜ ((b : Body) (pair : Pair)
+        → of-body r pair ≡ definitions.change body b pair (now (bytes .entry))) ⌝ }
+{
+    let number = frame_refusal(bytes);
+    if number != refusal::ACCEPTED {
+        return changes::refused(number, body);
+    }
+    let kind = fields::byte(bytes, 0);
+    match kind {
+        1 => body_frames::circle_frame(body, bytes),
+        2 => body_frames::outline_frame(body, bytes),
+        3 => body_frames::wall_frame(body, bytes),
+        4 => body_frames::place_frame(body, bytes),
+        6 => body_frames::turn_frame(body, bytes, sines),
+        _ => chain_frame::chain_frame(body, bytes),
+    }
+}
+
+// What a test of a body that is no chain makes of the pair; the second body is the one that its third byte names.
+pub fn test_frame(a: Body, b: Body, pair: Pair, bytes: &[u8]) -> TestMade
+    requires { ⌜ (byte-at (now bytes) 0 ≡ 5) × (a .kind ≡ chain-kind → ⊥) ⌝ }
+    ensures { λ r. ⌜ of-test r a ≡ definitions.change a b pair (now (bytes .entry)) ⌝ }
+{
+    let number = frame_refusal(bytes);
+    if number != refusal::ACCEPTED {
+        return TestMade {
+            answer: Answer::Refused(number),
+            pair,
+        };
+    }
+    test_frame::test_frame(fields::byte(bytes, 1), fields::byte(bytes, 2), a, b, pair)
+}
+
+// What a test of a chain says and changes: nothing where it is refused.
+pub fn chain_test(a: Body, b: Body, pair: Pair, bytes: &[u8]) -> Change
+    requires { ⌜ (byte-at (now bytes) 0 ≡ 5) × (a .kind ≡ chain-kind) ⌝ }
     ensures { λ r. ⌜ r ≡ definitions.change a b pair (now (bytes .entry)) ⌝ }
 {
     let number = frame_refusal(bytes);
     if number != refusal::ACCEPTED {
-        return changes::refused(number, a, pair);
+        return chain_test::refused(number, a, pair);
     }
-    let kind = fields::byte(bytes, 0);
-    match kind {
-        1 => body_frames::circle_frame(a, pair, bytes),
-        2 => body_frames::outline_frame(a, pair, bytes),
-        3 => body_frames::wall_frame(a, pair, bytes),
-        4 => body_frames::place_frame(a, pair, bytes),
-        6 => body_frames::turn_frame(a, pair, bytes, sines),
-        7 => chain_frame::chain_frame(a, pair, bytes),
-        _ => { test_frame::test_frame(fields::byte(bytes, 1), fields::byte(bytes, 2), a, b, pair) }
+    chain_test::chain_test(fields::byte(bytes, 1), fields::byte(bytes, 2), a, b, pair)
+}
+
+// Any frame, for whoever sends few: a change whole, with all that is said of it.
+pub fn frame(a: Body, b: Body, pair: Pair, bytes: &[u8], sines: &[f32]) -> Change
+    requires { ⌜ (byte-at (now bytes) 0 ≡ 6 → now sines ≡ quarter-waves) ⌝ }
+    ensures { λ r. ⌜ r ≡ definitions.change a b pair (now (bytes .entry)) ⌝ }
+{
+    if fields::byte(bytes, 0) != TEST {
+        let made = body_frame(a, bytes, sines);
+        let answer = made.answer;
+        let body = made.body;
+        return Change {
+            said: changes::said_alone(answer),
+            body,
+            pair,
+            forget: made.forget,
+        };
+    }
+    if a.kind == CHAIN {
+        return chain_test(a, b, pair, bytes);
+    }
+    let test = test_frame(a, b, pair, bytes);
+    let answer = test.answer;
+    let kept = test.pair;
+    Change {
+        said: changes::said_alone(answer),
+        body: a,
+        pair: kept,
+        forget: false,
     }
 }

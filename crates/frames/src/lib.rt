@@ -9,7 +9,8 @@ pub mod world;
 pub mod body_frames;
 pub mod chain_frame;
 
-// Frame 05: which pairs are tested, the contact of such a pair, and the result.
+// Frame 05: which pairs are tested, the contact of such a pair, the result, and that of each piece of a chain.
+pub mod chain_test;
 pub mod listed_pairs;
 pub mod test_frame;
 pub mod test_result;

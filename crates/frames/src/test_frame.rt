@@ -1,16 +1,15 @@
-// Frame 05: a test of two bodies. Contact, world points, point states and touches.
+// Frame 05 of a body that is no chain: contact, world points, point states and touches.
 ghost use mathlib.Core.Path.{_≡_};
 ghost use mathlib.Core.Bool.{cond};
-ghost use Prim.Native.Nat.{_<_};
 ghost use lib.Dec.{eqb};
 ghost use Rattle.shape_definitions.specs.Refusal.{accepted};
 ghost use Rattle.contact_definitions.specs.WorldManifold.{default-world-manifold};
-ghost use Rattle.record_definitions.specs.World.{chain-kind, most-pieces};
+ghost use Rattle.record_definitions.specs.World.{chain-kind};
 ghost use Rattle.record_definitions.specs.Touch as results;
 ghost use Rattle.record_definitions.specs.Frame as definitions;
-use crate::changes;
+ghost use Rattle.frames.specs.Made.{of-test};
+use crate::changes::TestMade;
 use crate::listed_pairs;
-use crate::pieces;
 use crate::test_result;
 use contact_definitions::b2_collision::B2manifold;
 use contact_definitions::b2_collision::B2worldManifold;
@@ -18,11 +17,8 @@ use contact_definitions::b2_collision::WorldAnswer;
 use contacts::b2_collision;
 use floats::b2_math::B2vec2;
 use record_definitions::frame::Answer;
-use record_definitions::frame::Change;
-use record_definitions::frame::Said;
 use record_definitions::touch::TestAnswer;
 use record_definitions::world::Body;
-use record_definitions::world::CHAIN;
 use record_definitions::world::CIRCLE;
 use record_definitions::world::Kept;
 use record_definitions::world::NO_BODY;
@@ -72,18 +68,18 @@ fn world_points_of(a: Body, b: Body, m: B2manifold) -> WorldAnswer
     b2_collision::b2_world_manifold_initialize_core(old, m, xfa, skin_a, xfb, skin_b)
 }
 
-// The contact's refusal, or else that of the world points.
-fn first_refusal(met: u8, world: u8) -> u8
-    ensures { λ r. ⌜ r ≡ cond (eqb met accepted) world met ⌝ }
+// The first of two refusals, 0 for none.
+pub fn first_refusal(first: u8, next: u8) -> u8
+    ensures { λ r. ⌜ r ≡ cond (eqb first accepted) next first ⌝ }
 {
-    if met == refusal::ACCEPTED {
-        return world;
+    if first == refusal::ACCEPTED {
+        return next;
     }
-    met
+    first
 }
 
 // What the test of bodies a and b answers under the ids that the frame gives, and what is kept of it.
-fn tested(ida: u8, idb: u8, a: Body, b: Body, kept: Kept) -> TestAnswer
+pub fn tested(ida: u8, idb: u8, a: Body, b: Body, kept: Kept) -> TestAnswer
     ensures { λ r. ⌜ r ≡ results.tested ida idb a b kept ⌝ }
 {
     let met = listed_pairs::meet(a, b);
@@ -102,7 +98,7 @@ fn tested(ida: u8, idb: u8, a: Body, b: Body, kept: Kept) -> TestAnswer
 }
 
 // A body without a shape, then the pair; or 0.
-fn test_refusal(ida: u8, idb: u8, kinda: u8, kindb: u8) -> u8
+pub fn test_refusal(ida: u8, idb: u8, kinda: u8, kindb: u8) -> u8
     ensures { λ r. ⌜ r ≡ definitions.test-refusal ida idb kinda kindb ⌝ }
 {
     let none_a = kinda == NO_BODY;
@@ -118,90 +114,33 @@ fn test_refusal(ida: u8, idb: u8, kinda: u8, kindb: u8) -> u8
     refusal::ACCEPTED
 }
 
-// A body that is no chain is its own only piece.
-fn alone_tested(ida: u8, idb: u8, a: Body, b: Body, pair: Pair) -> Change
+// 05 a b, where a is no chain, its own only piece. Nothing changes where the test is refused.
+pub fn test_frame(ida: u8, idb: u8, a: Body, b: Body, pair: Pair) -> TestMade
     requires { ⌜ (a .kind ≡ chain-kind → ⊥) ⌝ }
-    ensures { λ r. ⌜ r ≡ definitions.test-answered a pair (results.piece-tested ida idb a b pair 0)
-        (definitions.further-tests ida idb a b pair) ⌝ }
+    ensures { λ r. ⌜ of-test r a ≡ definitions.test-change ida idb a b pair ⌝ }
 {
+    let number = test_refusal(ida, idb, a.kind, b.kind);
+    if number != refusal::ACCEPTED {
+        return TestMade {
+            answer: Answer::Refused(number),
+            pair,
+        };
+    }
     let old = pair.pieces;
     let t = tested(ida, idb, a, b, old[0]);
     let number = t.refusal;
     if number != refusal::ACCEPTED {
-        return changes::refused(number, a, pair);
+        return TestMade {
+            answer: Answer::Refused(number),
+            pair,
+        };
     }
     let touch = t.touch;
     let kept = t.kept;
     let mut pieces = old;
     pieces[0] = kept;
-    Change {
-        said: changes::said_alone(Answer::Tested(touch)),
-        body: a,
+    TestMade {
+        answer: Answer::Tested(touch),
         pair: Pair { pieces },
-        forget: false,
     }
-}
-
-// Piece i of the body, with what the pair keeps of it.
-fn piece_tested(ida: u8, idb: u8, a: Body, b: Body, pair: Pair, i: usize) -> TestAnswer
-    requires { ⌜ i < most-pieces ⌝ }
-    ensures { λ r. ⌜ r ≡ results.piece-tested ida idb a b pair i ⌝ }
-{
-    let old = pair.pieces;
-    tested(ida, idb, pieces::piece_of(a, i), b, old[i])
-}
-
-// A chain, piece after piece: the first refusal, or a result for each, and each piece keeps its own.
-fn chain_tested(ida: u8, idb: u8, a: Body, b: Body, pair: Pair) -> Change
-    requires { ⌜ a .kind ≡ chain-kind ⌝ }
-    ensures { λ r. ⌜ r ≡ definitions.test-answered a pair (results.piece-tested ida idb a b pair 0)
-        (definitions.further-tests ida idb a b pair) ⌝ }
-{
-    let chain = a.chain;
-    let further = pieces::further_pieces(chain.count);
-    let t = piece_tested(ida, idb, a, b, pair, 0);
-    let mut number = t.refusal;
-    let first = t.touch;
-    let kept = t.kept;
-    let mut pieces = pair.pieces;
-    pieces[0] = kept;
-    let blank = changes::blank_touch();
-    let mut more = [blank; 6];
-    let mut j = 0usize;
-    while j < further {
-        let t = piece_tested(ida, idb, a, b, pair, j + 1);
-        number = first_refusal(number, t.refusal);
-        let touch = t.touch;
-        let kept = t.kept;
-        more[j] = touch;
-        pieces[j + 1] = kept;
-        j += 1;
-    }
-    if number != refusal::ACCEPTED {
-        return changes::refused(number, a, pair);
-    }
-    Change {
-        said: Said {
-            answer: Answer::Tested(first),
-            further,
-            more,
-        },
-        body: a,
-        pair: Pair { pieces },
-        forget: false,
-    }
-}
-
-// 05 a b
-pub fn test_frame(ida: u8, idb: u8, a: Body, b: Body, pair: Pair) -> Change
-    ensures { λ r. ⌜ r ≡ definitions.test-change ida idb a b pair ⌝ }
-{
-    let number = test_refusal(ida, idb, a.kind, b.kind);
-    if number != refusal::ACCEPTED {
-        return changes::refused(number, a, pair);
-    }
-    if a.kind == CHAIN {
-        return chain_tested(ida, idb, a, b, pair);
-    }
-    alone_tested(ida, idb, a, b, pair)
 }

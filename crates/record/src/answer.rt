@@ -144,7 +144,7 @@ pub fn put_said(out: &mut [u8], said: Said) -> usize
 }
 
 // How many characters.
-fn put_answer_line(out: &mut [u8], answer: Answer) -> usize
+pub fn put_answer_line(out: &mut [u8], answer: Answer) -> usize
     requires { ⌜ longest-line ≤ length (now out) ⌝ }
     ensures { λ r. ⌜ Put (line-of (answer-bytes answer)) (now (out .entry)) r (now (out .exit)) ⌝ }
     ensures { λ r. ⌜ r ≤ longest-line ⌝ }

@@ -10,6 +10,7 @@ ghost use Rattle.record.specs.Decoding.{Named};
 use crate::answer;
 use crate::answer::LONGEST_SAID;
 use frames::frame;
+use frames::frame::TEST;
 use frames::world;
 use headings::turns;
 use lines::fields;
@@ -19,6 +20,7 @@ use lines::hex::LINE_FEED;
 use record_definitions::reader::Fed;
 use record_definitions::reader::KEPT_LENGTH;
 use record_definitions::reader::Reader;
+use record_definitions::world::CHAIN;
 
 // The state before any input.
 pub fn start() -> Reader
@@ -40,9 +42,10 @@ fn place(bytes: &[u8], at: usize) -> usize
     (fields::byte(bytes, at) % 8) as usize
 }
 
-// A line that was read: the bytes that it says, and the places of the two bodies that they name.
+// A line that was read: the bytes that it says, their kind, and the places of the two bodies that they name.
 pub struct Names {
     pub count: usize,
+    pub kind: u8,
     pub first: usize,
     pub second: usize,
 }
@@ -52,10 +55,12 @@ fn decode(line: &[u8], bytes: &mut [u8]) -> Names
     ensures { λ r. ⌜ Named (now (line .entry)) r (now (bytes .exit)) ⌝ }
 {
     let count = hex::unhex(line, bytes);
+    let kind = fields::byte(&bytes[..count], 0);
     let first = place(&bytes[..count], 1);
     let second = place(&bytes[..count], 2);
     Names {
         count,
+        kind,
         first,
         second,
     }
@@ -106,18 +111,29 @@ pub fn feed(s: Reader, chunk: &[u8], out: &mut [u8]) -> Fed
             let a = d.first;
             let b = d.second;
             let k = 8 * a + b;
-            let c = frame::frame(w.bodies[a], w.bodies[b], w.pairs[k], &bytes[..n], &sines);
-            let said = c.said;
-            at += answer::put_said_line(&mut out[at..], said);
-            let body = c.body;
-            w.bodies[a] = body;
-            if c.forget {
-                let pairs = w.pairs;
-                let fresh = world::forget(pairs, a);
-                w.pairs = fresh;
+            if d.kind != TEST {
+                let made = frame::body_frame(w.bodies[a], &bytes[..n], &sines);
+                at += answer::put_answer_line(&mut out[at..], made.answer);
+                let body = made.body;
+                w.bodies[a] = body;
+                if made.forget {
+                    let pairs = w.pairs;
+                    let fresh = world::forget(pairs, a);
+                    w.pairs = fresh;
+                }
             } else {
-                let pair = c.pair;
-                w.pairs[k] = pair;
+                if w.bodies[a].kind == CHAIN {
+                    let c = frame::chain_test(w.bodies[a], w.bodies[b], w.pairs[k], &bytes[..n]);
+                    let said = c.said;
+                    at += answer::put_said_line(&mut out[at..], said);
+                    let pair = c.pair;
+                    w.pairs[k] = pair;
+                } else {
+                    let t = frame::test_frame(w.bodies[a], w.bodies[b], w.pairs[k], &bytes[..n]);
+                    at += answer::put_answer_line(&mut out[at..], t.answer);
+                    let pair = t.pair;
+                    w.pairs[k] = pair;
+                }
             }
         } else {
             len = keep(&mut line, len, x);

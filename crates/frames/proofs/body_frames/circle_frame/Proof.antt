@@ -1,6 +1,6 @@
 -- The numbers are in range, or refused. Assumes nothing.
 use mathlib.Core.Path.{sym, _∙_}
-use Rattle.frames.proofs.BodyFrames.{circle-taken, circle-refused}
+use Rattle.frames.proofs.BodyFrames.{with-pair, circle-taken, circle-refused}
 use borrow.Author.Needs.{needs}
 use Rattle.frames.proofs.body_frames.circle_frame.Statement.{statement}
 use Rattle.frames.proofs.body_frames.circle_frame.Tie as tie
@@ -27,9 +27,9 @@ returns c =
     let circle-in-range = c .before .before .before .circle-in-range in
     let float = c .before .before .before .before .float in
     let vector = c .before .before .before .before .before .vector in
-    c .defined .ensures
+    λ pair. with-pair pair (c .defined .ensures)
     ∙ rw (circle-body .ensures)
-    (circle-taken _ _ _ _ _ (vector .ensures) (float .ensures) (sym (circle-in-range .ensures) ∙ if1 .taken))
+    (circle-taken _ pair _ _ _ (vector .ensures) (float .ensures) (sym (circle-in-range .ensures) ∙ if1 .taken))
 
 refused-requires : tie.Need-refused-requires
 refused-requires c κs = search needs
@@ -40,8 +40,8 @@ returns-2 c =
     let circle-in-range = c .before .before .circle-in-range in
     let float = c .before .before .before .float in
     let vector = c .before .before .before .before .vector in
-    c .refused .ensures
-    ∙ circle-refused _ _ _ _ _ (vector .ensures) (float .ensures) (sym (circle-in-range .ensures) ∙ if1 .left)
+    λ pair. with-pair pair (c .refused .ensures)
+    ∙ circle-refused _ pair _ _ _ (vector .ensures) (float .ensures) (sym (circle-in-range .ensures) ∙ if1 .left)
 
 pub circle-frame-spec : {M : Type 1} → statement M
 circle-frame-spec =

@@ -1,6 +1,6 @@
 -- The builder's outline, or its refusal. Assumes nothing.
 use mathlib.Core.Path.{_∙_}
-use Rattle.frames.proofs.BodyFrames.{outline-taken, outline-refused}
+use Rattle.frames.proofs.BodyFrames.{with-pair, outline-taken, outline-refused}
 use borrow.Author.Needs.{needs}
 use Rattle.frames.proofs.body_frames.outline_frame.Statement.{statement}
 use Rattle.frames.proofs.body_frames.outline_frame.Tie as tie
@@ -34,9 +34,9 @@ returns c =
     let blank-outline = c .before .before .before .before .before .blank-outline in
     let points = c .before .before .before .before .before .before .points in
     let byte = c .before .before .before .before .before .before .before .byte in
-    c .defined .ensures
+    λ pair. with-pair pair (c .defined .ensures)
     ∙ rw (outline-body .ensures)
-    (outline-taken _ _ _ (points .result) _ _ _ (byte .ensures) (points .ensures .0) (blank-outline .ensures)
+    (outline-taken _ pair _ (points .result) _ _ _ (byte .ensures) (points .ensures .0) (blank-outline .ensures)
     (b2-polygon-shape-set-core .ensures) (if1 .taken))
 
 refused-requires : tie.Need-refused-requires
@@ -49,8 +49,8 @@ returns-2 c =
     let blank-outline = c .before .before .before .blank-outline in
     let points = c .before .before .before .before .points in
     let byte = c .before .before .before .before .before .byte in
-    c .refused .ensures
-    ∙ outline-refused _ _ _ (points .result) _ _ _ (byte .ensures) (points .ensures .0) (blank-outline .ensures)
+    λ pair. with-pair pair (c .refused .ensures)
+    ∙ outline-refused _ pair _ (points .result) _ _ _ (byte .ensures) (points .ensures .0) (blank-outline .ensures)
     (b2-polygon-shape-set-core .ensures) (if1 .left)
 
 pub outline-frame-spec : {M : Type 1} → statement M

@@ -1,6 +1,6 @@
 -- No shape; the placement is in range, or refused. Assumes nothing.
 use mathlib.Core.Path.{sym, _∙_}
-use Rattle.frames.proofs.BodyFrames.{place-taken, place-refused, place-nothing}
+use Rattle.frames.proofs.BodyFrames.{with-pair, place-taken, place-refused, place-nothing}
 use borrow.Author.Needs.{needs}
 use Rattle.frames.proofs.body_frames.place_frame.Statement.{statement}
 use Rattle.frames.proofs.body_frames.place_frame.Tie as tie
@@ -11,7 +11,7 @@ refused-requires c κs = search needs
 returns : tie.Need-returns
 returns c =
     let if1 = c .before .if1 in
-    c .refused .ensures ∙ place-nothing _ _ _ (if1 .taken)
+    λ pair. with-pair pair (c .refused .ensures) ∙ place-nothing _ pair _ (if1 .taken)
 
 placement-requires : tie.Need-placement-requires
 placement-requires c κs = search needs
@@ -32,9 +32,9 @@ returns-2 c =
     let transform-in-range = c .before .before .before .transform-in-range in
     let placement = c .before .before .before .before .placement in
     let if1 = c .before .before .before .before .before .if1 in
-    c .moved .ensures
+    λ pair. with-pair pair (c .moved .ensures)
     ∙ rw (placed .ensures)
-    (place-taken _ _ _ _ (placement .ensures) (if1 .left) (sym (transform-in-range .ensures) ∙ if2 .taken))
+    (place-taken _ pair _ _ (placement .ensures) (if1 .left) (sym (transform-in-range .ensures) ∙ if2 .taken))
 
 refused-requires-2 : tie.Need-refused-requires-2
 refused-requires-2 c κs = search needs
@@ -45,8 +45,8 @@ returns-3 c =
     let transform-in-range = c .before .before .transform-in-range in
     let placement = c .before .before .before .placement in
     let if1 = c .before .before .before .before .if1 in
-    c .refused2 .ensures
-    ∙ place-refused _ _ _ _ (placement .ensures) (if1 .left) (sym (transform-in-range .ensures) ∙ if2 .left)
+    λ pair. with-pair pair (c .refused2 .ensures)
+    ∙ place-refused _ pair _ _ (placement .ensures) (if1 .left) (sym (transform-in-range .ensures) ∙ if2 .left)
 
 pub place-frame-spec : {M : Type 1} → statement M
 place-frame-spec =

@@ -1,7 +1,7 @@
 -- No shape; an unknown turn; the placement is in range, or refused. Assumes nothing.
 use mathlib.Core.Path.{sym, _∙_}
 use borrow.Author.Needs.{needs}
-use Rattle.frames.proofs.BodyFrames.{turn-nothing, turn-unknown, turn-taken, turn-refused}
+use Rattle.frames.proofs.BodyFrames.{with-pair, turn-nothing, turn-unknown, turn-taken, turn-refused}
 use Rattle.frames.proofs.body_frames.turn_frame.Statement.{statement}
 use Rattle.frames.proofs.body_frames.turn_frame.Tie as tie
 
@@ -9,7 +9,7 @@ refused-requires : tie.Need-refused-requires
 refused-requires c κs = search needs
 
 returns : tie.Need-returns
-returns c = c .refused .ensures ∙ turn-nothing _ _ _ (c .before .if1 .taken)
+returns c = λ pair. with-pair pair (c .refused .ensures) ∙ turn-nothing _ pair _ (c .before .if1 .taken)
 
 turn-number-requires : tie.Need-turn-number-requires
 turn-number-requires c κs = search needs
@@ -20,8 +20,8 @@ refused-requires-2 c κs = search needs
 returns-2 : tie.Need-returns-2
 returns-2 c =
     let number = c .before .before in
-    c .refused2 .ensures
-    ∙ turn-unknown _ _ _ _ (number .turn-number .ensures) (number .before .if1 .left) (c .before .if2 .taken)
+    λ pair. with-pair pair (c .refused2 .ensures)
+    ∙ turn-unknown _ pair _ _ (number .turn-number .ensures) (number .before .if1 .left) (c .before .if2 .taken)
 
 vector-requires : tie.Need-vector-requires
 vector-requires c κs = search needs
@@ -45,9 +45,9 @@ returns-3 c =
     let turned = tested .before in
     let known = turned .before .before in
     let number = known .before in
-    c .moved .ensures
+    λ pair. with-pair pair (c .moved .ensures)
     ∙ rw (placed .placed .ensures)
-    (turn-taken _ _ _ _ (number .turn-number .ensures) (number .before .if1 .left) _ _
+    (turn-taken _ pair _ _ (number .turn-number .ensures) (number .before .if1 .left) _ _
     (turned .before .vector .ensures) (turned .heading .ensures) (known .if2 .left)
     (sym (tested .transform-in-range .ensures) ∙ placed .before .if3 .taken))
 
@@ -60,8 +60,8 @@ returns-4 c =
     let turned = tested .before in
     let known = turned .before .before in
     let number = known .before in
-    c .refused3 .ensures
-    ∙ turn-refused _ _ _ _ (number .turn-number .ensures) (number .before .if1 .left) _ _
+    λ pair. with-pair pair (c .refused3 .ensures)
+    ∙ turn-refused _ pair _ _ (number .turn-number .ensures) (number .before .if1 .left) _ _
     (turned .before .vector .ensures) (turned .heading .ensures) (known .if2 .left)
     (sym (tested .transform-in-range .ensures) ∙ c .before .if3 .left)
 

@@ -1,6 +1,6 @@
 -- The wall, or its refusal. Assumes nothing.
 use mathlib.Core.Path.{_∙_}
-use Rattle.frames.proofs.BodyFrames.{wall-taken, wall-refused}
+use Rattle.frames.proofs.BodyFrames.{with-pair, wall-taken, wall-refused}
 use borrow.Author.Needs.{needs}
 use Rattle.frames.proofs.body_frames.wall_frame.Statement.{statement}
 use Rattle.frames.proofs.body_frames.wall_frame.Tie as tie
@@ -19,7 +19,8 @@ returns c =
     let wall-body = c .before .wall-body in
     let if1 = c .before .before .before .if1 in
     let wall-read = c .before .before .before .before .wall-read in
-    c .defined .ensures ∙ rw (wall-body .ensures) (wall-taken _ _ _ _ (wall-read .ensures) (if1 .taken))
+    λ pair. with-pair pair (c .defined .ensures)
+    ∙ rw (wall-body .ensures) (wall-taken _ pair _ _ (wall-read .ensures) (if1 .taken))
 
 refused-requires : tie.Need-refused-requires
 refused-requires c κs = search needs
@@ -28,7 +29,7 @@ returns-2 : tie.Need-returns-2
 returns-2 c =
     let if1 = c .before .if1 in
     let wall-read = c .before .before .wall-read in
-    c .refused .ensures ∙ wall-refused _ _ _ _ (wall-read .ensures) (if1 .left)
+    λ pair. with-pair pair (c .refused .ensures) ∙ wall-refused _ pair _ _ (wall-read .ensures) (if1 .left)
 
 pub wall-frame-spec : {M : Type 1} → statement M
 wall-frame-spec =

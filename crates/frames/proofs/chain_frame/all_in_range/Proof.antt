@@ -1,14 +1,13 @@
--- One of the points is out of range, or none is: the loop passes the places below i. Assumes nothing.
+-- The points below i are in range. Assumes nothing.
 use mathlib.Core.Path.{_≡_, refl, sym, _∙_}
-use Prim.Native.Nat.{_≤_, _<_, _-_}
+use Prim.Native.Nat.{_≤_, _-_}
 use native.Mathlib.Omega.{arith}
 use lib.ListN.{length, take, drop}
-use lib.Seq.{length-take-le, getD-take}
+use lib.Seq.{getD-take, length-take-le}
 use borrow.Author.Tests.{not-true, not-false}
+use Rattle.algebra.proofs.All.{all-failed, all-next, all-ended}
 use Rattle.floats.specs.Ranges.{point-in-range}
 use Rattle.shape_definitions.specs.Polygon.{all-points}
-use Rattle.algebra.proofs.Lists.{first-places}
-use Rattle.algebra.proofs.All.{all-failed, all-next, all-ended}
 use borrow.Author.Needs.{needs}
 use Rattle.frames.proofs.chain_frame.all_in_range.Statement.{statement}
 use Rattle.frames.proofs.chain_frame.all_in_range.Tie as tie
@@ -22,7 +21,7 @@ abbrev μ-loop : tie.MeasureT-loop
 μ-loop n points i₀ i = n - i
 
 loop-holds : tie.Need-loop-holds Inv-loop μ-loop
-loop-holds c = (omega arith, c .pre, c .good .0 .1 .0 .1, refl)
+loop-holds c = (omega arith, omega arith, c .good .0 .1 .0 .1, refl)
 
 mul-point-in-range : tie.Need-mul-point-in-range Inv-loop μ-loop
 mul-point-in-range c = search needs
@@ -35,13 +34,14 @@ point-in-range-requires c κs = search needs
 
 returns : tie.Need-returns Inv-loop μ-loop
 returns c =
-    let loop = c .before .before .before .before in
-    let ps = loop .before .args .t1 in
-    let n = loop .before .args .n in
-    let i = loop .loop .i in
-    let within : i < length (take n ps) = first-places n i ps (omega arith) (omega arith) in
-    all-failed point-in-range (take n ps) i _ _ within (sym (getD-take n ps i _ (omega arith))) (loop .loop .inv .3)
-    (sym (c .before .point-in-range .ensures) ∙ not-true _ (c .if1 .taken))
+    let in-range = c .before .point-in-range in
+    let loop = c .before .before .before .before .loop in
+    let args = c .before .before .before .before .before .args in
+    let first = take (args .n) (args .t1) in
+    let size : length first ≡ args .n = length-take-le (args .n) (args .t1) (omega (arith, loop .inv .2)) in
+    all-failed point-in-range first (loop .i) _ _ (omega arith)
+    (sym (getD-take (args .n) (args .t1) (loop .i) _ (omega arith))) (loop .inv .3)
+    (sym (in-range .ensures) ∙ not-true _ (c .if1 .taken))
 
 add-i : tie.Need-add-i Inv-loop μ-loop
 add-i c = search needs
@@ -51,25 +51,26 @@ loop-less c = search needs
 
 loop-again : tie.Need-loop-again Inv-loop μ-loop
 loop-again c =
-    let loop = c .before .before .before .before in
-    let ps = loop .before .args .t1 in
-    let n = loop .before .args .n in
-    let i = loop .loop .i in
-    let within : i < length (take n ps) = first-places n i ps (omega arith) (omega arith) in (
+    let in-range = c .before .point-in-range in
+    let loop = c .before .before .before .before .loop in
+    let args = c .before .before .before .before .before .args in
+    let first = take (args .n) (args .t1) in
+    let size : length first ≡ args .n = length-take-le (args .n) (args .t1) (omega (arith, loop .inv .2)) in (
       omega arith,
-      omega arith,
-      loop .loop .inv .2,
-      all-next point-in-range (take n ps) i _ _ within (sym (getD-take n ps i _ (omega arith))) (loop .loop .inv .3)
-          (sym (c .before .point-in-range .ensures) ∙ not-false _ (c .if1 .left)),
+      loop .inv .1,
+      loop .inv .2,
+      all-next point-in-range first (loop .i) _ _ (omega arith)
+          (sym (getD-take (args .n) (args .t1) (loop .i) _ (omega arith)))
+          (loop .inv .3) (sym (in-range .ensures) ∙ not-false _ (c .if1 .left)),
     )
 
 returns-2 : tie.Need-returns-2 Inv-loop μ-loop
 returns-2 c =
-    let loop = c .before in
-    let ps = loop .before .args .t1 in
-    let n = loop .before .args .n in
-    let end : loop .loop .i ≡ length (take n ps) = omega (arith, length-take-le n ps (omega arith)) in
-    all-ended point-in-range (take n ps) (loop .loop .i) end (loop .loop .inv .3)
+    let loop = c .before .loop in
+    let args = c .before .before .args in
+    let size : length (take (args .n) (args .t1)) ≡ args .n =
+    length-take-le (args .n) (args .t1) (omega (arith, loop .inv .2)) in
+    all-ended point-in-range (take (args .n) (args .t1)) (loop .i) (omega arith) (loop .inv .3)
 
 pub all-in-range-spec : {M : Type 1} → statement M
 all-in-range-spec =

@@ -1,27 +1,22 @@
 -- The first k points are read. Assumes nothing.
-use Prim.Native.Nat.{_+_, _*_, _-_, _≤_}
-use mathlib.Core.Path.{_≡_, refl}
+use Prim.Native.Nat.{_-_}
+use mathlib.Core.Path.{refl}
 use native.Mathlib.Omega.{arith}
-use lib.ListN.{length, replicate, length-set}
-use Rattle.algebra.specs.Buffer.{over}
 use Rattle.lines.specs.Fields.{points-at}
-use Rattle.shape_definitions.specs.Outline.{origin}
-use Rattle.frames.proofs.ChainFrames.{point-stored}
+use Rattle.frames.proofs.ChainFrames.{ReadSoFar, one-read, all-read}
 use borrow.Author.Needs.{needs}
 use Rattle.frames.proofs.chain_frame.chain_points.Statement.{statement}
 use Rattle.frames.proofs.chain_frame.chain_points.Tie as tie
 
 abbrev Inv-loop : tie.InvT-loop
-Inv-loop bytes n ps₀ k₀ ps k =
-    (k ≤ n) × (n ≤ 10) × (3 + 8 * n ≤ length bytes) × (length ps ≡ 10)
-    × (ps ≡ over (points-at bytes 3 k) (replicate 10 origin))
+Inv-loop bytes n ps₀ k₀ ps k = ReadSoFar bytes n ps k
 
 abbrev μ-loop : tie.MeasureT-loop
 μ-loop bytes n ps₀ k₀ ps k = n - k
 
 loop-holds : tie.Need-loop-holds Inv-loop μ-loop
 unfolding points-at
-loop-holds c = (omega arith, c .before .pre .1, c .before .pre .0, refl, refl)
+loop-holds c = record { within = omega arith; few = omega arith; room = omega arith; ten = refl; read = refl }
 
 mul-vector : tie.Need-mul-vector Inv-loop μ-loop
 mul-vector c = search needs
@@ -46,19 +41,13 @@ loop-less c = search needs
 
 loop-again : tie.Need-loop-again Inv-loop μ-loop
 loop-again c =
-    let loop′ = c .before .before .loop in (
-      omega arith,
-      omega arith,
-      omega arith,
-      simp length-set (loop′ .inv .3),
-      point-stored _ (loop′ .ps) (loop′ .k) _ (omega arith) (c .vector .ensures) (loop′ .inv .4),
-    )
+    let loop = c .before .before .loop in
+    one-read _ _ (loop .ps) (loop .k) _ (omega arith) (c .vector .ensures) (loop .inv)
 
 returns : tie.Need-returns Inv-loop μ-loop
 returns c =
-    let loop′ = c .before .loop in
-    let all : loop′ .k ≡ c .before .before .before .args .n = omega arith in
-    rw all at (loop′ .inv .4)
+    let loop = c .before .loop in
+    all-read _ _ (loop .ps) (loop .k) (c .loop-test .left) (loop .inv)
 
 pub chain-points-spec : {M : Type 1} → statement M
 chain-points-spec =

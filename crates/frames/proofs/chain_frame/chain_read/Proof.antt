@@ -1,5 +1,4 @@
--- The count and the points, as they were read. Assumes nothing.
-use mathlib.Core.Path.{refl}
+-- The count, and that many points and two more. Assumes nothing.
 use Rattle.record_definitions.specs.Frame.{chain-at}
 use borrow.Author.Needs.{needs}
 use Rattle.frames.proofs.chain_frame.chain_read.Statement.{statement}
@@ -19,7 +18,9 @@ chain-points-requires c κs = search needs
 
 returns : tie.Need-returns
 unfolding chain-at
-returns c = rw (c .chain-points .ensures, c .before .byte .ensures) refl
+returns c =
+    let byte = c .before .byte in
+    simp (c .chain-points .ensures, byte .ensures)
 
 pub chain-read-spec : {M : Type 1} → statement M
 chain-read-spec =

@@ -1,26 +1,32 @@
--- A piece is short, or none is: the loop passes the places below i. Assumes nothing.
-use mathlib.Core.Path.{_≡_, refl, sym, _∙_}
-use mathlib.Core.Bool.{false}
-use Prim.Native.Nat.{_≤_, _-_}
+-- No piece below i is short. Assumes nothing.
+use mathlib.Core.Path.{_≡_, refl, sym, _∙_, ap}
+use mathlib.Core.Bool.{not, false}
+use Prim.Native.Nat.{ℕ, _≤_, _-_}
 use native.Mathlib.Omega.{arith}
 use lib.ListN.{length, length-map}
 use Rattle.contact_definitions.specs.Searches.{some-below}
+use Rattle.contact_definitions.proofs.Searches.{some-here, none-next}
+use Rattle.record_definitions.specs.declared.world.Chain.{Chain}
 use Rattle.record_definitions.specs.Frame.{long-piece}
-use Rattle.frames.proofs.ChainFrames.{short-at, short-by, some-found, one-fails}
+use Rattle.frames.proofs.ChainFrames.{length-is}
 use borrow.Author.Needs.{needs}
 use Rattle.frames.proofs.chain_frame.some_short.Statement.{statement}
 use Rattle.frames.proofs.chain_frame.some_short.Tie as tie
 
 abbrev Inv-loop : tie.InvT-loop
 Inv-loop n points i₀ i =
-    (i ≤ n) × (n ≤ 7) × (length points ≡ 10) × (some-below (short-at points) i ≡ false)
+    (i ≤ n) × (n ≤ 7) × (length points ≡ 10)
+    × ((chain : Chain) → chain .points ≡ points → some-below (λ (k : ℕ). not (long-piece chain k)) i ≡ false)
 
 abbrev μ-loop : tie.MeasureT-loop
 μ-loop n points i₀ i = n - i
 
 loop-holds : tie.Need-loop-holds Inv-loop μ-loop
 unfolding some-below
-loop-holds c = (omega arith, c .before .pre, sym (length-map (c .before .args .chain .points) _) ∙ c .before .good .0 .1 .1 .0 .1 .0 .1, refl)
+loop-holds c =
+    let start = c .before in
+    let ps = start .args .chain .points in
+    (omega arith, omega arith, sym (length-map ps _) ∙ start .good .0 .1 .1 .0 .1 .0 .1, λ chain is. refl)
 
 add-b2-distance-vec2-squared : tie.Need-add-b2-distance-vec2-squared Inv-loop μ-loop
 add-b2-distance-vec2-squared c = search needs
@@ -46,14 +52,14 @@ b2-distance-vec2-squared-requires : tie.Need-b2-distance-vec2-squared-requires I
 b2-distance-vec2-squared-requires c κs = search needs
 
 returns : tie.Need-returns Inv-loop μ-loop
-unfolding long-piece
 returns c =
-    let start = c .before .before .before .before .before .before .before in
-    let loop = c .before .before .before .before .before .loop in
-    some-found (short-at (start .args .chain .points)) (start .args .n) (loop .i) (omega arith)
-    (sym (short-by (start .args .chain .points) (loop .i) _ _ _ _ _ (loop .inv .2) (omega arith) refl refl
-    (c .before .b2-distance-vec2-squared .ensures))
-    ∙ c .if1 .taken)
+    let squared = c .before .b2-distance-vec2-squared in
+    let read = c .before .before .before .before in
+    let loop = read .before .loop in
+    let chain = read .before .before .before .args .chain in
+    sym (some-here (λ (k : ℕ). not (long-piece chain k)) (loop .i) _ (read .loop-test .taken)
+    (ap not (sym (length-is chain _ (loop .i) _ _ refl (loop .inv .2) (omega arith) (squared .ensures)))
+    ∙ c .if1 .taken))
 
 add-i : tie.Need-add-i Inv-loop μ-loop
 add-i c = search needs
@@ -63,24 +69,23 @@ loop-less c = search needs
 
 loop-again : tie.Need-loop-again Inv-loop μ-loop
 loop-again c =
-    let start = c .before .before .before .before .before .before .before in
-    let loop = c .before .before .before .before .before .loop in (
+    let squared = c .before .b2-distance-vec2-squared in
+    let read = c .before .before .before .before in
+    let loop = read .before .loop in (
       omega arith,
-      omega arith,
+      loop .inv .1,
       loop .inv .2,
-      one-fails (short-at (start .args .chain .points)) (loop .i) (loop .inv .3)
-          (sym (short-by (start .args .chain .points) (loop .i) _ _ _ _ _ (loop .inv .2) (omega arith) refl refl
-          (c .before .b2-distance-vec2-squared .ensures))
+      λ chain is. none-next (λ (k : ℕ). not (long-piece chain k)) (loop .i) (loop .inv .3 chain is)
+          (ap not (sym (length-is chain _ (loop .i) _ _ is (loop .inv .2) (omega arith) (squared .ensures)))
           ∙ c .if1 .left),
     )
 
 returns-2 : tie.Need-returns-2 Inv-loop μ-loop
-unfolding long-piece
 returns-2 c =
-    let start = c .before .before .before in
     let loop = c .before .loop in
+    let start = c .before .before .before in
     let all : loop .i ≡ start .args .n = omega arith in
-    sym (rw all at (loop .inv .3))
+    sym (rw all at (loop .inv .3 (start .args .chain) refl))
 
 pub some-short-spec : {M : Type 1} → statement M
 some-short-spec =

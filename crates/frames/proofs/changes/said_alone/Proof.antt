@@ -1,4 +1,4 @@
--- No further results. Assumes nothing.
+-- Six blank results. Assumes nothing.
 use borrow.Author.Needs.{needs}
 use Rattle.frames.proofs.changes.said_alone.Statement.{statement}
 use Rattle.frames.proofs.changes.said_alone.Tie as tie

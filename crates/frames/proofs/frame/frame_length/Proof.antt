@@ -1,7 +1,7 @@
 -- By the kind. Assumes nothing.
 use mathlib.Core.Path.{sym, _∙_}
-use Rattle.frames.proofs.FrameLengths.{circle-length, outline-length-is, wall-length-is}
-use Rattle.frames.proofs.FrameLengths.{place-length, test-length, turn-length, chain-length-is, no-length}
+use Rattle.frames.proofs.FrameLengths.{circle-length, outline-length-is, wall-length-is, place-length}
+use Rattle.frames.proofs.FrameLengths.{test-length, turn-length, chain-length-is, no-length}
 use borrow.Author.Needs.{needs}
 use Rattle.frames.proofs.frame.frame_length.Statement.{statement}
 use Rattle.frames.proofs.frame.frame_length.Tie as tie
@@ -43,7 +43,8 @@ returns-7 c =
     c .chain-length .ensures ∙ sym (chain-length-is _ _ (match .keys7))
 
 returns-8 : tie.Need-returns-8
-returns-8 c = let rest = c .match .rest in
+returns-8 c =
+    let rest = c .match .rest in
     sym (no-length _ _ (rest .0 .0 .0 .0 .0 .0 .1) (rest .0 .0 .0 .0 .0 .1) (rest .0 .0 .0 .0 .1) (rest .0 .0 .0 .1)
     (rest .0 .0 .1) (rest .0 .1) (rest .1))
 

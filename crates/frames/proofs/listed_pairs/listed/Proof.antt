@@ -1,4 +1,4 @@
--- The five rows. Assumes nothing.
+-- The seven rows. Assumes nothing.
 use mathlib.Core.Path.{refl}
 use Rattle.record_definitions.specs.Frame.{listed}
 use Rattle.frames.proofs.listed_pairs.listed.Statement.{statement}

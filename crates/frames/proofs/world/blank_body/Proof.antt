@@ -26,7 +26,13 @@ returns c =
     let blank-outline = c .before .before .blank-outline in
     let blank-circle = c .before .before .before .blank-circle in
     let at-origin = c .before .before .before .before .at-origin in
-    simp (c .blank-chain .ensures, blank-wall .ensures, blank-outline .ensures, blank-circle .ensures, at-origin .ensures)
+    simp (
+      c .blank-chain .ensures,
+      blank-wall .ensures,
+      blank-outline .ensures,
+      blank-circle .ensures,
+      at-origin .ensures,
+    )
 
 pub blank-body-spec : {M : Type 1} → statement M
 blank-body-spec =

@@ -1,4 +1,4 @@
--- No test yet, of seven pieces. Assumes nothing.
+-- No test yet, of any piece. Assumes nothing.
 use Rattle.record_definitions.specs.World.{fresh-pair}
 use borrow.Author.Needs.{needs}
 use Rattle.frames.proofs.world.fresh_pair.Statement.{statement}

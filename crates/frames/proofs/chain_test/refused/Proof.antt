@@ -1,7 +1,7 @@
--- Nothing changes. Assumes nothing.
+-- The refusal, said alone. Assumes nothing.
 use borrow.Author.Needs.{needs}
-use Rattle.frames.proofs.changes.refused.Statement.{statement}
-use Rattle.frames.proofs.changes.refused.Tie as tie
+use Rattle.frames.proofs.chain_test.refused.Statement.{statement}
+use Rattle.frames.proofs.chain_test.refused.Tie as tie
 
 said-alone-requires : tie.Need-said-alone-requires
 said-alone-requires c κs = search needs
