@@ -6,19 +6,24 @@ use mathlib.Core.Path.{_≡_, refl, _∙_, ap}
 use mathlib.Core.Bool.{Bool, true, false}
 use mathlib.Core.List.{List}
 use native.Mathlib.Omega.{arith}
-use lib.Dec.{leb}
+use lib.Dec.{leb, eqb}
 use lib.ListN.{length, getD, take, set, length-set}
+use lib.Seq.{set-getD}
 use borrow.Author.Tests.{leb-true, leb-false}
 use borrow.Rule.Slice.PartMut.{putMid, midOf}
 use Rattle.lines.specs.Buffers.{Put}
 use Rattle.lines.specs.Fields.{byte-at}
 use Rattle.lines.specs.Hex.{frame-of, line-feed}
+use Rattle.shape_definitions.specs.Refusal.{accepted}
+use Rattle.contact_definitions.proofs.Counts.{either}
 use Rattle.record_definitions.specs.declared.world.Body.{Body}
 use Rattle.record_definitions.specs.declared.world.Pair.{Pair}
 use Rattle.record_definitions.specs.declared.world.World.{World}
 use Rattle.record_definitions.specs.declared.frame.Change.{Change}
 use Rattle.record_definitions.specs.declared.frame.Said.{Said}
 use Rattle.record_definitions.specs.World.{forget}
+use Rattle.record_definitions.specs.Touch.{first-refusal}
+use Rattle.record_definitions.specs.Frame.{frame-refusal, test-refusal, all-tests, test-change, change-of-kind}
 use Rattle.record_definitions.specs.Frame.{change}
 use Rattle.record_definitions.specs.Reading.{Reading, kept-length}
 use Rattle.record_definitions.proofs.Feeding.{SoFar, next-line}
@@ -61,15 +66,46 @@ module _ (print : Said → List ℕ) where
         (simp length-set (so-far .bodies-size))
         (ap length fresh-is ∙ length-forget a (w .pairs) 8 ∙ so-far .pairs-size) part-size put
 
-    -- any other frame
-    pub line-keeps : c .forget ≡ false
-        → SoFar print chunk old r (putMid at (length out - at) out part)
-        (record { bodies = set (w .bodies) a (c .body); pairs = set (w .pairs) (8 * a + b) (c .pair) }) line 0 (at + n)
-        (i + 1)
-    line-keeps keeps =
+    -- any other frame: the body and the pair are written
+    line-keeps : c .forget ≡ false → (bodies : List Body) → set (w .bodies) a (c .body) ≡ bodies → (pairs : List Pair)
+        → set (w .pairs) (8 * a + b) (c .pair) ≡ pairs
+        → SoFar print chunk old r (putMid at (length out - at) out part) (record { bodies = bodies; pairs = pairs }) line
+        0 (at + n) (i + 1)
+    line-keeps keeps bodies bodies-are pairs pairs-are =
         next-line print chunk old r out w line len at i x so-far more x-is _ (c .said) part n x-feed
+        (rw (← bodies-are, ← pairs-are)
         (world-keeps w (take len line) frame frame-is a b a-is b-is (so-far .bodies-size) (so-far .pairs-size) past-a
-        past-b past-pair c c-is keeps)
+        past-b past-pair c c-is keeps))
         (said-is w (take len line) frame frame-is a b a-is b-is (so-far .bodies-size) (so-far .pairs-size) past-a past-b
         past-pair c c-is)
-        (simp length-set (so-far .bodies-size)) (simp length-set (so-far .pairs-size)) part-size put
+        (rw (← bodies-are) (simp length-set (so-far .bodies-size)))
+        (rw (← pairs-are) (simp length-set (so-far .pairs-size))) part-size put
+
+    -- no test: the pair is as it was, and the pairs are not written
+    pub line-moves : c .forget ≡ false → c .pair ≡ getD (w .pairs) (8 * a + b) past-pair
+        → SoFar print chunk old r (putMid at (length out - at) out part)
+        (record { bodies = set (w .bodies) a (c .body); pairs = w .pairs }) line 0 (at + n) (i + 1)
+    line-moves keeps same-pair =
+        line-keeps keeps _ refl (w .pairs) (rw same-pair (set-getD (w .pairs) (8 * a + b) past-pair))
+
+    -- a test: the body is as it was, and the bodies are not written
+    pub line-tests : c .forget ≡ false → c .body ≡ getD (w .bodies) a past-a
+        → SoFar print chunk old r (putMid at (length out - at) out part)
+        (record { bodies = w .bodies; pairs = set (w .pairs) (8 * a + b) (c .pair) }) line 0 (at + n) (i + 1)
+    line-tests keeps same-body =
+        line-keeps keeps (w .bodies) (rw same-body (set-getD (w .bodies) a past-a)) _ refl
+
+-- ---- a test forgets nothing and leaves the body
+abbrev Leaves : Body → Change → Type 0
+Leaves a c = (c .forget ≡ false) × (c .body ≡ a)
+
+pub test-leaves : (a b : Body) (pair : Pair) (bytes : List ℕ) → byte-at bytes 0 ≡ 5
+    → (change a b pair bytes .forget ≡ false) × (change a b pair bytes .body ≡ a)
+unfolding change change-of-kind test-change
+test-leaves a b pair bytes five =
+    either (Leaves a) (eqb (frame-refusal bytes) accepted) _ _
+    (rw five
+    (either (Leaves a) (eqb (test-refusal (byte-at bytes 1) (byte-at bytes 2) (a .kind) (b .kind)) accepted) _ _
+    (either (Leaves a) (eqb (first-refusal (all-tests (byte-at bytes 1) (byte-at bytes 2) a b pair)) accepted) _ _
+    (refl, refl) (refl, refl)) (refl, refl)))
+    (refl, refl)

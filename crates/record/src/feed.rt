@@ -113,7 +113,8 @@ pub fn feed(s: Reader, chunk: &[u8], out: &mut [u8]) -> Fed
             let k = 8 * a + b;
             if d.kind != TEST {
                 let made = frame::body_frame(w.bodies[a], &bytes[..n], &sines);
-                at += answer::put_answer_line(&mut out[at..], made.answer);
+                let answer = made.answer;
+                at += answer::put_answer_line(&mut out[at..], answer);
                 let body = made.body;
                 w.bodies[a] = body;
                 if made.forget {
@@ -130,7 +131,8 @@ pub fn feed(s: Reader, chunk: &[u8], out: &mut [u8]) -> Fed
                     w.pairs[k] = pair;
                 } else {
                     let t = frame::test_frame(w.bodies[a], w.bodies[b], w.pairs[k], &bytes[..n]);
-                    at += answer::put_answer_line(&mut out[at..], t.answer);
+                    let answer = t.answer;
+                    at += answer::put_answer_line(&mut out[at..], answer);
                     let pair = t.pair;
                     w.pairs[k] = pair;
                 }

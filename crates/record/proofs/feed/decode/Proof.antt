@@ -1,4 +1,4 @@
--- The bytes, then the place of each body. Assumes nothing.
+-- The bytes, their kind, then the place of each body. Assumes nothing.
 use mathlib.Core.Path.{sym}
 use native.Mathlib.Omega.{arith}
 use lib.Seq.{length-take-le}
@@ -8,6 +8,15 @@ use Rattle.record.proofs.feed.decode.Tie as tie
 
 unhex-requires : tie.Need-unhex-requires
 unhex-requires c κs = search needs
+
+slice-reshare-prefix-byte : tie.Need-slice-reshare-prefix-byte
+slice-reshare-prefix-byte c = search needs
+
+slice-aggregate-byte : tie.Need-slice-aggregate-byte
+slice-aggregate-byte c = sym (length-take-le _ _ (omega arith))
+
+byte-requires : tie.Need-byte-requires
+byte-requires c κs = search needs
 
 slice-reshare-prefix-place : tie.Need-slice-reshare-prefix-place
 slice-reshare-prefix-place c = search needs
@@ -38,6 +47,9 @@ decode-spec =
     tie.close
     (tie.spec
     unhex-requires
+    slice-reshare-prefix-byte
+    slice-aggregate-byte
+    byte-requires
     slice-reshare-prefix-place
     slice-aggregate-place
     place-requires

@@ -1,18 +1,24 @@
--- Each turn of the loop; `Loop` has what holds before, between and after them. Assumes nothing.
-use mathlib.Core.Path.{refl, sym}
+-- `Loop` has what holds before, between and after the turns of the loop, `Room` that each line finds its room, `Turn`
+-- the ways of one turn. Assumes nothing.
+use mathlib.Core.Path.{sym, _∙_}
 use native.Mathlib.Omega.{arith}
 use lib.Seq.{length-take-le}
 use Rattle.headings.proofs.Table.{lent-length}
-use Rattle.record_definitions.specs.Answer.{said-line}
-use Rattle.record_definitions.proofs.Feeding.{next-character}
-use Rattle.record.proofs.Turns.{line-forgets, line-keeps}
 use borrow.Author.Needs.{needs}
 use Rattle.record.proofs.feed.feed.Statement.{statement}
 use Rattle.record.proofs.feed.feed.Tie as tie
-use Rattle.record.proofs.feed.feed.Proof.Loop.{Inv-loop, μ-loop, loop-holds, sub-put-said-line, add-at}
-use Rattle.record.proofs.feed.feed.Proof.Loop.{part-put-said-line-start, put-said-line-requires}
-use Rattle.record.proofs.feed.feed.Proof.Loop.{returns, returns-2}
+use Rattle.record.proofs.feed.feed.Proof.Loop.{Inv-loop, μ-loop, loop-holds, returns, returns-2}
+use Rattle.record.proofs.feed.feed.Proof.Room.{sub-put-answer-line, part-put-answer-line-start}
+use Rattle.record.proofs.feed.feed.Proof.Room.{put-answer-line-requires, add-at, sub-put-said-line}
+use Rattle.record.proofs.feed.feed.Proof.Room.{part-put-said-line-start, put-said-line-requires, add-at-2}
+use Rattle.record.proofs.feed.feed.Proof.Room.{sub-put-answer-line-2, part-put-answer-line-start-2}
+use Rattle.record.proofs.feed.feed.Proof.Room.{put-answer-line-requires-2, add-at-3}
+use Rattle.record.proofs.feed.feed.Proof.Turn.{loop-less, loop-again, loop-less-2, loop-again-2, loop-less-3}
+use Rattle.record.proofs.feed.feed.Proof.Turn.{loop-again-3, loop-less-4, loop-again-4, loop-less-5}
+use Rattle.record.proofs.feed.feed.Proof.Turn.{loop-again-5}
 mod Loop
+mod Room
+mod Turn
 
 sines-requires : tie.Need-sines-requires Inv-loop μ-loop
 sines-requires c κs = search needs
@@ -47,44 +53,34 @@ mul-k c = search needs
 add-k : tie.Need-add-k Inv-loop μ-loop
 add-k c = search needs
 
-mul-frame : tie.Need-mul-frame Inv-loop μ-loop
-mul-frame c = search needs
+mul-body-frame : tie.Need-mul-body-frame Inv-loop μ-loop
+mul-body-frame c = search needs
 
-element-copy-out-frame : tie.Need-element-copy-out-frame Inv-loop μ-loop
-element-copy-out-frame c = search needs
-
-mul-frame-2 : tie.Need-mul-frame-2 Inv-loop μ-loop
-mul-frame-2 c = search needs
-
-element-copy-out-frame-2 : tie.Need-element-copy-out-frame-2 Inv-loop μ-loop
-element-copy-out-frame-2 c = search needs
-
-mul-frame-3 : tie.Need-mul-frame-3 Inv-loop μ-loop
-mul-frame-3 c = search needs
-
-element-copy-out-frame-3 : tie.Need-element-copy-out-frame-3 Inv-loop μ-loop
-element-copy-out-frame-3 c = search needs
+element-copy-out-body-frame : tie.Need-element-copy-out-body-frame Inv-loop μ-loop
+element-copy-out-body-frame c = search needs
 
 array-share-prefix-bytes : tie.Need-array-share-prefix-bytes Inv-loop μ-loop
 array-share-prefix-bytes c = search needs
 
-slice-aggregate-frame : tie.Need-slice-aggregate-frame Inv-loop μ-loop
-slice-aggregate-frame c = sym (length-take-le _ _ (omega arith))
+slice-aggregate-body-frame : tie.Need-slice-aggregate-body-frame Inv-loop μ-loop
+slice-aggregate-body-frame c = sym (length-take-le _ _ (omega arith))
 
-slice-aggregate-frame-2 : tie.Need-slice-aggregate-frame-2 Inv-loop μ-loop
-slice-aggregate-frame-2 c =
-    let at-if2 = c .before .before .before .before .before .before .before .before .before in
-    let sines′ = at-if2 .before .before .before .before .before .before .before .before .sines in
-    sym (lent-length _ (sines′ .ensures))
+slice-aggregate-body-frame-2 : tie.Need-slice-aggregate-body-frame-2 Inv-loop μ-loop
+slice-aggregate-body-frame-2 c =
+    let at-sines = c .before .before .before .before .before .before .before .before .before .before .before in
+    let at-sines = at-sines .before .before .before .before .before .before in
+    sym (lent-length _ (at-sines .sines .ensures))
 
-frame-requires : tie.Need-frame-requires Inv-loop μ-loop
-frame-requires c κs =
-    let at-if2 = c .before .before .before .before .before .before .before .before .before in
-    let sines′ = at-if2 .before .before .before .before .before .before .before .before .sines in
-    λ turned. sines′ .ensures
+body-frame-requires : tie.Need-body-frame-requires Inv-loop μ-loop
+body-frame-requires c κs =
+    let at-if3 = c .before .before .before in
+    let at-decode = at-if3 .before .before .before in
+    let at-sines = at-decode .before .before .before .before .before .before .before .before .before .before in
+    let at-sines = at-sines .before in
+    (λ five. at-if3 .if3 .taken (at-decode .decode .ensures .kind-is ∙ five), λ turned. at-sines .sines .ensures)
 
-part-put-said-line-end : tie.Need-part-put-said-line-end Inv-loop μ-loop
-part-put-said-line-end c = search needs
+part-put-answer-line-end : tie.Need-part-put-answer-line-end Inv-loop μ-loop
+part-put-answer-line-end c = search needs
 
 mul-body : tie.Need-mul-body Inv-loop μ-loop
 mul-body c = search needs
@@ -95,32 +91,45 @@ element-set-from-body c = search needs
 forget-requires : tie.Need-forget-requires Inv-loop μ-loop
 forget-requires c κs = search needs
 
-loop-less : tie.Need-loop-less Inv-loop μ-loop
-loop-less c =
-    let before-loop-test = c .before .before .before .before .before .before .before .before .before in
-    let before-loop-test = before-loop-test .before .before .before .before .before .before .before .before .before in
-    let loop-test′ = before-loop-test .before .before .before .before .loop-test in
-    omega (arith, loop-test′ .taken)
+mul-if5 : tie.Need-mul-if5 Inv-loop μ-loop
+mul-if5 c = search needs
 
-loop-again : tie.Need-loop-again Inv-loop μ-loop
-loop-again c =
-    let if3′ = c .before .before .if3 in
-    let put-said-line′ = c .before .before .before .before .before .before .put-said-line in
-    let at-frame = c .before .before .before .before .before .before .before .before .before in
-    let frame′ = at-frame .frame in
-    let decode′ = at-frame .before .before .before .before .before .before .before .decode in
-    let at-if2 = at-frame .before .before .before .before .before .before .before .before .before .before in
-    let if2′ = at-if2 .if2 in
-    let loop-test′ = at-if2 .before .before .before .loop-test in
-    let loop′ = at-if2 .before .before .before .before .loop in
-    let before-args = at-if2 .before .before .before .before .before .before .before .before .before in
-    let args′ = before-args .before .before .args in
-    line-forgets said-line (args′ .chunk .now) (args′ .out .now) _ (loop′ .out) (loop′ .w) (loop′ .line)
-    (loop′ .len) (loop′ .at) (loop′ .i) _ (loop′ .inv) (loop-test′ .taken) refl (if2′ .taken) _
-    (decode′ .ensures .decoded .bytes) (decode′ .result .first) (decode′ .result .second)
-    (decode′ .ensures .first-is) (decode′ .ensures .second-is) _ _ _ (frame′ .result) (frame′ .ensures) _
-    (put-said-line′ .result) (put-said-line′ .kept .0) (put-said-line′ .ensures) (c .forget .result)
-    (if3′ .taken) (c .forget .ensures)
+element-copy-out-if5 : tie.Need-element-copy-out-if5 Inv-loop μ-loop
+element-copy-out-if5 c = search needs
+
+mul-chain-test : tie.Need-mul-chain-test Inv-loop μ-loop
+mul-chain-test c = search needs
+
+element-copy-out-chain-test : tie.Need-element-copy-out-chain-test Inv-loop μ-loop
+element-copy-out-chain-test c = search needs
+
+mul-chain-test-2 : tie.Need-mul-chain-test-2 Inv-loop μ-loop
+mul-chain-test-2 c = search needs
+
+element-copy-out-chain-test-2 : tie.Need-element-copy-out-chain-test-2 Inv-loop μ-loop
+element-copy-out-chain-test-2 c = search needs
+
+mul-chain-test-3 : tie.Need-mul-chain-test-3 Inv-loop μ-loop
+mul-chain-test-3 c = search needs
+
+element-copy-out-chain-test-3 : tie.Need-element-copy-out-chain-test-3 Inv-loop μ-loop
+element-copy-out-chain-test-3 c = search needs
+
+array-share-prefix-bytes-2 : tie.Need-array-share-prefix-bytes-2 Inv-loop μ-loop
+array-share-prefix-bytes-2 c = search needs
+
+slice-aggregate-chain-test : tie.Need-slice-aggregate-chain-test Inv-loop μ-loop
+slice-aggregate-chain-test c = sym (length-take-le _ _ (omega arith))
+
+chain-test-requires : tie.Need-chain-test-requires Inv-loop μ-loop
+chain-test-requires c κs =
+    let at-if5 = c .before .before .before .before in
+    let at-if3 = at-if5 .before in
+    let at-decode = at-if3 .before .before .before in
+    (sym (at-decode .decode .ensures .kind-is) ∙ at-if3 .if3 .left, at-if5 .if5 .taken)
+
+part-put-said-line-end : tie.Need-part-put-said-line-end Inv-loop μ-loop
+part-put-said-line-end c = search needs
 
 mul-pair : tie.Need-mul-pair Inv-loop μ-loop
 mul-pair c = search needs
@@ -128,48 +137,48 @@ mul-pair c = search needs
 element-set-from-pair : tie.Need-element-set-from-pair Inv-loop μ-loop
 element-set-from-pair c = search needs
 
-loop-less-2 : tie.Need-loop-less-2 Inv-loop μ-loop
-loop-less-2 c =
-    let before-loop-test = c .before .before .before .before .before .before .before .before .before in
-    let before-loop-test = before-loop-test .before .before .before .before .before .before .before .before .before in
-    let loop-test′ = before-loop-test .before .before .before .loop-test in
-    omega (arith, loop-test′ .taken)
+mul-test-frame : tie.Need-mul-test-frame Inv-loop μ-loop
+mul-test-frame c = search needs
 
-loop-again-2 : tie.Need-loop-again-2 Inv-loop μ-loop
-loop-again-2 c =
-    let if3′ = c .before .if3 in
-    let put-said-line′ = c .before .before .before .before .before .put-said-line in
-    let at-frame = c .before .before .before .before .before .before .before .before in
-    let frame′ = at-frame .frame in
-    let decode′ = at-frame .before .before .before .before .before .before .before .decode in
-    let at-if2 = at-frame .before .before .before .before .before .before .before .before .before .before in
-    let if2′ = at-if2 .if2 in
-    let loop-test′ = at-if2 .before .before .before .loop-test in
-    let loop′ = at-if2 .before .before .before .before .loop in
-    let before-args = at-if2 .before .before .before .before .before .before .before .before .before in
-    let args′ = before-args .before .before .args in
-    line-keeps said-line (args′ .chunk .now) (args′ .out .now) _ (loop′ .out) (loop′ .w) (loop′ .line)
-    (loop′ .len) (loop′ .at) (loop′ .i) _ (loop′ .inv) (loop-test′ .taken) refl (if2′ .taken) _
-    (decode′ .ensures .decoded .bytes) (decode′ .result .first) (decode′ .result .second)
-    (decode′ .ensures .first-is) (decode′ .ensures .second-is) _ _ _ (frame′ .result) (frame′ .ensures) _
-    (put-said-line′ .result) (put-said-line′ .kept .0) (put-said-line′ .ensures) (if3′ .left)
+element-copy-out-test-frame : tie.Need-element-copy-out-test-frame Inv-loop μ-loop
+element-copy-out-test-frame c = search needs
+
+mul-test-frame-2 : tie.Need-mul-test-frame-2 Inv-loop μ-loop
+mul-test-frame-2 c = search needs
+
+element-copy-out-test-frame-2 : tie.Need-element-copy-out-test-frame-2 Inv-loop μ-loop
+element-copy-out-test-frame-2 c = search needs
+
+mul-test-frame-3 : tie.Need-mul-test-frame-3 Inv-loop μ-loop
+mul-test-frame-3 c = search needs
+
+element-copy-out-test-frame-3 : tie.Need-element-copy-out-test-frame-3 Inv-loop μ-loop
+element-copy-out-test-frame-3 c = search needs
+
+array-share-prefix-bytes-3 : tie.Need-array-share-prefix-bytes-3 Inv-loop μ-loop
+array-share-prefix-bytes-3 c = search needs
+
+slice-aggregate-test-frame : tie.Need-slice-aggregate-test-frame Inv-loop μ-loop
+slice-aggregate-test-frame c = sym (length-take-le _ _ (omega arith))
+
+test-frame-requires : tie.Need-test-frame-requires Inv-loop μ-loop
+test-frame-requires c κs =
+    let at-if5 = c .before .before .before .before in
+    let at-if3 = at-if5 .before in
+    let at-decode = at-if3 .before .before .before in
+    (sym (at-decode .decode .ensures .kind-is) ∙ at-if3 .if3 .left, at-if5 .if5 .left)
+
+part-put-answer-line-end-2 : tie.Need-part-put-answer-line-end-2 Inv-loop μ-loop
+part-put-answer-line-end-2 c = search needs
+
+mul-pair-2 : tie.Need-mul-pair-2 Inv-loop μ-loop
+mul-pair-2 c = search needs
+
+element-set-from-pair-2 : tie.Need-element-set-from-pair-2 Inv-loop μ-loop
+element-set-from-pair-2 c = search needs
 
 keep-requires : tie.Need-keep-requires Inv-loop μ-loop
 keep-requires c κs = search needs
-
-loop-less-3 : tie.Need-loop-less-3 Inv-loop μ-loop
-loop-less-3 c = search needs
-
-loop-again-3 : tie.Need-loop-again-3 Inv-loop μ-loop
-loop-again-3 c =
-    let if2′ = c .before .before .if2 in
-    let loop-test′ = c .before .before .before .before .before .loop-test in
-    let loop′ = c .before .before .before .before .before .before .loop in
-    let before-args = c .before .before .before .before .before .before .before .before .before in
-    let args′ = before-args .before .before .before .before .args in
-    next-character said-line (args′ .chunk .now) (args′ .out .now) _ (loop′ .out) (loop′ .w)
-    (loop′ .line) (loop′ .len) (loop′ .at) (loop′ .i) _ (loop′ .inv) (loop-test′ .taken) refl _ (c .keep .result)
-    (if2′ .left) (c .keep .ensures .0) (c .keep .ensures .1) (c .keep .ensures .2)
 
 same-length : tie.Need-same-length Inv-loop μ-loop
 same-length c = search needs
@@ -195,33 +204,65 @@ feed-spec =
     decode-requires
     mul-k
     add-k
-    mul-frame
-    element-copy-out-frame
-    mul-frame-2
-    element-copy-out-frame-2
-    mul-frame-3
-    element-copy-out-frame-3
+    mul-body-frame
+    element-copy-out-body-frame
     array-share-prefix-bytes
-    slice-aggregate-frame
-    slice-aggregate-frame-2
-    frame-requires
-    sub-put-said-line
-    part-put-said-line-start
-    part-put-said-line-end
-    put-said-line-requires
+    slice-aggregate-body-frame
+    slice-aggregate-body-frame-2
+    body-frame-requires
+    sub-put-answer-line
+    part-put-answer-line-start
+    part-put-answer-line-end
+    put-answer-line-requires
     add-at
     mul-body
     element-set-from-body
     forget-requires
     loop-less
     loop-again
-    mul-pair
-    element-set-from-pair
     loop-less-2
     loop-again-2
-    keep-requires
+    mul-if5
+    element-copy-out-if5
+    mul-chain-test
+    element-copy-out-chain-test
+    mul-chain-test-2
+    element-copy-out-chain-test-2
+    mul-chain-test-3
+    element-copy-out-chain-test-3
+    array-share-prefix-bytes-2
+    slice-aggregate-chain-test
+    chain-test-requires
+    sub-put-said-line
+    part-put-said-line-start
+    part-put-said-line-end
+    put-said-line-requires
+    add-at-2
+    mul-pair
+    element-set-from-pair
     loop-less-3
     loop-again-3
+    mul-test-frame
+    element-copy-out-test-frame
+    mul-test-frame-2
+    element-copy-out-test-frame-2
+    mul-test-frame-3
+    element-copy-out-test-frame-3
+    array-share-prefix-bytes-3
+    slice-aggregate-test-frame
+    test-frame-requires
+    sub-put-answer-line-2
+    part-put-answer-line-start-2
+    part-put-answer-line-end-2
+    put-answer-line-requires-2
+    add-at-3
+    mul-pair-2
+    element-set-from-pair-2
+    loop-less-4
+    loop-again-4
+    keep-requires
+    loop-less-5
+    loop-again-5
     same-length
     returns
     same-length-2

@@ -1,11 +1,11 @@
--- The loop of `feed`: what it knows (`SoFar`), that this holds before the first turn and gives the contract at the end,
--- and that each line finds its room in the output. Assumes nothing.
-use Prim.Native.Nat.{_-_, _≤_}
+-- The loop of `feed`: what it knows (`SoFar`), that this holds before the first turn and gives the contract at the end.
+-- Assumes nothing.
+use Prim.Native.Nat.{_-_}
 use mathlib.Core.Path.{sym, _∙_}
 use native.Mathlib.Omega.{arith}
 use lib.ListN.{length, take, length-map}
 use Rattle.record_definitions.specs.Answer.{said-line, longest-said}
-use Rattle.record_definitions.proofs.Feeding.{SoFar, nothing-yet, fed-at-end, length-lent, put-fits}
+use Rattle.record_definitions.proofs.Feeding.{SoFar, nothing-yet, fed-at-end}
 use Rattle.record.proofs.Turns.{row-held}
 use Rattle.record.proofs.feed.feed.Tie as tie
 
@@ -16,7 +16,6 @@ Inv-loop chunk out₀ sines w₀ line₀ len₀ at₀ i₀ out w line len at i =
 abbrev pub μ-loop : tie.MeasureT-loop
 μ-loop chunk out₀ sines w₀ line₀ len₀ at₀ i₀ out w line len at i = length chunk - i
 
--- ---- the first turn, and the end
 pub loop-holds : tie.Need-loop-holds Inv-loop μ-loop
 loop-holds c =
     let args′ = c .before .before .before .before .before .before .args in
@@ -55,38 +54,3 @@ returns-2 c =
     let so-far = rw row at (loop′ .inv) in
     fed-at-end said-line longest-said s _ (args′ .out .now) _ _ _ _ _ _ so-far
     (λ room. absurd (omega (arith, c .if1 .taken, loop′ .inv .out-size)))
-
--- ---- room for a line
-pub sub-put-said-line : tie.Need-sub-put-said-line Inv-loop μ-loop
-sub-put-said-line c =
-    let before-loop = c .before .before .before .before .before .before .before .before .before in
-    let loop′ = before-loop .before .before .before .before .before .before .loop in
-    omega (arith, loop′ .inv .at-within, loop′ .inv .out-size)
-
-pub part-put-said-line-start : tie.Need-part-put-said-line-start Inv-loop μ-loop
-part-put-said-line-start c =
-    let before-loop = c .before .before .before .before .before .before .before .before .before in
-    let loop′ = before-loop .before .before .before .before .before .before .loop in
-    omega (arith, loop′ .inv .at-within, loop′ .inv .out-size)
-
-pub put-said-line-requires : tie.Need-put-said-line-requires Inv-loop μ-loop
-put-said-line-requires c κs =
-    let before-if1 = c .before .before .before .before .before .before .before .before .before in
-    let if1′ = before-if1 .before .before .before .before .before .if1 in
-    let loop′ = before-if1 .before .before .before .before .before .before .before .loop in
-    let within : loop′ .at ≤ length (loop′ .out) =
-    omega (arith, loop′ .inv .at-within, loop′ .inv .out-size) in
-    omega (arith, if1′ .left, length-lent (loop′ .at) (loop′ .out) within)
-
-pub add-at : tie.Need-add-at Inv-loop μ-loop
-add-at c =
-    let put-said-line′ = c .before .before .put-said-line in
-    let before-loop = c .before .before .before .before .before .before .before .before .before in
-    let at-loop = before-loop .before .before .before .before .before .before .before .before .before .before in
-    let loop′ = at-loop .loop in
-    let good′ = at-loop .before .before .before .before .before .before .before .good in
-    let within : loop′ .at ≤ length (loop′ .out) =
-    omega (arith, loop′ .inv .at-within, loop′ .inv .out-size) in
-    let fits = put-fits (loop′ .at) (put-said-line′ .result) (loop′ .out) _ _ within (put-said-line′ .kept .0)
-    (put-said-line′ .ensures) in
-    omega (arith, fits, loop′ .inv .out-size, good′ .1 .1 .0 .0)
