@@ -3,7 +3,7 @@
 use mathlib.Core.Path.{_≡_, refl}
 use lib.Ieee.{neg, add, sub, mul, div, le, lt, eq, ofBits, nan}
 use Rattle.rounding.specs.Literals.{zero32}
-use Rattle.sqrt.specs.Sqrt.{root-digits, whole-root, rounded-root, sqrt}
+use Rattle.sqrt.specs.Sqrt.{root-digits, whole-root, root-by-steps, sqrt}
 use Rattle.floats.specs.B2Math.{b2-sqrt, b2-min, b2-add, b2-sub, b2-neg, b2-scale, b2-dot, b2-cross}
 use Rattle.floats.specs.B2Math.{b2-length-squared, b2-length, b2-normalize, b2-mul-t-rot, b2-mul-rot-by-vec2}
 use Rattle.floats.specs.B2Math.{b2-mul-t-rot-by-vec2, b2-mul-transform-by-vec2, b2-mul-t-transform-by-vec2}
@@ -96,7 +96,7 @@ pub record EdgePolygonCases : Type 0 where
       (second (vec2 ½ ½) (contact-id 2 0 1 0)))
 
 pub edge-polygon-cases : EdgePolygonCases
-unfolding root-digits whole-root rounded-root sqrt b2-sqrt b2-min b2-add b2-sub b2-neg b2-scale b2-dot b2-cross
+unfolding root-digits whole-root root-by-steps sqrt b2-sqrt b2-min b2-add b2-sub b2-neg b2-scale b2-dot b2-cross
     b2-length-squared b2-length b2-normalize b2-mul-t-rot b2-mul-rot-by-vec2 b2-mul-t-rot-by-vec2
     b2-mul-transform-by-vec2 b2-mul-t-transform-by-vec2 b2-mul-t-transform point-in-range radius-in-range
     rotation-in-range transform-in-range normal-in-range polygon-in-range least swapped-id with-local-point with-count
@@ -176,7 +176,7 @@ pub record GaussMapCases : Type 0 where
       ≡ FaceB -¼ (float 0x8000_0000) +1 0
 
 pub gauss-map-cases : GaussMapCases
-unfolding root-digits whole-root rounded-root sqrt b2-sqrt b2-min b2-add b2-sub b2-neg b2-scale b2-dot b2-cross
+unfolding root-digits whole-root root-by-steps sqrt b2-sqrt b2-min b2-add b2-sub b2-neg b2-scale b2-dot b2-cross
     b2-length-squared b2-length b2-normalize b2-mul-t-rot b2-mul-rot-by-vec2 b2-mul-t-rot-by-vec2
     b2-mul-transform-by-vec2 b2-mul-t-transform-by-vec2 b2-mul-t-transform point-in-range radius-in-range
     rotation-in-range transform-in-range normal-in-range polygon-in-range least swapped-id with-local-point with-count

@@ -4,7 +4,7 @@ use mathlib.Core.Path.{_≡_, refl}
 use mathlib.Core.List.{[], _∷_}
 use lib.Ieee.{neg, add, sub, mul, le, lt, eq, ofBits, div, nan}
 use Rattle.rounding.specs.Literals.{zero32}
-use Rattle.sqrt.specs.Sqrt.{root-digits, whole-root, rounded-root, sqrt}
+use Rattle.sqrt.specs.Sqrt.{root-digits, whole-root, root-by-steps, sqrt}
 use Rattle.floats.specs.B2Common.{b2-polygon-radius}
 use Rattle.floats.specs.B2Math.{b2-sub, b2-dot, b2-distance-vec2-squared, b2-mul-transform-by-vec2, b2-sqrt, b2-add}
 use Rattle.floats.specs.B2Math.{b2-scale, b2-length-squared, b2-length, b2-normalize, b2-mul-t-rot-by-vec2}
@@ -132,7 +132,7 @@ pub record PolygonCircleCases : Type 0 where
       ≡ manifold-refused placement-out-of-range (given EFaceA)
 
 pub polygon-circle-cases : PolygonCircleCases
-unfolding root-digits whole-root rounded-root sqrt b2-sqrt b2-add b2-sub b2-scale b2-dot b2-length-squared b2-length
+unfolding root-digits whole-root root-by-steps sqrt b2-sqrt b2-add b2-sub b2-scale b2-dot b2-length-squared b2-length
     b2-distance-vec2-squared b2-normalize b2-mul-t-rot-by-vec2 b2-mul-transform-by-vec2 b2-mul-t-transform-by-vec2
     point-in-range radius-in-range rotation-in-range transform-in-range normal-in-range polygon-in-range some-below
     first-greatest with-local-point with-count with-one-point circle-in-range farther circle-separation

@@ -7,7 +7,7 @@ use Prim.Native.Nat.{ℕ}
 use lib.ListN.{length, drop}
 use lib.Ieee.{Float, neg, add, sub, mul, div, le, lt, eq, ofBits}
 use Rattle.rounding.specs.Literals.{zero32}
-use Rattle.sqrt.specs.Sqrt.{root-digits, whole-root, rounded-root, sqrt}
+use Rattle.sqrt.specs.Sqrt.{root-digits, whole-root, root-by-steps, sqrt}
 use Rattle.floats.specs.declared.b2_math.B2vec2.{B2vec2}
 use Rattle.floats.specs.B2Common.{b2-polygon-radius}
 use Rattle.floats.specs.B2Math.{b2-sqrt, b2-add, b2-sub, b2-neg, b2-scale, b2-dot, b2-cross-vec-by-scalar}
@@ -136,7 +136,7 @@ usual-skin shape is = ap (λ (skin : Float). with-skin skin shape) (sym is)
 
 tie : (old : B2manifold) (a b : B2polygonShape)
     → Tie old (with-skin b2-polygon-radius a) (with-skin b2-polygon-radius b)
-unfolding root-digits whole-root rounded-root sqrt b2-sqrt b2-add b2-sub b2-neg b2-scale b2-dot b2-cross-vec-by-scalar
+unfolding root-digits whole-root root-by-steps sqrt b2-sqrt b2-add b2-sub b2-neg b2-scale b2-dot b2-cross-vec-by-scalar
     b2-length-squared b2-length b2-normalize b2-mul-t-rot b2-mul-rot-by-vec2 b2-mul-t-rot-by-vec2
     b2-mul-transform-by-vec2 b2-mul-t-transform-by-vec2 b2-mul-t-transform coordinate-in-range point-in-range
     radius-in-range rotation-in-range transform-in-range normal-in-range polygon-in-range least first-greatest

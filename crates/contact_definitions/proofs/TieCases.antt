@@ -4,7 +4,7 @@ use mathlib.Core.Path.{_≡_, refl}
 use mathlib.Core.List.{[], _∷_}
 use lib.Ieee.{neg, add, sub, mul, div, le, lt, eq, ofBits}
 use Rattle.rounding.specs.Literals.{zero32}
-use Rattle.sqrt.specs.Sqrt.{root-digits, whole-root, rounded-root, sqrt}
+use Rattle.sqrt.specs.Sqrt.{root-digits, whole-root, root-by-steps, sqrt}
 use Rattle.floats.specs.B2Common.{b2-polygon-radius}
 use Rattle.floats.specs.B2Math.{b2-sqrt, b2-add, b2-sub, b2-scale, b2-dot, b2-length-squared, b2-length}
 use Rattle.floats.specs.B2Math.{b2-distance-vec2-squared, b2-normalize, b2-mul-t-rot-by-vec2}
@@ -99,7 +99,7 @@ pub record CircleTies : Type 0 where
       kept-second)
 
 pub circle-ties : CircleTies
-unfolding root-digits whole-root rounded-root sqrt b2-sqrt b2-add b2-sub b2-scale b2-dot b2-length-squared b2-length
+unfolding root-digits whole-root root-by-steps sqrt b2-sqrt b2-add b2-sub b2-scale b2-dot b2-length-squared b2-length
     b2-distance-vec2-squared b2-normalize b2-mul-t-rot-by-vec2 b2-mul-transform-by-vec2 b2-mul-t-transform-by-vec2
     point-in-range radius-in-range rotation-in-range transform-in-range normal-in-range polygon-in-range some-below
     first-greatest with-local-point with-count with-one-point circle-in-range farther circle-separation
@@ -146,7 +146,7 @@ pub record PolygonTies : Type 0 where
       (first (vec2 -½ -1) (contact-id 1 0 1 0)) (second (vec2 -½ ¾) (contact-id 2 3 0 1)))
 
 pub polygon-ties : PolygonTies
-unfolding root-digits whole-root rounded-root sqrt b2-sqrt b2-add b2-sub b2-neg b2-scale b2-dot b2-cross-vec-by-scalar
+unfolding root-digits whole-root root-by-steps sqrt b2-sqrt b2-add b2-sub b2-neg b2-scale b2-dot b2-cross-vec-by-scalar
     b2-length-squared b2-length b2-normalize b2-mul-t-rot b2-mul-rot-by-vec2 b2-mul-t-rot-by-vec2
     b2-mul-transform-by-vec2 b2-mul-t-transform-by-vec2 b2-mul-t-transform point-in-range radius-in-range
     rotation-in-range transform-in-range normal-in-range polygon-in-range least first-greatest first-least swapped-id
@@ -187,7 +187,7 @@ pub record EdgeTies : Type 0 where
       (first (vec2 -½ -1) (contact-id 0 0 1 0)) (second (vec2 ½ -1) (contact-id 0 1 1 0)))
 
 pub edge-ties : EdgeTies
-unfolding root-digits whole-root rounded-root sqrt b2-sqrt b2-min b2-add b2-sub b2-neg b2-scale b2-dot b2-cross
+unfolding root-digits whole-root root-by-steps sqrt b2-sqrt b2-min b2-add b2-sub b2-neg b2-scale b2-dot b2-cross
     b2-length-squared b2-length b2-distance-vec2-squared b2-normalize b2-mul-t-rot b2-mul-rot-by-vec2
     b2-mul-t-rot-by-vec2 b2-mul-transform-by-vec2 b2-mul-t-transform-by-vec2 b2-mul-t-transform point-in-range
     radius-in-range rotation-in-range transform-in-range normal-in-range polygon-in-range least swapped-id

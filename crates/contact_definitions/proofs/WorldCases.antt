@@ -3,7 +3,7 @@
 use mathlib.Core.Path.{_≡_, refl}
 use lib.Ieee.{neg, add, sub, mul, div, le, lt, eq, ofBits, nan}
 use Rattle.rounding.specs.Literals.{zero32}
-use Rattle.sqrt.specs.Sqrt.{root-digits, whole-root, rounded-root, sqrt}
+use Rattle.sqrt.specs.Sqrt.{root-digits, whole-root, root-by-steps, sqrt}
 use Rattle.floats.specs.B2Math.{b2-sqrt, b2-add, b2-sub, b2-neg, b2-scale, b2-dot, b2-length-squared, b2-length}
 use Rattle.floats.specs.B2Math.{b2-distance-vec2-squared, b2-normalize, b2-mul-rot-by-vec2, b2-mul-transform-by-vec2}
 use Rattle.floats.specs.B2Math.{vec2}
@@ -90,7 +90,7 @@ pub record WorldCases : Type 0 where
       ≡ world-accepted (world-after (vec2 +1 zero32) (vec2 -¼ ½) (vec2 +5 +6) -2 +8)
 
 pub world-cases : WorldCases
-unfolding root-digits whole-root rounded-root sqrt b2-sqrt b2-add b2-sub b2-neg b2-scale b2-dot b2-length-squared
+unfolding root-digits whole-root root-by-steps sqrt b2-sqrt b2-add b2-sub b2-neg b2-scale b2-dot b2-length-squared
     b2-length b2-distance-vec2-squared b2-normalize b2-mul-rot-by-vec2 b2-mul-transform-by-vec2 point-in-range
     radius-in-range rotation-in-range transform-in-range local-normal-in-range contact-point-in-range counted-points
     on-face on-other plane-separation plane-middle carried-points world-of-face circles-normal world-of-circles

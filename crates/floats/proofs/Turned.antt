@@ -16,7 +16,7 @@ use Rattle.rounding.specs.Literals.{zero32, one32}
 use Rattle.floats.specs.B2Common.{b2-epsilon, epsilon-squared}
 use Rattle.floats.specs.B2Math.{b2-sqrt, b2-cross-vec-by-scalar, b2-length-squared, b2-length, times-reciprocal}
 use Rattle.floats.specs.B2Math.{b2-normalize}
-use Rattle.sqrt.specs.Sqrt.{sqrt}
+use Rattle.sqrt.specs.Sqrt.{root-by-steps, sqrt}
 use Rattle.rounding.specs.Value.{metre, F32, mag, val}
 use Rattle.rounding.proofs.Value.{metre-pos, positive-sign}
 use Rattle.rounding.proofs.Comparison.{lt-val, val-not-lt}
@@ -63,7 +63,7 @@ module _ (l : Float) (l-f32 : F32 l) (long : T (lt epsilon-squared l)) where
       go u v m u-is v-is low = rw v-is (omega arith)
 
 long-root : (l : Float) → T (fits binary32 l) → lt epsilon-squared l ≡ true → lt (sqrt binary32 l) b2-epsilon ≡ false
-unfolding lt sqrt ofBits
+unfolding lt sqrt root-by-steps ofBits
 long-root nan in-format long = refl
 long-root (inf true) in-format long = refl
 long-root (inf false) in-format long = refl

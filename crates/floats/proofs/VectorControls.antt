@@ -10,7 +10,7 @@ use Rattle.floats.specs.declared.b2_math.B2vec2.{B2vec2}
 use Rattle.floats.specs.declared.b2_math.B2Rot.{B2Rot}
 use Rattle.floats.specs.declared.b2_math.B2Transform.{B2Transform}
 use Rattle.rounding.specs.Literals.{one32}
-use Rattle.sqrt.specs.Sqrt.{root-digits, whole-root, rounded-root, sqrt}
+use Rattle.sqrt.specs.Sqrt.{root-digits, whole-root, root-by-steps, sqrt}
 use Rattle.floats.specs.B2Common.{b2-linear-slop}
 use Rattle.floats.specs.B2Math.{b2-sqrt, b2-min, b2-add, b2-sub, b2-neg, b2-scale, b2-dot, b2-cross}
 use Rattle.floats.specs.B2Math.{b2-cross-vec-by-scalar, b2-cross-scalar-by-vec}
@@ -31,26 +31,26 @@ unfolding b2-dot add mul ofBits toBits
 dot-is-not-fused = refl
 
 length-of-one-seven : toBits binary32 (b2-normalize (vector 0x3f80_0000 0x40e0_0000) .length) ≡ 0x40e2_4630
-unfolding b2-normalize b2-length b2-length-squared b2-sqrt sqrt rounded-root whole-root root-digits size units
+unfolding b2-normalize b2-length b2-length-squared b2-sqrt sqrt root-by-steps whole-root root-digits size units
     add mul div lt ofBits toBits
 length-of-one-seven = refl
 
 -- (1, 7): 3f7d6d54 if divided by the length
 normalized-by-the-reciprocal : toBits binary32 (b2-normalize (vector 0x3f80_0000 0x40e0_0000) .v .y) ≡ 0x3f7d_6d55
-unfolding b2-normalize b2-length b2-length-squared b2-sqrt sqrt rounded-root whole-root root-digits size units
+unfolding b2-normalize b2-length b2-length-squared b2-sqrt sqrt root-by-steps whole-root root-digits size units
     add mul div lt ofBits toBits
 normalized-by-the-reciprocal = refl
 
 -- a length of 2^-24
 short-is-not-normalized : b2-normalize (vector 0x3380_0000 0)
     ≡ record { length = float 0; v = vector 0x3380_0000 0 }
-unfolding b2-normalize b2-length b2-length-squared b2-sqrt sqrt rounded-root whole-root root-digits size units
+unfolding b2-normalize b2-length b2-length-squared b2-sqrt sqrt root-by-steps whole-root root-digits size units
     add mul div lt ofBits toBits
 short-is-not-normalized = refl
 
 -- a length of 2^-23
 epsilon-is-normalized : toBits binary32 (b2-normalize (vector 0x3400_0000 0) .length) ≡ 0x3400_0000
-unfolding b2-normalize b2-length b2-length-squared b2-sqrt sqrt rounded-root whole-root root-digits size units
+unfolding b2-normalize b2-length b2-length-squared b2-sqrt sqrt root-by-steps whole-root root-digits size units
     add mul div lt ofBits toBits
 epsilon-is-normalized = refl
 
@@ -109,7 +109,7 @@ pub vector-cases : VectorCases
 unfolding b2-min b2-add b2-sub b2-neg b2-scale b2-dot b2-cross b2-cross-vec-by-scalar b2-cross-scalar-by-vec
     b2-length-squared b2-length b2-distance-vec2-squared b2-mul-rot b2-mul-t-rot b2-mul-rot-by-vec2 b2-mul-t-rot-by-vec2
     b2-mul-transform-by-vec2 b2-mul-t-transform-by-vec2 b2-mul-transform b2-mul-t-transform
-    b2-sqrt sqrt rounded-root whole-root root-digits size units neg add sub mul div lt ofBits
+    b2-sqrt sqrt root-by-steps whole-root root-digits size units neg add sub mul div lt ofBits
 vector-cases = record {
   lesser = refl;
   lesser-of-nan = refl;

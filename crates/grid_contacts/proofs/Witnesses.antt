@@ -16,7 +16,7 @@ use Rattle.algebra.proofs.Integer.{same-of-test}
 use Rattle.rounding.specs.Value.{metre, F32, val}
 use Rattle.rounding.proofs.Value.{metre-is}
 use Rattle.rounding.proofs.Literals.{bits-sign, bits-field, bits-units, bits-f32, bits-val}
-use Rattle.sqrt.specs.Sqrt.{root-digits, whole-root, rounded-root, sqrt}
+use Rattle.sqrt.specs.Sqrt.{root-digits, whole-root, root-by-steps, sqrt}
 use Rattle.floats.specs.declared.b2_math.B2vec2.{B2vec2}
 use Rattle.floats.specs.declared.b2_math.B2Transform.{B2Transform}
 use Rattle.floats.specs.B2Common.{b2-polygon-radius}
@@ -129,7 +129,7 @@ pub record Built : Type 0 where
 
 pub built : Built
 unfolding b2-polygon-shape-set outline-of-welded outline-of-corners welded start next row edges long-enough fan
-    too-near comes-before closer point-in-range b2-cross b2-distance-vec2-squared root-digits whole-root rounded-root
+    too-near comes-before closer point-in-range b2-cross b2-distance-vec2-squared root-digits whole-root root-by-steps
     sqrt b2-sqrt b2-add b2-sub b2-scale b2-dot b2-cross-vec-by-scalar b2-length-squared b2-length b2-normalize neg add
     sub mul div le lt eq ofBits
 built = record { triangle-accepted = refl; square-built = refl; triangle-built = refl }
@@ -194,7 +194,7 @@ pub record Touches (old : B2manifold) : Type 0 where
       ≡ depth
 
 pub touches : (old : B2manifold) → Touches old
-unfolding root-digits whole-root rounded-root sqrt b2-sqrt b2-add b2-sub b2-neg b2-scale b2-dot
+unfolding root-digits whole-root root-by-steps sqrt b2-sqrt b2-add b2-sub b2-neg b2-scale b2-dot
     b2-cross-vec-by-scalar b2-length-squared b2-length b2-normalize b2-mul-t-rot b2-mul-rot-by-vec2
     b2-mul-t-rot-by-vec2 b2-mul-transform-by-vec2 b2-mul-t-transform-by-vec2 b2-mul-t-transform point-in-range
     radius-in-range rotation-in-range transform-in-range normal-in-range polygon-in-range least first-greatest

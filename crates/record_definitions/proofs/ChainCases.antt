@@ -4,7 +4,7 @@ use Prim.Native.Nat.{ℕ}
 use mathlib.Core.Path.{_≡_, refl}
 use mathlib.Core.List.{List, [], _∷_, map}
 use lib.Ieee.{binary32, neg, add, sub, mul, div, le, lt, eq, ofBits, toBits}
-use Rattle.sqrt.specs.Sqrt.{root-digits, whole-root, rounded-root, sqrt}
+use Rattle.sqrt.specs.Sqrt.{root-digits, whole-root, root-by-steps, sqrt}
 use Rattle.floats.specs.B2Math.{b2-sqrt, b2-add, b2-sub, b2-neg, b2-scale, b2-dot, b2-length-squared, b2-length}
 use Rattle.floats.specs.B2Math.{b2-distance-vec2-squared, b2-normalize, b2-mul-rot-by-vec2, b2-mul-t-rot-by-vec2}
 use Rattle.floats.specs.B2Math.{b2-mul-transform-by-vec2, b2-mul-t-transform-by-vec2}
@@ -86,7 +86,7 @@ pub record ChainCases : Type 0 where
       [])
 
 pub chain-cases : ChainCases
-unfolding neg add sub mul div le lt eq ofBits toBits root-digits whole-root rounded-root sqrt b2-sqrt b2-add b2-sub
+unfolding neg add sub mul div le lt eq ofBits toBits root-digits whole-root root-by-steps sqrt b2-sqrt b2-add b2-sub
     b2-neg b2-scale b2-dot b2-length-squared b2-length b2-distance-vec2-squared b2-normalize b2-mul-rot-by-vec2
     b2-mul-transform-by-vec2 point-in-range radius-in-range rotation-in-range transform-in-range local-normal-in-range
     contact-point-in-range vector-at rotation-at placement-at unhex frame-of hex circle-in-range farther

@@ -8,7 +8,7 @@ use Prim.Native.Nat.{ℕ}
 use lib.Ieee.{binary32, size, units, neg, add, sub, mul, div, le, lt, eq, ofBits}
 use Rattle.floats.specs.declared.b2_math.B2vec2.{B2vec2}
 use Rattle.rounding.specs.Literals.{half32}
-use Rattle.sqrt.specs.Sqrt.{root-digits, whole-root, rounded-root, sqrt}
+use Rattle.sqrt.specs.Sqrt.{root-digits, whole-root, root-by-steps, sqrt}
 use Rattle.floats.specs.B2Common.{b2-linear-slop}
 use Rattle.floats.specs.B2Math.{b2-sqrt, b2-add, b2-sub, b2-scale, b2-dot, b2-cross, b2-cross-vec-by-scalar}
 use Rattle.floats.specs.B2Math.{b2-length-squared, b2-length, b2-distance-vec2-squared, b2-normalize}
@@ -96,7 +96,7 @@ pub builder-cases : (old : B2polygonShape) → BuilderCases old
 unfolding b2-polygon-shape-set b2-polygon-shape-set-counted outline-of-welded outline-of-corners
     welded too-near comes-before start closer next row edges long-enough fan point-in-range
     b2-distance-vec2-squared b2-length-squared b2-length b2-normalize b2-add b2-sub b2-scale b2-dot b2-cross
-    b2-cross-vec-by-scalar b2-sqrt sqrt rounded-root whole-root root-digits size units
+    b2-cross-vec-by-scalar b2-sqrt sqrt root-by-steps whole-root root-digits size units
     neg add sub mul div le lt eq ofBits
 builder-cases old = record {
   skewed-outline = refl;

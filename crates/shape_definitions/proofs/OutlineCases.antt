@@ -7,7 +7,7 @@ use mathlib.Core.List.{List, [], _∷_}
 use Prim.Native.Nat.{ℕ}
 use lib.Ieee.{size, units, neg, add, sub, mul, div, le, lt, eq, ofBits}
 use Rattle.floats.specs.declared.b2_math.B2vec2.{B2vec2}
-use Rattle.sqrt.specs.Sqrt.{root-digits, whole-root, rounded-root, sqrt}
+use Rattle.sqrt.specs.Sqrt.{root-digits, whole-root, root-by-steps, sqrt}
 use Rattle.floats.specs.B2Math.{b2-sqrt, b2-add, b2-sub, b2-scale, b2-dot, b2-cross, b2-cross-vec-by-scalar}
 use Rattle.floats.specs.B2Math.{b2-length-squared, b2-length, b2-distance-vec2-squared, b2-normalize}
 use Rattle.floats.specs.Ranges.{point-in-range, radius-in-range}
@@ -61,7 +61,7 @@ pub outline-cases : (old : B2polygonShape) → OutlineCases old
 unfolding b2-polygon-shape-set outline-of-welded outline-of-corners welded too-near comes-before start closer next row
     edges long-enough fan b2-polygon-shape-validate polygon-in-range faces-convex point-in-range radius-in-range
     b2-distance-vec2-squared b2-length-squared b2-length b2-normalize b2-add b2-sub b2-scale b2-dot b2-cross
-    b2-cross-vec-by-scalar b2-sqrt sqrt rounded-root whole-root root-digits size units
+    b2-cross-vec-by-scalar b2-sqrt sqrt root-by-steps whole-root root-digits size units
     neg add sub mul div le lt eq ofBits
 outline-cases old = record {
   two-points = refl;

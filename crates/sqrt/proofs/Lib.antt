@@ -1,9 +1,16 @@
 pub mod WholeRoot
 pub mod RoundedRoot
 pub mod RootPattern
-pub mod SqrtCases
+pub mod StepCases
+pub mod ExactStep
+pub mod RootDigits
+pub mod SpecialOperands
 pub mod SqrtLaw
 pub mod SqrtOrder
+pub mod Neighbours
+pub mod ThreeSteps
 pub mod Theorem
 pub mod Witness
 pub mod Controls
+pub mod StepControls
+pub mod Before

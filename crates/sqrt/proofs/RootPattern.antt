@@ -12,14 +12,13 @@ use lib.Pow.{pow-add, pow-mono, pow-pos}
 use lib.Ieee.{binary32, size, ofBits}
 use lib.Ieee.Digits.{size-lt, size-le}
 use lib.Ieee.Bits.{ofBits-fits}
-use Rattle.sqrt.specs.Sqrt.{rounded-root}
 use Rattle.sqrt.specs.Root.{NearestRoot}
 use Rattle.sqrt.proofs.WholeRoot.{four-pow-add, four-pow-pos}
-use Rattle.sqrt.proofs.RoundedRoot.{HalfUnit, rounded-root-is}
+use Rattle.sqrt.proofs.RoundedRoot.{HalfUnit, root-above-zero, rounded-root-is}
 use Rattle.rounding.proofs.Patterns.{Units, same-units-equal, digits-units}
 
 -- ---- there is one nearest whole number
-nearest-root-only : (n r s : ℕ) → r * r < n + r → n ≤ s * s + s → s < r → ⊥
+pub nearest-root-only : (n r s : ℕ) → r * r < n + r → n ≤ s * s + s → s < r → ⊥
 nearest-root-only n r s not-over not-under s-below =
     let past = le-dest s-below in
     let squared : (suc s + past .0) * (suc s + past .0) ≡ r * r = ap (λ (x : ℕ). x * x) (past .1) in
@@ -33,7 +32,7 @@ nearest-root-le n r s of-r of-s = by-test (leb r s) (leb→le r s) (nleb→lt r 
     by-test true le gt = le tt
     by-test false le gt = absurd (nearest-root-only n r s (of-r .not-over) (of-s .not-under) (gt tt))
 
-nearest-root-unique : (n r s : ℕ) → NearestRoot n r → NearestRoot n s → r ≡ s
+pub nearest-root-unique : (n r s : ℕ) → NearestRoot n r → NearestRoot n s → r ≡ s
 nearest-root-unique n r s of-r of-s = le-antisymm (nearest-root-le n r s of-r of-s) (nearest-root-le n s r of-s of-r)
 
 pub nearest-root-le-2^24 : (n r : ℕ) → n < 2 ^ 48 → NearestRoot n r → r ≤ 2 ^ 24
@@ -43,7 +42,7 @@ nearest-root-le-2^24 n r n-high of-r = by-test (leb r (2 ^ 24)) (leb→le r (2 ^
     by-test true le gt = le tt
     by-test false le gt = absurd (nearest-root-only n r (2 ^ 24) (of-r .not-over) (omega arith) (gt tt))
 
-nearest-root-of-half-unit : (n h r : ℕ) → 0 < h → HalfUnit (n * h) h r → NearestRoot n r
+pub nearest-root-of-half-unit : (n h r : ℕ) → 0 < h → HalfUnit (n * h) h r → NearestRoot n r
 nearest-root-of-half-unit n h r h-pos half =
     let a : 4 * (r * r) + 1 ≤ 4 * n + 4 * r = le-of-mul-le-mul-right (let l = half .0 in omega arith) h-pos in
     let b : 4 * n ≤ 4 * (r * r) + 4 * r + 1 = le-of-mul-le-mul-right (let u = half .1 in omega arith) h-pos in
@@ -57,7 +56,7 @@ module _ (n k : ℕ) (n-low : 2 ^ 46 ≤ n) (n-high : n < 2 ^ 48) where
   scaled-above : 2 ^ (46 + (k + k)) ≤ n * 4 ^ k
   scaled-above = le-trans (le-of-eq (sym (four-pow-add 46 k))) (mul-le-mul-right (4 ^ k) n-low)
 
-  scale-is-k : (size (n * 4 ^ k) + 1) / 2 - 24 ≡ k
+  pub scale-is-k : (size (n * 4 ^ k) + 1) / 2 - 24 ≡ k
   scale-is-k =
       let z = size (n * 4 ^ k) in
       let z-high : z ≤ 48 + (k + k) = size-le (n * 4 ^ k) (48 + (k + k)) scaled-below in
@@ -69,8 +68,8 @@ module _ (n k : ℕ) (n-low : 2 ^ 46 ≤ n) (n-high : n < 2 ^ 48) where
       halved : (z : ℕ) → z ≤ 48 + (k + k) → 46 + (k + k) < z → (z + 1) / 2 - 24 ≡ k
       halved z a b = omega arith
 
-  rounded-root-pattern : (r : ℕ) → 1 ≤ k → k < 190 → NearestRoot n r
-      → ofBits binary32 (k * 2 ^ 23 + r) ≡ rounded-root binary32 (n * 4 ^ k)
+  pub rounded-root-pattern : (r : ℕ) → 1 ≤ k → k < 190 → NearestRoot n r
+      → ofBits binary32 (k * 2 ^ 23 + r) ≡ root-above-zero (n * 4 ^ k)
   rounded-root-pattern r k-low k-high r-nearest =
       let y = n * 4 ^ k in
       let digits-low : 48 ≤ 46 + (k + k) = omega arith in
@@ -84,12 +83,12 @@ module _ (n k : ℕ) (n-low : 2 ^ 46 ≤ n) (n-high : n < 2 ^ 48) where
       let same-digits : root .digits ≡ r =
       nearest-root-unique n (root .digits) r (nearest-root-of-half-unit n (4 ^ k) (root .digits) (four-pow-pos k)
       half) r-nearest in
-      let units : Units (rounded-root binary32 y) (r * 2 ^ k) =
-      subst (λ (x : ℕ). Units (rounded-root binary32 y) (r * 2 ^ x)) same-scale
-      (subst (λ (x : ℕ). Units (rounded-root binary32 y) (x * 2 ^ root .scale)) same-digits (root .value)) in
+      let units : Units (root-above-zero y) (r * 2 ^ k) =
+      subst (λ (x : ℕ). Units (root-above-zero y) (r * 2 ^ x)) same-scale
+      (subst (λ (x : ℕ). Units (root-above-zero y) (x * 2 ^ root .scale)) same-digits (root .value)) in
       let r-low : 2 ^ 23 ≤ r = subst (λ (x : ℕ). 2 ^ 23 ≤ x) same-digits (root .digits-low) in
       let r-high : r ≤ 2 ^ 24 = subst (λ (x : ℕ). x ≤ 2 ^ 24) same-digits (root .digits-high) in
-      same-units-equal (ofBits binary32 (k * 2 ^ 23 + r)) (rounded-root binary32 y) (r * 2 ^ k)
+      same-units-equal (ofBits binary32 (k * 2 ^ 23 + r)) (root-above-zero y) (r * 2 ^ k)
       (ofBits-fits binary32 (k * 2 ^ 23 + r)) (root .in-format)
       (digits-units k r (omega arith) r-low r-high) units
 
@@ -114,7 +113,7 @@ widened-bounds f g f-low f-high = by-parity (g % 2) (omega arith)
 exponent-halved : (g : ℕ) → 2 ≤ g → g + 21 ≡ 23 + g % 2 + (g / 2 - 1 + (g / 2 - 1))
 exponent-halved g h = omega arith
 
-widened-scaled : (f g : ℕ) → 2 ≤ g → f * 2 ^ (g + 21) ≡ widened f g * 4 ^ (g / 2 - 1)
+pub widened-scaled : (f g : ℕ) → 2 ≤ g → f * 2 ^ (g + 21) ≡ widened f g * 4 ^ (g / 2 - 1)
 widened-scaled f g h =
     let k = g / 2 - 1 in
     let p = g % 2 in
@@ -123,13 +122,6 @@ widened-scaled f g h =
     ∙ sym (mul-assoc f (2 ^ 23 * 2 ^ p) (4 ^ k))
     ∙ ap (λ (x : ℕ). x * 4 ^ k)
     (sym (mul-assoc f (2 ^ 23) (2 ^ p)) ∙ ap (λ (x : ℕ). f * 2 ^ 23 * x) (sym (parity-power p (omega arith))))
-
-pub scaled-root-pattern : (f g r : ℕ) → 2 ^ 23 ≤ f → f < 2 ^ 24 → 4 ≤ g → g < 382 → NearestRoot (widened f g) r
-    → ofBits binary32 ((g / 2 - 1) * 2 ^ 23 + r) ≡ rounded-root binary32 (f * 2 ^ (g + 21))
-scaled-root-pattern f g r f-low f-high g-low g-high r-nearest =
-    let bounds = widened-bounds f g f-low f-high in
-    rounded-root-pattern (widened f g) (g / 2 - 1) (bounds .0) (bounds .1) r (omega arith) (omega arith) r-nearest
-    ∙ ap (rounded-root binary32) (sym (widened-scaled f g (omega arith)))
 
 -- ---- a subnormal's digits, moved up one by one: f * 2^g stays
 pub doubled-scale : (f g : ℕ) → 0 < g → f * 2 ^ (g + 21) ≡ f * 2 * 2 ^ (g - 1 + 21)

@@ -1,2 +1,3 @@
 pub mod Sqrt
+pub mod Steps
 pub mod Root
