@@ -13,4 +13,3 @@ pub mod Theorem
 pub mod Witness
 pub mod Controls
 pub mod StepControls
-pub mod Before
