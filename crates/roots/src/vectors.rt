@@ -1,18 +1,37 @@
-// Operands of published square-root vectors, as bits; the file stdout of this crate has each with its published root.
+// Operands of published square-root vectors, as bits, by the step that they take; the file stdout of this crate has each
+// with its published root.
 // - glibc 2.36, math/auto-libm-test-out-sqrt: every binary32 operand rounded to nearest, 45 of them;
 // - glibc 2.36, math/libm-test-sqrt.inc: the infinities, NaNs and numbers below 0, 11 of them;
 // - newlib 3.3.0, libm/test/sqrtf_vec.c: every operand from 0 on, 136 of them that are not among the first.
-pub const COUNT: usize = 192;
 
-pub const OPERANDS: [u32; COUNT] = [
+pub const SPECIAL: [u32; 13] = [
     0x0000_0000,
     0x8000_0000,
+    0x7fc0_0000,
+    0xffc0_0000,
+    0x7fa0_0000,
+    0xffa0_0000,
+    0x7f80_0000,
+    0xbf80_0000,
+    0xbf8c_cccd,
+    0x8080_0000,
+    0x8000_0001,
+    0xff7f_ffff,
+    0xff80_0000,
+];
+
+pub const EXACT: [u32; 7] = [
     0x450a_1000,
     0x4080_0000,
-    0x4000_0000,
     0x3e80_0000,
     0x45cf_9200,
     0x466d_5a40,
+    0x3f80_0000,
+    0x0080_0000,
+];
+
+pub const ROUNDED: [u32; 172] = [
+    0x4000_0000,
     0x3f40_0000,
     0x7f7f_ffff,
     0x0000_0001,
@@ -47,20 +66,7 @@ pub const OPERANDS: [u32; COUNT] = [
     0x42ca_9b05,
     0x42ca_9b04,
     0x3f80_0001,
-    0x3f80_0000,
     0x3f7f_ffff,
-    0x0080_0000,
-    0x7fc0_0000,
-    0xffc0_0000,
-    0x7fa0_0000,
-    0xffa0_0000,
-    0x7f80_0000,
-    0xbf80_0000,
-    0xbf8c_cccd,
-    0x8080_0000,
-    0x8000_0001,
-    0xff7f_ffff,
-    0xff80_0000,
     0x268c_8000,
     0x3c23_d70a,
     0x3ca3_d70a,

@@ -1,6 +1,6 @@
 -- When the exact step is taken: where the whole number nearest to √n has the square n, and so where the root has the
 -- square of the operand. Assumes nothing.
-use mathlib.Core.Path.{_≡_, refl, sym, ap, _∙_}
+use mathlib.Core.Path.{_≡_, ap, _∙_}
 use mathlib.Core.Bool.{Bool, true, false, cond}
 use Prim.Native.Nat.{ℕ, zero, suc, _+_, _*_, _/_, _^_, _≤_, _<_}
 use native.Mathlib.Nat.{eq-of-mul-eq-mul-right, mul-div-cancel}
@@ -8,6 +8,7 @@ use native.Mathlib.Omega.{arith}
 use lib.Dec.{T, eqb, eqb→eq}
 use lib.Ieee.{Float, binary32}
 use lib.Ieee.Fits.{eq→eqb}
+use Rattle.algebra.proofs.Booleans.{bool-iff}
 use Rattle.sqrt.specs.declared.root.Rooted.{Rooted}
 use Rattle.sqrt.specs.declared.root.Rooted.the-variants.{Exact, Rounded}
 use Rattle.sqrt.specs.Sqrt.{whole-root, dropped, exact, exact-root, rounded-root, exact-or-rounded, root-of}
@@ -17,15 +18,9 @@ use Rattle.sqrt.proofs.RoundedRoot.{root-above-zero}
 use Rattle.sqrt.proofs.RootPattern.{nearest-root-unique, scale-is-k}
 
 -- ---- the test of exactness: the whole root of n has the square n where the nearest number has it
-bool-same : (b c : Bool) → (T b → T c) → (T c → T b) → b ≡ c
-bool-same true true to back = refl
-bool-same false false to back = refl
-bool-same true false to back = absurd (to tt)
-bool-same false true to back = absurd (back tt)
-
 pub eqb-scaled : (a b h : ℕ) → 0 < h → eqb (a * h) (b * h) ≡ eqb a b
 eqb-scaled a b h h-pos =
-    bool-same (eqb (a * h) (b * h)) (eqb a b)
+    bool-iff (eqb (a * h) (b * h)) (eqb a b)
     (λ t. eq→eqb (eq-of-mul-eq-mul-right h h-pos a b (eqb→eq (a * h) (b * h) t)))
     (λ t. eq→eqb (ap (λ (n : ℕ). n * h) (eqb→eq a b t)))
 
@@ -45,7 +40,7 @@ whole-root-of-square n q r whole is =
 exact-by-nearest : (n r : ℕ) → 0 < n → NearestRoot n r → eqb (whole-root n * whole-root n) n ≡ eqb (r * r) n
 exact-by-nearest n r n-pos of-r =
     let q = whole-root n in
-    bool-same (eqb (q * q) n) (eqb (r * r) n)
+    bool-iff (eqb (q * q) n) (eqb (r * r) n)
     (λ t.
     let is : q * q ≡ n = eqb→eq (q * q) n t in
     eq→eqb (ap (λ (m : ℕ). m * m) (nearest-root-unique n r q of-r (square-is-nearest n q n-pos is)) ∙ is))

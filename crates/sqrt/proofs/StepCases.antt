@@ -3,12 +3,12 @@
 -- Assumes nothing.
 use mathlib.Core.Path.{_≡_, refl, sym, ap, _∙_, subst}
 use mathlib.Core.Logic.{inl, inr}
-use mathlib.Core.Bool.{Bool, true, false, not, cond, true≢false}
+use mathlib.Core.Bool.{Bool, true, false, not, cond, _||_, true≢false}
 use Prim.Native.Nat.{ℕ, zero, suc, _+_, _*_, _/_, _%_, _^_, _≤_, _<_}
-use native.Mathlib.Nat.{le-of-lt, le-antisymm, eq-or-lt-of-le}
+use native.Mathlib.Nat.{le-of-lt, le-antisymm, eq-or-lt-of-le, zero-lt-suc}
 use native.Mathlib.Nat.{zero-add, mul-one, zero-mul, mul-pos, mul-div-cancel}
 use native.Mathlib.Omega.{arith}
-use lib.Dec.{T, leb, eqb, le→leb}
+use lib.Dec.{T, leb, eqb, le→leb, leb→le, nleb→lt, eqb→eq}
 use lib.Pow.{pow-pos}
 use lib.IntN.{ℤ}
 use lib.Ieee.{Float, nan, inf, fin, binary32, up, down, odd, fits, isNan, ofFields, ofBits, toBits}
@@ -18,6 +18,7 @@ use lib.Ieee.Bits.{ofBits-toBits, is-true}
 use Rattle.sqrt.specs.declared.root.Rooted.{Rooted}
 use Rattle.sqrt.specs.declared.root.Rooted.the-variants.{Special}
 use Rattle.sqrt.specs.Sqrt.{radicand, exact-or-rounded, root-by-steps}
+use Rattle.algebra.proofs.Booleans.{or-fails, or-holds}
 use Rattle.rounding.proofs.Nan.{pattern-le-infinity}
 use Rattle.rounding.proofs.Patterns.{Units, fields-of-pattern}
 
@@ -117,16 +118,13 @@ pub steps-by-pattern : (x : Float) (s : Rooted) → T (fits binary32 x)
     → s ≡ root-by-steps binary32 (ofBits binary32 (toBits binary32 x)) → s ≡ root-by-steps binary32 x
 steps-by-pattern x s x-fits h = h ∙ ap (root-by-steps binary32) (ofBits-toBits binary32 x x-fits)
 
-pub zero-steps : (x : Float) → T (fits binary32 x) → toBits binary32 x ≡ 0 → OwnRoot x
-zero-steps x x-fits e = own-root-by-pattern x 0 x-fits e zero-own-root
-
 pub negative-steps : (x : Float) → T (fits binary32 x) → 2 ^ 31 < toBits binary32 x → toBits binary32 x < 2 ^ 32
     → Special nan ≡ root-by-steps binary32 x
 negative-steps x x-fits low high =
     steps-by-pattern x (Special nan) x-fits (sym (steps-of-negative (toBits binary32 x) low high))
 
 -- from infinity's pattern to that of -0 there are NaNs only
-pub infinity-to-minus-zero-steps : (x : Float) → T (fits binary32 x) → T (not (isNan x))
+infinity-to-minus-zero-steps : (x : Float) → T (fits binary32 x) → T (not (isNan x))
     → 255 * 2 ^ 23 ≤ toBits binary32 x → toBits binary32 x ≤ 2 ^ 31 → OwnRoot x
 infinity-to-minus-zero-steps x x-fits not-nan low high =
     elim (eq-or-lt-of-le high) [
@@ -137,4 +135,28 @@ infinity-to-minus-zero-steps x x-fits not-nan low high =
           let same : toBits binary32 x ≡ 255 * 2 ^ 23 = le-antisymm (pattern-le-infinity (toBits binary32 x) h back)
           low in
           own-root-by-pattern x (255 * 2 ^ 23) x-fits same infinity-own-root
+    ]
+
+-- ---- the code's test for what is special but NaN
+abbrev special-pattern : ℕ → Bool
+special-pattern b = eqb b 0 || leb (255 * 2 ^ 23) b
+
+pub above-zero-pattern : (b : ℕ) → special-pattern b ≡ false → (0 < b) × (b < 255 * 2 ^ 23)
+above-zero-pattern b h =
+    let both = or-fails (eqb b 0) (leb (255 * 2 ^ 23) b) h in
+    (not-zero b (both .0), nleb→lt (255 * 2 ^ 23) b (subst (λ (t : Bool). T (not t)) (sym (both .1)) tt))
+  where
+    not-zero : (b : ℕ) → eqb b 0 ≡ false → 0 < b
+    not-zero zero h = absurd (true≢false h)
+    not-zero (suc b) h = zero-lt-suc b
+
+pub own-steps : (x : Float) → T (fits binary32 x) → T (not (isNan x)) → special-pattern (toBits binary32 x) ≡ true
+    → toBits binary32 x ≤ 2 ^ 31 → OwnRoot x
+own-steps x x-fits not-nan h high =
+    let b = toBits binary32 x in
+    elim (or-holds (eqb b 0) (leb (255 * 2 ^ 23) b) h) [
+      | inl is ↦ own-root-by-pattern x 0 x-fits (eqb→eq b 0 (subst T (sym is) tt)) zero-own-root
+      | inr is ↦
+          let low = leb→le (255 * 2 ^ 23) b (subst T (sym is) tt) in
+          infinity-to-minus-zero-steps x x-fits not-nan low high
     ]

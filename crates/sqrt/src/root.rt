@@ -28,16 +28,12 @@ pub fn root_by_steps(x: f32) -> Rooted
         return Rooted::Special(x);
     }
     let b = f32::to_bits(x) as u64;
-    // A zero gives itself (6.3).
-    if b == 0 {
-        return Rooted::Special(x);
-    }
-    if b >= INFINITE {
+    if (b == 0) | (b >= INFINITE) {
         // Below 0 the operation is invalid and gives NaN (7.2 g).
         if b > SIGN {
             return Rooted::Special(0.0 / 0.0);
         }
-        // Infinity (6.1) and -0 (6.3) give themselves.
+        // Zeros (6.3) and infinity (6.1) give themselves.
         return Rooted::Special(x);
     }
     // Exact results: what fits is not rounded (4.3). The root is √n behind an exponent, and r the nearest whole number.

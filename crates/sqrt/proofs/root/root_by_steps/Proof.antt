@@ -12,8 +12,7 @@ use borrow.Author.Needs.{needs}
 use Rattle.rounding.proofs.Nan.{nan-of-differs, not-nan-of-same, not-nan-pattern, zero-over-zero}
 use Rattle.sqrt.specs.declared.root.Rooted.the-variants.{Special}
 use Rattle.sqrt.proofs.RootPattern.{nearest-root-le-2^24}
-use Rattle.sqrt.proofs.StepCases.{nan-own-root, zero-steps, negative-steps, infinity-to-minus-zero-steps}
-use Rattle.sqrt.proofs.StepCases.{steps-by-pattern}
+use Rattle.sqrt.proofs.StepCases.{nan-own-root, negative-steps, own-steps, above-zero-pattern, steps-by-pattern}
 use Rattle.sqrt.proofs.RootDigits.{exact-step, rounded-step}
 use Rattle.sqrt.proofs.root.root_by_steps.Statement.{statement}
 use Rattle.sqrt.proofs.root.root_by_steps.Tie as tie
@@ -35,23 +34,19 @@ cast-b : tie.Need-cast-b
 cast-b c = omega (arith, toBits-lt binary32 (c .before .args .x) (x-fits (c .before)))
 
 returns-2 : tie.Need-returns-2
-returns-2 c = zero-steps _ (x-fits (c .before .before)) (c .if2 .taken)
-
-returns-3 : tie.Need-returns-3
-returns-3 c =
-    let s = c .before .before .before .before in
+returns-2 c =
+    let s = c .before .before .before in
     let x = s .args .x in
     ap Special zero-over-zero
     ∙ negative-steps x (x-fits s) (omega arith) (toBits-lt binary32 x (x-fits s))
 
-returns-4 : tie.Need-returns-4
-returns-4 c =
-    let e = c .before .before .before in
-    let x = e .before .args .x in
-    infinity-to-minus-zero-steps x (x-fits (e .before)) (not-nan e) (omega arith) (omega arith)
+returns-3 : tie.Need-returns-3
+returns-3 c =
+    let e = c .before .before in
+    own-steps (e .before .args .x) (x-fits (e .before)) (not-nan e) (c .before .if2 .taken) (omega arith)
 
 digits-requires : tie.Need-digits-requires
-digits-requires c κs = search needs
+digits-requires c κs = above-zero-pattern _ (c .if2 .left)
 
 -- ---- the digits
 root-small : (c : tie.After-struct-known) → c .before .digits .result .root ≤ 2 ^ 24
@@ -74,21 +69,21 @@ float-from-bits-root c =
     let k-small = c .before .digits .ensures .k-high in
     not-nan-pattern _ (omega arith)
 
-mul-if5 : tie.Need-mul-if5
-mul-if5 c = omega (arith, mul-le-mul (root-small c) (root-small c))
+mul-if4 : tie.Need-mul-if4
+mul-if4 c = omega (arith, mul-le-mul (root-small c) (root-small c))
 
 -- ---- exact results, rounding
+returns-4 : tie.Need-returns-4
+returns-4 c =
+    let known = c .before .before .before in
+    let s = known .before .before .before in
+    steps-by-pattern (s .args .x) _ (x-fits s) (exact-step _ _ _ _ (known .digits .ensures) (c .if4 .taken))
+
 returns-5 : tie.Need-returns-5
 returns-5 c =
     let known = c .before .before .before in
-    let s = known .before .before .before .before in
-    steps-by-pattern (s .args .x) _ (x-fits s) (exact-step _ _ _ _ (known .digits .ensures) (c .if5 .taken))
-
-returns-6 : tie.Need-returns-6
-returns-6 c =
-    let known = c .before .before .before in
-    let s = known .before .before .before .before in
-    steps-by-pattern (s .args .x) _ (x-fits s) (rounded-step _ _ _ _ (known .digits .ensures) (c .if5 .left))
+    let s = known .before .before .before in
+    steps-by-pattern (s .args .x) _ (x-fits s) (rounded-step _ _ _ _ (known .digits .ensures) (c .if4 .left))
 
 pub root-by-steps-spec : {M : Type 1} → statement M
 root-by-steps-spec =
@@ -99,12 +94,11 @@ root-by-steps-spec =
     cast-b
     returns-2
     returns-3
-    returns-4
     digits-requires
     mul-root
     add-root
     cast-root
     float-from-bits-root
-    mul-if5
-    returns-5
-    returns-6)
+    mul-if4
+    returns-4
+    returns-5)

@@ -1,26 +1,24 @@
--- The program ends: each operand is printed once. Assumes nothing.
-use mathlib.Core.Path.{_≡_, refl}
-use Prim.Native.Nat.{_≤_, _-_}
-use native.Mathlib.Omega.{arith}
+-- i is a place of the operands: each is printed once. Assumes nothing.
+use Prim.Native.Nat.{_<_, _≤_, _-_, _*_, _^_}
 use lib.ListN.{length}
 use borrow.Author.Needs.{needs}
-use Rattle.roots.proofs.main.Statement.{statement}
-use Rattle.roots.proofs.main.Tie as tie
+use Rattle.roots.proofs.print_roots.Statement.{statement}
+use Rattle.roots.proofs.print_roots.Tie as tie
 
 abbrev Inv-loop : tie.InvT-loop
-Inv-loop operands i₀ i = (i ≤ 192) × (length operands ≡ 192)
+Inv-loop operands i₀ i = (i ≤ length operands) × (length operands < 2 ^ 64) × (length operands * 4 < 2 ^ 63)
 
 abbrev μ-loop : tie.MeasureT-loop
-μ-loop operands i₀ i = 192 - i
+μ-loop operands i₀ i = length operands - i
 
 loop-holds : tie.Need-loop-holds Inv-loop μ-loop
-loop-holds c = (omega arith, refl)
+loop-holds c = search needs
 
 mul-print-root : tie.Need-mul-print-root Inv-loop μ-loop
 mul-print-root c = search needs
 
-array-read-print-root : tie.Need-array-read-print-root Inv-loop μ-loop
-array-read-print-root c = search needs
+shared-slice-read-print-root : tie.Need-shared-slice-read-print-root Inv-loop μ-loop
+shared-slice-read-print-root c = search needs
 
 print-root-requires : tie.Need-print-root-requires Inv-loop μ-loop
 print-root-requires c κs = search needs
@@ -37,15 +35,15 @@ loop-again c = search needs
 returns : tie.Need-returns Inv-loop μ-loop
 returns c = search needs
 
-pub main-spec : {M : Type 1} → statement M
-main-spec =
+pub print-roots-spec : {M : Type 1} → statement M
+print-roots-spec =
     tie.close
     (tie.spec
     Inv-loop
     μ-loop
     loop-holds
     mul-print-root
-    array-read-print-root
+    shared-slice-read-print-root
     print-root-requires
     add-i
     loop-less
