@@ -41,7 +41,9 @@ extern "C" {
      16, x, y                                  the vector (x, y) made unit: refusal, length, x, y; a length
                                                below 2^-23 is given as 0 and changes nothing
      17, turn number                           its heading, in 4,096ths of a turn: refusal, sine, cosine; 14, 0, 0
-                                               above 4,095 */
+                                               above 4,095
+     18, x                                     the square root of x and the step that gives it: refusal, step (0
+                                               special operands, 1 exact results, 2 rounding), root */
 uint32_t calls(const uint8_t *input, size_t input_length, uint8_t *out, size_t out_length);
 
 /* The records of the outline builder, as the code has them. */

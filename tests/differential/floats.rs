@@ -1,4 +1,4 @@
-//! Requests of entries 15 and 16: the root of a float, and a vector made unit.
+//! Requests of entries 15, 16 and 18: the root of a float, a vector made unit, and the root with its step.
 use crate::generators::float;
 use crate::support::Random;
 
@@ -32,4 +32,11 @@ pub fn root(random: &mut Random) -> Vec<u32> {
 pub fn normalize(random: &mut Random) -> Vec<u32> {
     let (x, y) = (float(random), float(random));
     vec![16, x.to_bits(), if random.once_in(4) { x } else { y }.to_bits()]
+}
+
+/// A square of few digits in one of four, so that many roots are exact.
+pub fn root_step(random: &mut Random) -> Vec<u32> {
+    let x = float(random);
+    let few = f32::from_bits(x.to_bits() & 0xffff_f000);
+    vec![18, if random.once_in(4) { few * few } else { x }.to_bits()]
 }

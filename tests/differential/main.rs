@@ -26,6 +26,9 @@ mod rust_contacts;
 #[cfg(papers)]
 mod rust_oracle;
 mod shapes;
+#[cfg(papers)]
+#[path = "../shared/steps.rs"]
+mod steps;
 #[path = "../shared/support.rs"]
 mod support;
 mod table;

@@ -1,6 +1,7 @@
 //! The unmodified Rust behind the request numbers of `calls`, on words. A panic of the Rust is `None`. Contacts are
 //! in rust_contacts.
 use crate::rust_contacts;
+use crate::steps::step;
 use box2d_rs::b2_common::B2_POLYGON_RADIUS;
 use box2d_rs::b2_math::{b2_sqrt, B2vec2};
 use box2d_rs::private::collision::{b2_edge_shape, b2_polygon_shape};
@@ -108,6 +109,11 @@ fn record(request: &[u32]) -> Vec<u32> {
             let mut words = vec![v.normalize().to_bits()];
             words.extend(vec_words(v));
             words
+        }
+        18 => {
+            let x = from.number();
+            let root = b2_sqrt(x);
+            vec![step(x, root), root.to_bits()]
         }
         entry => rust_contacts::record(entry, from),
     }

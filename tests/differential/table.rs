@@ -113,6 +113,20 @@ const ROOT: Row = Row {
     ..BOX
 };
 
+/// The steps of the root, by the papers' words.
+const STEPS: [&str; 3] = ["special", "exact", "rounded"];
+const ROOT_STEP: Row = Row {
+    name: "step of the root",
+    entry: 18,
+    stored: "steps",
+    generate: floats::root_step,
+    record: 2,
+    plain: &[0],
+    kinds: |_, answer| vec![STEPS[answer[1] as usize]],
+    wanted: &STEPS,
+    ..ROOT
+};
+
 /// The heading of a turn number, which no reference has: tests/programs/sines compares it with an outside program; here
 /// it is only asked for in requests that are none.
 pub const HEADING: Row = Row {
@@ -243,4 +257,5 @@ pub const TABLE: &[Row] = &[
         wanted: &["NaN", "infinity", "-0", "+0", "subnormal", "below 0", "normal", "kept as it was", "made unit"],
         ..ROOT
     },
+    ROOT_STEP,
 ];

@@ -1,8 +1,11 @@
-//! Our root against the hardware's, and the step that it took against the papers' words, over every STRIDE-th of all
+//! Our root against the hardware's, and the step that gave it against the papers' words, over every STRIDE-th of all
 //! 2^32 operands. usage: all_roots STRIDE
+#[path = "../shared/steps.rs"]
+mod steps;
+
 extern "C" {
     fn direct_root(x: f32) -> f32;
-    fn direct_step(x: f32) -> u32;
+    fn calls(input: *const u8, input_len: usize, out: *mut u8, out_len: usize) -> u32;
 }
 
 const STEPS: [&str; 3] = ["special", "exact", "rounded"];
@@ -15,16 +18,14 @@ fn bits(x: f32) -> u32 {
     }
 }
 
-/// Special are zeros, infinities, NaNs and all below 0; exact are the others whose root is an f32; the rest are
-/// rounded. A product of two f32 is exact as an f64.
-fn step(x: f32, root: f32) -> usize {
-    if x.is_nan() || x.is_infinite() || x <= 0.0 {
-        0
-    } else if root as f64 * root as f64 == x as f64 {
-        1
-    } else {
-        2
-    }
+/// Entry 18 of the test door: the step, and the root.
+fn stepped(x: u32) -> (u32, u32) {
+    let [a, b, c, d] = x.to_be_bytes();
+    let (request, mut answer) = ([0, 0, 0, 18, a, b, c, d], [0u8; 12]);
+    let words = unsafe { calls(request.as_ptr(), request.len(), answer.as_mut_ptr(), answer.len()) };
+    assert_eq!((words, &answer[..4]), (3, &[0; 4][..]), "entry 18 answers three words, the first 0");
+    let word = |i: usize| u32::from_be_bytes(answer[i..i + 4].try_into().expect("four bytes"));
+    (word(4), word(8))
 }
 
 fn main() {
@@ -32,20 +33,22 @@ fn main() {
     let (mut operands, mut differences, mut taken) = (0u64, 0u64, [0u64; 3]);
     for n in (0..1u64 << 32).step_by(stride as usize) {
         let x = f32::from_bits(n as u32);
-        let (ours, our_step) = unsafe { (direct_root(x), direct_step(x) as usize) };
-        let (theirs, their_step) = (x.sqrt(), step(x, x.sqrt()));
+        let root = x.sqrt();
+        let (ours, theirs) = (bits(unsafe { direct_root(x) }), bits(root));
+        let (step, root_of_step) = stepped(n as u32);
+        let their_step = steps::step(x, root);
         operands += 1;
-        taken[their_step] += 1;
-        if bits(ours) != bits(theirs) || our_step != their_step {
+        taken[their_step as usize] += 1;
+        if (ours, root_of_step, step) != (theirs, theirs, their_step) {
             differences += 1;
             if differences <= 5 {
-                let (o, t) = (bits(ours), bits(theirs));
-                println!("  root of {n:08x}: {o:08x}, step {our_step}; the hardware's {t:08x}, step {their_step}");
+                println!("  root of {n:08x}: {ours:08x}, by step {step} {root_of_step:08x}");
+                println!("  the hardware's {theirs:08x}, by step {their_step}");
             }
         }
     }
+    let counts: Vec<String> = (0..3).map(|k| format!("{} {}", taken[k], STEPS[k])).collect();
     let word = if differences == 0 { "ok" } else { "FAILED" };
-    println!("{word} root against the hardware: {operands} operands, {differences} differences");
-    (0..3).for_each(|k| println!("  {} {}", STEPS[k], taken[k]));
+    println!("{word} root against the hardware: {operands} operands, {}, {differences} differences", counts.join(", "));
     std::process::exit((differences > 0 || taken.contains(&0)) as i32);
 }

@@ -5,6 +5,7 @@ pub mod StepCases
 pub mod ExactStep
 pub mod RootDigits
 pub mod SpecialOperands
+pub mod StepTests
 pub mod SqrtLaw
 pub mod SqrtOrder
 pub mod Neighbours

@@ -11,7 +11,7 @@ use lib.IntN.{ℤ}
 use lib.Ieee.{Float, nan, inf, fin, binary32, up, down, fits}
 use lib.Ieee.Fits.{up-pos}
 use Rattle.algebra.specs.Integer.{Z, whole, signed, _≐_, _≺_}
-use Rattle.rounding.specs.Value.{metre, F32, sign, mag, val}
+use Rattle.rounding.specs.Value.{metre, F32, mag, val}
 use Rattle.rounding.proofs.Value.{metre-pos, has-value, mag-zero, val-zero, positive-sign}
 use Rattle.sqrt.specs.declared.root.Rooted.the-variants as rooted
 use Rattle.sqrt.specs.Sqrt.{special, root-by-steps, sqrt}
@@ -39,6 +39,10 @@ below g h = omega arith
 
 above : (g : ℕ) → 0 < g → whole 0 ≺ whole g
 above g h = omega arith
+
+pub minus-below : (m : ℕ) (e : ℤ) → F32 (fin true (suc m) e) → val (fin true (suc m) e) ≺ whole 0
+unfolding val
+minus-below m e own = below (mag (fin true (suc m) e)) (mag-pos true m e own)
 
 -- ---- special operands, by their words and by the test
 zero-test : (x : Float) → F32 x → val x ≐ whole 0 → special x ≡ true
@@ -87,7 +91,7 @@ kind (fin s zero e) x-fits =
     inl (is-zero own (rw (val-zero s e) refl))
 kind (fin true (suc m) e) x-fits =
     let own : F32 (fin true (suc m) e) = record { in-format = x-fits; is-finite = tt } in
-    inl (is-below-zero own (below (mag (fin true (suc m) e)) (mag-pos true m e own)))
+    inl (is-below-zero own (minus-below m e own))
 kind (fin false (suc m) e) x-fits =
     let own : F32 (fin false (suc m) e) = record { in-format = x-fits; is-finite = tt } in
     inr (record { own = own; positive = above (mag (fin false (suc m) e)) (mag-pos false m e own) })

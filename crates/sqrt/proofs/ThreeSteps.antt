@@ -2,14 +2,12 @@
 use mathlib.Core.Path.{_≡_, refl, sym, ap, ap₂, _∙_, subst}
 use mathlib.Core.Logic.{_⊎_, inl, inr}
 use mathlib.Core.Bool.{Bool, true, false, true≢false}
-use Prim.Native.Nat.{ℕ, _+_, _*_, _^_, _≤_, _<_}
+use Prim.Native.Nat.{ℕ, _*_, _^_, _≤_, _<_}
 use native.Mathlib.Nat.{le-of-eq, le-antisymm, lt-irrefl, lt-trans, lt-of-not-le, mul-mul-mul-comm}
 use native.Mathlib.Decide.{decLe}
-use native.Mathlib.Omega.{arith}
 use lib.Dec.{T, eqb, eqb→eq}
 use lib.Ieee.{Float, binary32, fits}
 use lib.Ieee.Bits.{is-true}
-use lib.Ieee.Exact.{HasValue}
 use lib.Ieee.Fits.{eq→eqb}
 use Rattle.algebra.specs.Integer.{whole, _≺_}
 use Rattle.rounding.specs.Value.{metre, F32, mag, val}
@@ -17,7 +15,7 @@ use Rattle.rounding.proofs.Patterns.{Units, same-units-equal}
 use Rattle.sqrt.specs.declared.root.Rooted.{Rooted}
 use Rattle.sqrt.specs.declared.root.Rooted.the-variants as rooted
 use Rattle.sqrt.specs.Sqrt.{root-by-steps, sqrt}
-use Rattle.sqrt.specs.Steps.{SquareIs, Special, Exact, Rounded, ExactGives, Nearest, RoundedGives, ThreeSteps}
+use Rattle.sqrt.specs.Steps.{SquareIs, Special, Exact, Rounded, ExactGives, Nearest, ThreeSteps}
 use Rattle.sqrt.proofs.WholeRoot.{four-pow, four-pow-pos}
 use Rattle.sqrt.proofs.SqrtLaw.{units-are, steps-are, sqrt-is, sqrt-law, root-mag}
 use Rattle.sqrt.proofs.SqrtOrder.{sqrt-above, sqrt-below}

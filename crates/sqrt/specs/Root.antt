@@ -10,8 +10,8 @@ pub record NearestRoot (n r : ℕ) : Type 0 where
   pub not-over : r * r < n + r
   pub not-under : n ≤ r * r + r
 
--- The digits of the root of the number whose pattern is b, which is above 0: the root is √(n * 4^k) smallest units, n has
--- 47 or 48 digits, and r is √n to the nearest whole number.
+-- The digits of the root of the number whose pattern is b, which is above 0: the root is √(n * 4^k) smallest units, n
+-- has 47 or 48 digits, and r is √n to the nearest whole number.
 pub record DigitsOf (b n r k : ℕ) : Type 0 where
   pub steps : root-by-steps binary32 (ofBits binary32 b) ≡ exact-or-rounded binary32 (n * 4 ^ k)
   pub n-low : 2 ^ 46 ≤ n

@@ -1,6 +1,6 @@
 -- Request 04: each operand takes exactly one of the three steps, and what that step gives. Said by the papers' words and
--- by exact values, whole numbers of 2^-149, so that √x has the square `mag x * metre`. Definitions only.
-use Prim.Native.Nat.{ℕ, _+_, _*_, _<_}
+-- by exact values, in whole numbers of 2^-149: √x has the square `mag x * metre`. Definitions only.
+use Prim.Native.Nat.{_+_, _*_, _<_}
 use mathlib.Core.Path.{_≡_}
 use mathlib.Core.Bool.{Bool, true, false}
 use mathlib.Core.Logic.{_⊎_}
@@ -48,8 +48,8 @@ pub record ExactGives (x r : Float) : Type 0 where
   pub is : SquareIs x r
   pub only : (y : Float) → F32 y → whole 0 ≺ val y → SquareIs x y → y ≡ r
 
--- the f32 r lies nearer to √x than any other of its sign: √x is above the middle between r and a lower one and below
--- that between r and a higher one, by squares. Nothing is in a middle, so no tie happens.
+-- the f32 r lies nearer to √x than any other y: √x is above the middle between r and a lower y and below the middle
+-- between r and a higher one, by squares. It is in no middle, so no tie happens. A y below 0 is further off than 0.
 pub record Nearest (x r : Float) : Type 0 where
   pub own : F32 r
   pub positive : whole 0 ≺ val r

@@ -7,7 +7,7 @@ ghost use Rattle.sqrt.specs.Root.{NearestRoot, DigitsOf};
 use crate::parabolas;
 use std::num;
 
-// 2^23, the first digit of a significand, is what the exponent counts: from there on bit patterns are of normal numbers.
+// 2^23, the first digit of a significand, is what the exponent counts: bit patterns from there on are normal numbers'.
 pub const LEADING: u64 = 8388608;
 
 // √n to the nearest whole number, by halving an interval.

@@ -1,16 +1,12 @@
 // The square root of IEEE 754-2019, squareRoot (5.4.1), in the order of its text: special operands, exact results,
 // rounding. digits.rt finds the digits of the last two.
 ghost use mathlib.Core.Path.{_≡_};
-ghost use lib.Ieee.{binary32};
-ghost use Rattle.sqrt.specs.Sqrt.{root-by-steps, sqrt};
+ghost use mathlib.Core.Bool.{true};
+ghost use Prim.Native.Nat.{_*_, _^_, _<_};
+ghost use lib.Ieee.{binary32, ofBits};
+ghost use Rattle.sqrt.specs.Sqrt.{special, special-root, root-by-steps, sqrt};
 use crate::digits;
 use crate::digits::LEADING;
-
-// Bit patterns. 255 * 2^23: infinity.
-const INFINITE: u64 = 2139095040;
-
-// 2^31: -0.
-const SIGN: u64 = 2147483648;
 
 // The step that an operand takes, and its root.
 pub enum Rooted {
@@ -19,32 +15,46 @@ pub enum Rooted {
     Rounded(f32),
 }
 
-// The square root, correctly rounded, and the step that gave it.
-pub fn root_by_steps(x: f32) -> Rooted
-    ensures { λ r. ⌜ r ≡ root-by-steps binary32 x ⌝ }
+// Special operands: zeros, infinities, NaNs and all below 0. Below 0 the operation is invalid and gives NaN (7.2 g). A
+// NaN gives NaN (6.2), infinity itself (6.1), and a zero itself, -0 too (6.3).
+fn special_root(x: f32) -> f32
+    requires { ⌜ special x ≡ true ⌝ }
+    ensures { λ r. ⌜ r ≡ special-root x ⌝ }
 {
-    // Special operands. A NaN gives NaN (6.2).
-    if x != x {
-        return Rooted::Special(x);
-    }
-    let b = f32::to_bits(x) as u64;
-    if (b == 0) | (b >= INFINITE) {
-        // Below 0 the operation is invalid and gives NaN (7.2 g).
-        if b > SIGN {
-            return Rooted::Special(0.0 / 0.0);
-        }
-        // Zeros (6.3) and infinity (6.1) give themselves.
-        return Rooted::Special(x);
-    }
-    // Exact results: what fits is not rounded (4.3). The root is √n behind an exponent, and r the nearest whole number.
+    if x < 0.0 { 0.0 / 0.0 } else { x }
+}
+
+// Exact results, then rounding: the root of the number whose pattern is b is √n behind an exponent, and r the whole number
+// nearest to √n.
+fn exact_or_rounded(b: u64) -> Rooted
+    requires { ⌜ (0 < b) × (b < 255 * 2 ^ 23) ⌝ }
+    ensures { λ r. ⌜ r ≡ root-by-steps binary32 (ofBits binary32 b) ⌝ }
+{
     let d = digits::digits(b);
     let r = d.root;
     let root = f32::from_bits((d.exponent * LEADING + r) as u32);
+    // A result that fits is not rounded (4.3).
     if r * r == d.n {
         return Rooted::Exact(root);
     }
-    // Rounding, to the nearest (4.3.1): r it is, and no other number is as near.
+    // The nearest number is given (4.3.1), and no other is as near.
     Rooted::Rounded(root)
+}
+
+// 255 * 2^23: the bit pattern of infinity.
+const INFINITE: u64 = 2139095040;
+
+// The square root, correctly rounded, and the step that gives it. What is above 0 and below infinity is not special.
+pub fn root_by_steps(x: f32) -> Rooted
+    ensures { λ r. ⌜ r ≡ root-by-steps binary32 x ⌝ }
+{
+    if x > 0.0 {
+        let b = f32::to_bits(x) as u64;
+        if b < INFINITE {
+            return exact_or_rounded(b);
+        }
+    }
+    Rooted::Special(special_root(x))
 }
 
 // The square root, whichever step gave it.

@@ -6,7 +6,7 @@ use mathlib.Core.Bool.{cond}
 use mathlib.Core.List.{List, []}
 use lib.Dec.{ltb, eqb}
 use lib.ListN.{length}
-use Rattle.test_entries.specs.Numbers.{root-answer, normalize-answer, heading-answer}
+use Rattle.test_entries.specs.Numbers.{root-answer, normalize-answer, heading-answer, root-step-answer}
 use Rattle.test_entries.specs.ByNumber.{shape-answer}
 use Rattle.test_entries.specs.ByNumber.{contact-answer}
 use Rattle.wire.specs.Words.{word-at}
@@ -17,7 +17,8 @@ entry-answer entry request =
     cond (eqb entry 15) (root-answer request)
     (cond (eqb entry 16) (normalize-answer request)
     (cond (eqb entry 17) (heading-answer request)
-    (cond (ltb entry 7) (shape-answer entry request) (contact-answer entry request))))
+    (cond (eqb entry 18) (root-step-answer request)
+    (cond (ltb entry 7) (shape-answer entry request) (contact-answer entry request)))))
 
 unfoldable pub answer : List ℕ → List ℕ
 answer request = cond (ltb (length request) 4) [] (entry-answer (word-at request 0) request)

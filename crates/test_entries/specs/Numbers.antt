@@ -4,6 +4,10 @@ use Prim.Native.Nat.{ℕ}
 use mathlib.Core.Bool.{true, cond}
 use mathlib.Core.List.{List, [], _∷_}
 use lib.Dec.{ltb}
+use lib.Ieee.{Float, binary32}
+use Rattle.sqrt.specs.declared.root.Rooted.{Rooted}
+use Rattle.sqrt.specs.declared.root.Rooted.the-variants.{Special, Exact, Rounded}
+use Rattle.sqrt.specs.Sqrt.{root-by-steps}
 use Rattle.floats.specs.declared.b2_math.B2Rot.{B2Rot}
 use Rattle.floats.specs.declared.b2_math.Normalized.{Normalized}
 use Rattle.floats.specs.B2Math.{vec2, b2-sqrt, b2-normalize}
@@ -36,3 +40,15 @@ turn-words number = cond (ltb largest-turn number) (unknown-turn ∷ 0 ∷ 0 ∷
 
 unfoldable pub heading-answer : List ℕ → List ℕ
 heading-answer request = well-formed 2 true request (turn-words (word-at request 1))
+
+-- 18, x: the step that gave the root, 0 special, 1 exact, 2 rounded, and the root
+abbrev pub given : ℕ → Float → List ℕ
+given step r = 0 ∷ step ∷ bits r ∷ []
+
+abbrev pub step-words : Rooted → List ℕ
+step-words (Special r) = given 0 r
+step-words (Exact r) = given 1 r
+step-words (Rounded r) = given 2 r
+
+unfoldable pub root-step-answer : List ℕ → List ℕ
+root-step-answer request = well-formed 2 true request (step-words (root-by-steps binary32 (float-at request 1)))

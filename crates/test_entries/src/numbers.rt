@@ -1,12 +1,15 @@
 // The root, unit vectors and headings.
 ghost use Rattle.wire.specs.Words.{Written};
 ghost use Rattle.test_entries.specs.Numbers.{root-answer, normalize-answer, heading-answer};
+ghost use Rattle.test_entries.specs.Numbers.{root-step-answer, given};
 use floats::b2_math;
 use floats::b2_math::B2vec2;
 use floats::bits;
 use headings::turns;
 use record_definitions::world::LARGEST_TURN;
 use shape_definitions::refusal;
+use sqrt::root;
+use sqrt::root::Rooted;
 use wire::words;
 
 // 15, x: the root.
@@ -56,4 +59,26 @@ pub fn heading(input: &[u8], out: &mut [u8]) -> u32
     let q = turns::heading(&sines, number);
     let answer = [0, bits::f32_to_bits(q.s), bits::f32_to_bits(q.c)];
     words::put_words(out, &answer)
+}
+
+fn put_step(step: u32, r: f32, out: &mut [u8]) -> u32
+    ensures { λ n. ⌜ Written (given step r) (now (out .entry)) n (now (out .exit)) ⌝ }
+{
+    let answer = [0, step, bits::f32_to_bits(r)];
+    words::put_words(out, &answer)
+}
+
+// 18, x: the step that gave the root, 0 special, 1 exact, 2 rounded, and the root.
+pub fn root_step(input: &[u8], out: &mut [u8]) -> u32
+    ensures { λ r. ⌜ Written (root-step-answer (now (input .entry))) (now (out .entry)) r (now (out .exit)) ⌝ }
+{
+    if input.len() != 8 {
+        return 0;
+    }
+    let x = bits::f32_from_bits(words::word(input, 1));
+    match root::root_by_steps(x) {
+        Rooted::Special(r) => put_step(0, r, out),
+        Rooted::Exact(r) => put_step(1, r, out),
+        Rooted::Rounded(r) => put_step(2, r, out),
+    }
 }

@@ -1,6 +1,6 @@
 -- `normal_digits` meets its contract: what the code takes the root of, and the exponent of its result, are those of
 -- f * 2^(g - 277), f being the significand and g the exponent and 127. Assumes nothing.
-use mathlib.Core.Path.{_≡_, sym, ap, ap₂, _∙_, subst}
+use mathlib.Core.Path.{_≡_, sym, ap, _∙_, subst}
 use Prim.Native.Nat.{ℕ, _+_, _-_, _*_, _/_, _%_, _^_, _≤_, _<_}
 use native.Mathlib.Omega.{arith}
 use borrow.Author.Needs.{needs}

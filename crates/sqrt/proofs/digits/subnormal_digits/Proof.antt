@@ -4,7 +4,6 @@ use mathlib.Core.Path.{_≡_, refl, _∙_}
 use Prim.Native.Nat.{_+_, _-_, _*_, _^_, _≤_, _<_}
 use native.Mathlib.Omega.{arith}
 use lib.Dec.{lit≤}
-use borrow.Author.Needs.{needs}
 use Rattle.sqrt.proofs.RootPattern.{doubled-scale, scale-above-105, widened, widened-bounds}
 use Rattle.sqrt.proofs.RootDigits.{subnormal-digits-of}
 use Rattle.sqrt.proofs.digits.subnormal_digits.Statement.{statement}
