@@ -13,32 +13,31 @@ use lib.Ieee.Fits.{eq→eqb}
 use borrow.Author.Tests.{ne-eqb}
 use Rattle.rounding.proofs.Patterns.{Units, normal-units, subnormal-units}
 use Rattle.sqrt.specs.declared.root.Rooted.the-variants.{Exact, Rounded}
-use Rattle.sqrt.specs.Sqrt.{exact-or-rounded, root-by-steps}
-use Rattle.sqrt.specs.Root.{NearestRoot, DigitsOf}
+use Rattle.sqrt.specs.Sqrt.{exact-or-rounded}
+use Rattle.sqrt.specs.Root.{NearestRoot, RoundedDigits, DigitsOf}
 use Rattle.sqrt.proofs.RootPattern.{rounded-root-pattern, widened, widened-bounds, widened-scaled}
 use Rattle.sqrt.proofs.StepCases.{steps-of-units}
 use Rattle.sqrt.proofs.ExactStep.{step, step-is, exact-is}
 
--- ---- the step of the number whose pattern is b, by r
-module _ (b n r k : ℕ) (of-b : DigitsOf b n r k) where
+-- ---- the step of √(n * 4^k), by r
+module _ (n r k : ℕ) (found : RoundedDigits n r k) where
   root : Float
   root = ofBits binary32 (k * 2 ^ 23 + r)
 
-  by-square : (t : Bool) → eqb (r * r) n ≡ t → step t root root ≡ root-by-steps binary32 (ofBits binary32 b)
+  by-square : (t : Bool) → eqb (r * r) n ≡ t → step t root root ≡ exact-or-rounded binary32 (n * 4 ^ k)
   unfolding root
   by-square t is =
       let pattern =
-      rounded-root-pattern n k (of-b .n-low) (of-b .n-high) r (of-b .k-low) (of-b .k-high) (of-b .nearest) in
-      ap (λ (u : Bool). step u root root) (sym (exact-is n r k (of-b .n-low) (of-b .n-high) (of-b .nearest) ∙ is))
-      ∙ step-is (n * 4 ^ k) root pattern ∙ sym (of-b .steps)
+      rounded-root-pattern n k (found .n-low) (found .n-high) r (found .k-low) (found .k-high) (found .nearest) in
+      ap (λ (u : Bool). step u root root) (sym (exact-is n r k (found .n-low) (found .n-high) (found .nearest) ∙ is))
+      ∙ step-is (n * 4 ^ k) root pattern
 
-  pub exact-step : r * r ≡ n
-      → Exact (ofBits binary32 (k * 2 ^ 23 + r)) ≡ root-by-steps binary32 (ofBits binary32 b)
+  pub exact-step : r * r ≡ n → Exact (ofBits binary32 (k * 2 ^ 23 + r)) ≡ exact-or-rounded binary32 (n * 4 ^ k)
   unfolding root
   exact-step is = by-square true (is-true (eqb (r * r) n) (eq→eqb is))
 
   pub rounded-step : (r * r ≡ n → ⊥)
-      → Rounded (ofBits binary32 (k * 2 ^ 23 + r)) ≡ root-by-steps binary32 (ofBits binary32 b)
+      → Rounded (ofBits binary32 (k * 2 ^ 23 + r)) ≡ exact-or-rounded binary32 (n * 4 ^ k)
   unfolding root
   rounded-step differs = by-square false (ne-eqb (r * r) n differs)
 
@@ -52,11 +51,13 @@ digits-of b u f g r units u-pos same f-low f-high g-low g-high r-nearest =
       steps =
           steps-of-units (ofBits binary32 b) u units u-pos
           ∙ ap (exact-or-rounded binary32) (same ∙ widened-scaled f g (omega arith));
-      n-low = bounds .0;
-      n-high = bounds .1;
-      k-low = omega arith;
-      k-high = omega arith;
-      nearest = r-nearest;
+      found = record {
+        n-low = bounds .0;
+        n-high = bounds .1;
+        k-low = omega arith;
+        k-high = omega arith;
+        nearest = r-nearest;
+      };
     }
 
 -- normal numbers: b is its exponent times 2^23, and its digits

@@ -1,55 +1,38 @@
--- The code's tests, x > 0, infinity's pattern and x < 0, tell the definition's special operands and what they give.
--- Assumes nothing.
+-- The code's tests tell the definition's special operands, and x < 0 what they give. Assumes nothing.
 use mathlib.Core.Path.{_≡_, refl, sym, ap, _∙_, subst}
-use mathlib.Core.Logic.{inl, inr}
-use mathlib.Core.Bool.{Bool, true, false, not, true≢false}
-use Prim.Native.Nat.{ℕ, zero, suc, _*_, _^_, _≤_, _<_}
-use native.Mathlib.Nat.{zero-lt-suc}
+use mathlib.Core.Bool.{true, false, not, true≢false}
+use Prim.Native.Nat.{zero, suc, _≤_, _<_}
+use native.Mathlib.Omega.{arith}
 use lib.Dec.{T}
-use lib.Ieee.{Float, nan, inf, fin, binary32, fits, isNan, lt, ofBits, toBits}
+use lib.Ieee.{Float, nan, inf, fin, binary32, fits, isNan, lt, eq, ne, ofBits, toBits}
 use lib.Ieee.Bits.{ofBits-toBits, is-true}
 use Rattle.algebra.specs.Integer.{Z, _≺_}
 use Rattle.rounding.specs.Value.{F32, val}
 use Rattle.rounding.specs.Literals.{zero32}
 use Rattle.rounding.proofs.Literals.{zero-f32, zero-val}
-use Rattle.rounding.proofs.Comparison.{lt-irreflexive, val-lt}
+use Rattle.rounding.proofs.Comparison.{val-lt}
+use Rattle.rounding.proofs.Nan.{nan-of-differs, not-nan-of-same}
 use Rattle.rounding.proofs.Null.{null-zero, null-not-below}
 use Rattle.sqrt.specs.declared.root.Rooted.the-variants as rooted
 use Rattle.sqrt.specs.Sqrt.{special, special-root, root-by-steps}
 use Rattle.sqrt.specs.Steps.{Special}
-use Rattle.sqrt.proofs.StepCases.{special-by-pattern}
-use Rattle.sqrt.proofs.SpecialOperands.{Above, kind, minus-below, test-of-special}
+use Rattle.sqrt.proofs.SpecialOperands.{minus-below}
 
--- ---- x > 0
-above-zero : {x : Float} → Above x → lt zero32 x ≡ true
-above-zero {x} above =
-    is-true (lt zero32 x)
-    (val-lt zero-f32 (above .own) (subst (λ (v : Z). v ≺ val x) (sym zero-val) (above .positive)))
+-- ---- x == x, and the pattern 0
+pub not-nan : (x : Float) → eq x x ≡ true → T (not (isNan x))
+unfolding ne
+not-nan x h = not-nan-of-same x (ap not h)
 
-pub not-above-test : (x : Float) → T (fits binary32 x) → lt zero32 x ≡ false → special x ≡ true
-not-above-test x x-fits h = elim (kind x x-fits) [
-  | inl is ↦ test-of-special is
-  | inr above ↦ absurd (true≢false (sym (above-zero above) ∙ h))
-]
+pub nan-test : (x : Float) → eq x x ≡ false → special x ≡ true
+unfolding ne
+nan-test x h = ap special (nan-of-differs x (ap not h))
 
-pub above-not-nan : (x : Float) → lt zero32 x ≡ true → T (not (isNan x))
-unfolding lt ofBits isNan
-above-not-nan nan h = absurd (true≢false (sym h))
-above-not-nan (inf s) h = tt
-above-not-nan (fin s m e) h = tt
-
-pub above-pattern : (x : Float) → T (fits binary32 x) → lt zero32 x ≡ true → 0 < toBits binary32 x
-above-pattern x x-fits h = by-pattern (toBits binary32 x) refl
-  where
-    by-pattern : (b : ℕ) → toBits binary32 x ≡ b → 0 < b
-    by-pattern zero is =
-        let x-zero : x ≡ zero32 = sym (ofBits-toBits binary32 x x-fits) ∙ ap (ofBits binary32) is in
-        absurd (true≢false (sym h ∙ ap (lt zero32) x-zero ∙ lt-irreflexive zero32))
-    by-pattern (suc b) is = zero-lt-suc b
-
-pub infinity-test : (x : Float) → T (fits binary32 x) → lt zero32 x ≡ true → 255 * 2 ^ 23 ≤ toBits binary32 x
-    → special x ≡ true
-infinity-test x x-fits h = special-by-pattern x x-fits (above-not-nan x h)
+pub zero-test : (x : Float) → T (fits binary32 x) → toBits binary32 x ≤ 0 → special x ≡ true
+unfolding ofBits
+zero-test x x-fits h =
+    let none : toBits binary32 x ≡ 0 = omega arith in
+    let is : x ≡ ofBits binary32 0 = sym (ofBits-toBits binary32 x x-fits) ∙ ap (ofBits binary32) none in
+    ap special is
 
 -- ---- what is special gives NaN where x < 0, and else itself
 pub below-gives : (x : Float) → lt x zero32 ≡ true → nan ≡ special-root x

@@ -10,15 +10,18 @@ pub record NearestRoot (n r : ℕ) : Type 0 where
   pub not-over : r * r < n + r
   pub not-under : n ≤ r * r + r
 
--- The digits of the root of the number whose pattern is b, which is above 0: the root is √(n * 4^k) smallest units, n
--- has 47 or 48 digits, and r is √n to the nearest whole number.
-pub record DigitsOf (b n r k : ℕ) : Type 0 where
-  pub steps : root-by-steps binary32 (ofBits binary32 b) ≡ exact-or-rounded binary32 (n * 4 ^ k)
+-- The digits of √(n * 4^k), for an n of 47 or 48 digits: r is √n to the nearest whole number.
+pub record RoundedDigits (n r k : ℕ) : Type 0 where
   pub n-low : 2 ^ 46 ≤ n
   pub n-high : n < 2 ^ 48
   pub k-low : 1 ≤ k
   pub k-high : k < 190
   pub nearest : NearestRoot n r
+
+-- Those of the root of the number above 0 whose pattern is b: its root is √(n * 4^k) smallest units.
+pub record DigitsOf (b n r k : ℕ) : Type 0 where
+  pub steps : root-by-steps binary32 (ofBits binary32 b) ≡ exact-or-rounded binary32 (n * 4 ^ k)
+  pub found : RoundedDigits n r k
 
 -- g is √y within a relative 2^-24, for gg = g g: (1 - 2^-24)² g² ≤ y ≤ (1 + 2^-24)² g²
 abbrev pub RelativeSquare : ℕ → ℕ → Type 0

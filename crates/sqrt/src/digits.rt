@@ -99,7 +99,7 @@ pub struct Found {
 // The digits of the root of the normal number whose pattern is b, f * 2^(g - 277): f is its significand, and g its
 // exponent and 127. b plus 125 * 2^23 holds g - 2 above the digits of f: the parity of g goes to n, half of g to the
 // exponent.
-fn normal_digits(b: u64) -> Found
+pub fn normal_digits(b: u64) -> Found
     requires { ⌜ (2 ^ 23 ≤ b) × (b < 255 * 2 ^ 23) ⌝ }
     ensures { λ d. ⌜ DigitsOf b (d .n) (d .root) (d .exponent) ⌝ }
 {
@@ -114,7 +114,7 @@ fn normal_digits(b: u64) -> Found
 }
 
 // The digits of the root of the subnormal number whose pattern is b, by halving: f * 2^g stays b * 2^128.
-fn subnormal_digits(b: u64) -> Found
+pub fn subnormal_digits(b: u64) -> Found
     requires { ⌜ (0 < b) × (b < 2 ^ 23) ⌝ }
     ensures { λ d. ⌜ DigitsOf b (d .n) (d .root) (d .exponent) ⌝ }
 {
@@ -129,17 +129,5 @@ fn subnormal_digits(b: u64) -> Found
         n,
         root: bisected_root(n),
         exponent: g / 2 - 1,
-    }
-}
-
-// The digits of the root of the number whose pattern is b, normal or subnormal.
-pub fn digits(b: u64) -> Found
-    requires { ⌜ (0 < b) × (b < 255 * 2 ^ 23) ⌝ }
-    ensures { λ d. ⌜ DigitsOf b (d .n) (d .root) (d .exponent) ⌝ }
-{
-    if b >= LEADING {
-        normal_digits(b)
-    } else {
-        subnormal_digits(b)
     }
 }

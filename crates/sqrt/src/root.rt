@@ -2,10 +2,12 @@
 // rounding. digits.rt finds the digits of the last two.
 ghost use mathlib.Core.Path.{_≡_};
 ghost use mathlib.Core.Bool.{true};
-ghost use Prim.Native.Nat.{_*_, _^_, _<_};
-ghost use lib.Ieee.{binary32, ofBits};
-ghost use Rattle.sqrt.specs.Sqrt.{special, special-root, root-by-steps, sqrt};
+ghost use Prim.Native.Nat.{_*_, _^_};
+ghost use lib.Ieee.{binary32};
+ghost use Rattle.sqrt.specs.Sqrt.{special, special-root, exact-or-rounded, root-by-steps, sqrt};
+ghost use Rattle.sqrt.specs.Root.{RoundedDigits};
 use crate::digits;
+use crate::digits::Found;
 use crate::digits::LEADING;
 
 // The step that an operand takes, and its root.
@@ -24,13 +26,11 @@ fn special_root(x: f32) -> f32
     if x < 0.0 { 0.0 / 0.0 } else { x }
 }
 
-// Exact results, then rounding: the root of the number whose pattern is b is √n behind an exponent, and r the whole number
-// nearest to √n.
-fn exact_or_rounded(b: u64) -> Rooted
-    requires { ⌜ (0 < b) × (b < 255 * 2 ^ 23) ⌝ }
-    ensures { λ r. ⌜ r ≡ root-by-steps binary32 (ofBits binary32 b) ⌝ }
+// Exact results, then rounding: the root is √n behind an exponent, and r the whole number nearest to √n.
+fn exact_or_rounded(d: Found) -> Rooted
+    requires { ⌜ RoundedDigits (d .n) (d .root) (d .exponent) ⌝ }
+    ensures { λ r. ⌜ r ≡ exact-or-rounded binary32 (d .n * 4 ^ d .exponent) ⌝ }
 {
-    let d = digits::digits(b);
     let r = d.root;
     let root = f32::from_bits((d.exponent * LEADING + r) as u32);
     // A result that fits is not rounded (4.3).
@@ -44,14 +44,18 @@ fn exact_or_rounded(b: u64) -> Rooted
 // 255 * 2^23: the bit pattern of infinity.
 const INFINITE: u64 = 2139095040;
 
-// The square root, correctly rounded, and the step that gives it. What is above 0 and below infinity is not special.
+// The square root, correctly rounded, and the step that gives it. What is not special is normal or subnormal.
 pub fn root_by_steps(x: f32) -> Rooted
     ensures { λ r. ⌜ r ≡ root-by-steps binary32 x ⌝ }
 {
-    if x > 0.0 {
+    if x == x {
         let b = f32::to_bits(x) as u64;
-        if b < INFINITE {
-            return exact_or_rounded(b);
+        if b >= LEADING {
+            if b < INFINITE {
+                return exact_or_rounded(digits::normal_digits(b));
+            }
+        } else if b > 0 {
+            return exact_or_rounded(digits::subnormal_digits(b));
         }
     }
     Rooted::Special(special_root(x))
