@@ -108,8 +108,8 @@ extern "C" size_t box2d_answer(const uint32_t *request, uint32_t *out) {
         break;
     }
     case 18: {
-        // request 04: special are zeros, infinities, NaNs and all below 0, exact the others whose root is a float, and the
-        // rest are rounded; two floats multiply exactly as doubles
+        // request 04: special are zeros, infinities, NaNs and all below 0, exact the others whose root is a float, and
+        // the rest are rounded; two floats multiply exactly as doubles
         const float x = in.number(), root = std::sqrt(x);
         const bool special = std::isnan(x) || std::isinf(x) || x <= 0;
         to.word(special ? 0 : double(root) * double(root) == double(x) ? 1 : 2);

@@ -5,8 +5,8 @@
 #include <stdio.h>
 #include <string.h>
 
-/* Special are zeros, infinities, NaNs and all below 0; exact are the others whose root is a float; the rest are rounded.
-   A product of two floats is exact as a double. */
+/* Special are zeros, infinities, NaNs and all below 0; exact are the others whose root is a float; the rest are
+   rounded. A product of two floats is exact as a double. */
 static const char *step(float x, float root) {
     if (isnan(x) || isinf(x) || x <= 0) return "special";
     return (double)root * (double)root == (double)x ? "exact" : "rounded";

@@ -1,5 +1,5 @@
-// Operands of published square-root vectors, as bits, by the step that they take; the file stdout of this crate has each
-// with its published root.
+// Operands of published square-root vectors, as bits, by the step that they take; the file stdout of this crate has
+// each with its published root.
 // - glibc 2.36, math/auto-libm-test-out-sqrt: every binary32 operand rounded to nearest, 45 of them;
 // - glibc 2.36, math/libm-test-sqrt.inc: the infinities, NaNs and numbers below 0, 11 of them;
 // - newlib 3.3.0, libm/test/sqrtf_vec.c: every operand from 0 on, 136 of them that are not among the first.

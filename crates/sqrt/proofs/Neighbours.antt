@@ -3,7 +3,8 @@
 use mathlib.Core.Path.{_≡_, refl, sym, ap, ap₂, _∙_, subst}
 use mathlib.Core.Logic.{inl, inr}
 use Prim.Native.Nat.{ℕ, suc, _+_, _-_, _*_, _/_, _^_, _≤_, _<_}
-use native.Mathlib.Nat.{le-trans, le-of-eq, le-of-lt, lt-of-le-of-lt, lt-of-lt-of-le, lt-of-not-le, eq-or-lt-of-le, not-le-of-lt}
+use native.Mathlib.Nat.{le-trans, le-of-eq, le-of-lt, lt-of-le-of-lt, lt-of-lt-of-le, lt-of-not-le}
+use native.Mathlib.Nat.{eq-or-lt-of-le, not-le-of-lt}
 use native.Mathlib.Nat.{mul-assoc, mul-le-mul, mul-le-mul-left, mul-le-mul-right, mul-lt-mul-of-pos-right}
 use native.Mathlib.Nat.{lt-of-mul-lt-mul-right, le-of-mul-le-mul-right, mul-mul-mul-comm, mul-pos, one-mul}
 use native.Mathlib.Decide.{decLe}
@@ -135,7 +136,8 @@ module _ {x : Float} (x-f32 : F32 x) (x-pos : whole 0 ≺ val x) where
       let z-low : 149 < size (mag x * metre) =
       lt-of-not-le (λ (h : size (mag x * metre) ≤ 149).
       not-le-of-lt (lt-of-lt-of-le (size-lt (mag x * metre)) (pow-mono h)) y-low) in
-      scaled (mag x * metre) (root .scale) (d .q) (d .j + 149) y-is (d .small) (root .scale-is) (omega arith) (omega arith)
+      scaled (mag x * metre) (root .scale) (d .q) (d .j + 149) y-is (d .small) (root .scale-is) (omega arith)
+      (omega arith)
 
   pub nearest : NearestRoot (square .n) (root .digits)
   nearest = nearest-root-of-half-unit (square .n) (4 ^ root .scale) (root .digits) (four-pow-pos (root .scale))
@@ -203,7 +205,8 @@ module _ {x : Float} (x-f32 : F32 x) (x-pos : whole 0 ≺ val x) where
           | yes le ↦
               let c = digits y-f32 .q * 2 ^ (digits y-f32 .j - root .scale) in
               step-above (square .n) (root .digits) s s-pos nearest (mag y) c (le-of-eq (fine le))
-              (lt-of-mul-lt-mul-right s (lt-of-le-of-lt (le-of-eq (sym r-is)) (lt-of-lt-of-le more (le-of-eq (sym (fine le))))))
+              (lt-of-mul-lt-mul-right s
+              (lt-of-le-of-lt (le-of-eq (sym r-is)) (lt-of-lt-of-le more (le-of-eq (sym (fine le))))))
           | no short ↦ absurd
               (not-le-of-lt
               (lt-of-lt-of-le (coarse (lt-of-not-le short))

@@ -24,8 +24,8 @@ some m d (suc g) m-pos e = zero-lt-suc g
 
 mag-pos : (s : Bool) (m : ℕ) (e : ℤ) → F32 (fin s (suc m) e) → 0 < mag (fin s (suc m) e)
 mag-pos s m e own =
-    some (suc m * up e * metre) (down e) (mag (fin s (suc m) e)) (mul-pos (mul-pos (zero-lt-suc m) (up-pos e)) metre-pos)
-    (has-value own .1)
+    some (suc m * up e * metre) (down e) (mag (fin s (suc m) e))
+    (mul-pos (mul-pos (zero-lt-suc m) (up-pos e)) metre-pos) (has-value own .1)
 
 none : (s : Bool) (g : ℕ) → signed s g ≐ whole 0 → 0 < g → ⊥
 none true g e h = omega arith

@@ -1,5 +1,5 @@
--- Request 04: each operand takes exactly one of the three steps, and what that step gives. Said by the papers' words and
--- by exact values, in whole numbers of 2^-149: √x has the square `mag x * metre`. Definitions only.
+-- Request 04: each operand takes exactly one of the three steps, and what that step gives. Said by the papers' words
+-- and by exact values, in whole numbers of 2^-149: √x has the square `mag x * metre`. Definitions only.
 use Prim.Native.Nat.{_+_, _*_, _<_}
 use mathlib.Core.Path.{_≡_}
 use mathlib.Core.Bool.{Bool, true, false}

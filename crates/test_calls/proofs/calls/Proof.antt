@@ -1,6 +1,6 @@
 -- `calls` answers what the entry named by the first word answers, and nothing to any other request. Assumes nothing.
 use Rattle.wire.proofs.Bytes.{nothing-written, written-as}
-use Rattle.test_calls.proofs.Answers.{no-entry, root-entry, normalize-entry, heading-entry}
+use Rattle.test_calls.proofs.Answers.{no-entry, root-entry, normalize-entry, heading-entry, root-step-entry}
 use Rattle.test_calls.proofs.Answers.{shape-entry, contact-entry}
 use borrow.Author.Needs.{needs}
 use Rattle.test_calls.proofs.calls.Statement.{statement}
@@ -20,6 +20,9 @@ normalize-requires c κs = search needs
 
 heading-requires : tie.Need-heading-requires
 heading-requires c κs = search needs
+
+root-step-requires : tie.Need-root-step-requires
+root-step-requires c κs = search needs
 
 shape-call-requires : tie.Need-shape-call-requires
 shape-call-requires c κs = search needs
@@ -69,15 +72,11 @@ same-length-4 c = search needs
 returns-5 : tie.Need-returns-5
 returns-5 c =
     let called = c .before .before in
-    let below = called .before .before in
-    let other = below .before in
-    let entry = other .before in
+    let arm = called .before .before in
+    let entry = arm .before in
     let size = entry .before in
-    written-as _ _ _ _ _
-    (shape-entry _ _ (size .if1 .left) (entry .word .ensures) (other .match .rest .0 .0 .1) (other .match .rest .0 .1)
-    (other .match .rest .1)
-    (below .if2 .taken))
-    (called .shape-call .ensures)
+    written-as _ _ _ _ _ (root-step-entry _ _ (size .if1 .left) (entry .word .ensures) (arm .match .keys4))
+    (called .root-step .ensures)
 
 same-length-5 : tie.Need-same-length-5
 same-length-5 c = search needs
@@ -85,13 +84,29 @@ same-length-5 c = search needs
 returns-6 : tie.Need-returns-6
 returns-6 c =
     let called = c .before .before in
+    let below = called .before .before in
+    let other = below .before in
+    let entry = other .before in
+    let size = entry .before in
+    written-as _ _ _ _ _
+    (shape-entry _ _ (size .if1 .left) (entry .word .ensures) (other .match .rest .0 .0 .0 .1)
+    (other .match .rest .0 .0 .1) (other .match .rest .0 .1) (other .match .rest .1)
+    (below .if2 .taken))
+    (called .shape-call .ensures)
+
+same-length-6 : tie.Need-same-length-6
+same-length-6 c = search needs
+
+returns-7 : tie.Need-returns-7
+returns-7 c =
+    let called = c .before .before in
     let above = called .before .before in
     let other = above .before in
     let entry = other .before in
     let size = entry .before in
     written-as _ _ _ _ _
-    (contact-entry _ _ (size .if1 .left) (entry .word .ensures) (other .match .rest .0 .0 .1) (other .match .rest .0 .1)
-    (other .match .rest .1)
+    (contact-entry _ _ (size .if1 .left) (entry .word .ensures) (other .match .rest .0 .0 .0 .1)
+    (other .match .rest .0 .0 .1) (other .match .rest .0 .1) (other .match .rest .1)
     (above .if2 .left))
     (called .contact-call .ensures)
 
@@ -104,6 +119,7 @@ calls-spec =
     root-requires
     normalize-requires
     heading-requires
+    root-step-requires
     shape-call-requires
     contact-call-requires
     same-length
@@ -115,4 +131,6 @@ calls-spec =
     same-length-4
     returns-5
     same-length-5
-    returns-6)
+    returns-6
+    same-length-6
+    returns-7)

@@ -59,8 +59,8 @@ sub-t7 c = omega arith
 returns : tie.Need-returns Inv-loop μ-loop
 returns c =
     let loop = c .before .before .loop in
-    subnormal-digits-of (c .before .before .before .args .b) (loop .f) (loop .g) (c .bisected-root .result) (omega arith)
-    (omega arith) (loop .inv .3) (omega arith) (omega arith) (omega arith) (omega arith) (c .bisected-root .ensures)
+    subnormal-digits-of (c .before .before .before .args .b) (loop .f) (loop .g) (c .bisected-root .result)
+    (omega arith) (omega arith) (loop .inv .3) (omega arith) (omega arith) (omega arith) (omega arith) (c .bisected-root .ensures)
 
 pub subnormal-digits-spec : {M : Type 1} → statement M
 subnormal-digits-spec =

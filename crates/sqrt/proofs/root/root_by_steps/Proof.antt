@@ -34,7 +34,8 @@ returns : tie.Need-returns
 returns c =
     let found = c .before in
     let s = found .before .before .before .before in
-    steps-by-pattern (s .args .x) _ (x-fits s) (c .exact-or-rounded .ensures ∙ sym (found .normal-digits .ensures .steps))
+    steps-by-pattern (s .args .x) _ (x-fits s)
+    (c .exact-or-rounded .ensures ∙ sym (found .normal-digits .ensures .steps))
 
 subnormal-digits-requires : tie.Need-subnormal-digits-requires
 subnormal-digits-requires c κs = search needs
@@ -46,7 +47,8 @@ returns-2 : tie.Need-returns-2
 returns-2 c =
     let found = c .before in
     let s = found .before .before .before .before in
-    steps-by-pattern (s .args .x) _ (x-fits s) (c .exact-or-rounded2 .ensures ∙ sym (found .subnormal-digits .ensures .steps))
+    steps-by-pattern (s .args .x) _ (x-fits s)
+    (c .exact-or-rounded2 .ensures ∙ sym (found .subnormal-digits .ensures .steps))
 
 -- ---- the rest: from infinity on, zero, NaN
 joined : (c : tie.Joined1) → special (c .before .args .x) ≡ true

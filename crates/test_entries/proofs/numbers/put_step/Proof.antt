@@ -1,7 +1,4 @@
 -- The words of a step and its root are written. Assumes nothing.
-use mathlib.Core.Path.{_≡_, ap}
-use mathlib.Core.List.{[], _∷_}
-use Prim.Native.Nat.{ℕ}
 use borrow.Author.Needs.{needs}
 use Rattle.wire.proofs.Bytes.{written-as}
 use Rattle.test_entries.proofs.numbers.put_step.Statement.{statement}

@@ -55,7 +55,7 @@ returns-2 : tie.Need-returns-2
 unfolding root-step-answer
 returns-2 c =
     let called = c .before .before in
-    let known = called .before .before in
+    let known = called .before .before .before in
     let stepped = known .before .before in
     let from-bits = stepped .before in
     let word = from-bits .before in
@@ -71,7 +71,7 @@ returns-3 : tie.Need-returns-3
 unfolding root-step-answer
 returns-3 c =
     let called = c .before .before in
-    let known = called .before .before in
+    let known = called .before .before .before in
     let stepped = known .before .before in
     let from-bits = stepped .before in
     let word = from-bits .before in
@@ -87,7 +87,7 @@ returns-4 : tie.Need-returns-4
 unfolding root-step-answer
 returns-4 c =
     let called = c .before .before in
-    let known = called .before .before in
+    let known = called .before .before .before in
     let stepped = known .before .before in
     let from-bits = stepped .before in
     let word = from-bits .before in
