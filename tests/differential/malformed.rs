@@ -56,7 +56,7 @@ fn spoiled(row: &Row, spoil: usize, random: &mut Random) -> Option<Vec<u8>> {
         3 => drop(words.pop()),
         7 => {
             let entry = words[0];
-            words[0] = [0, 18, entry << 24, entry | 1 << 8, entry | 1 << 31, random.next() as u32 | 32]
+            words[0] = [0, 19, entry << 24, entry | 1 << 8, entry | 1 << 31, random.next() as u32 | 32]
                 [random.below(6) as usize];
         }
         8 => {
