@@ -1,5 +1,5 @@
--- The root is the nearest number of the format, and there is no tie: √x lies strictly on its side of the middle between
--- it and any other number of the format. Assumes nothing.
+-- The root is the nearest number of the format, and there is no tie: √x lies strictly on its side of the middle
+-- between it and any other number of the format. Assumes nothing.
 use mathlib.Core.Path.{_≡_, refl, sym, ap, ap₂, _∙_, subst}
 use mathlib.Core.Logic.{inl, inr}
 use Prim.Native.Nat.{ℕ, suc, _+_, _-_, _*_, _/_, _^_, _≤_, _<_}
@@ -22,6 +22,7 @@ use Rattle.sqrt.proofs.WholeRoot.{four-pow, four-pow-pos, four-pow-add}
 use Rattle.sqrt.proofs.RoundedRoot.{RoundedRoot, HalfUnit}
 use Rattle.sqrt.proofs.RootPattern.{nearest-root-of-half-unit}
 use Rattle.sqrt.proofs.SqrtLaw.{sqrt-rounded, root-mag}
+use Rattle.sqrt.proofs.SqrtOrder.{as-digits, coarse}
 
 square-lt : (a b : ℕ) → a < b → a * a < b * b
 square-lt a b h =
@@ -154,22 +155,14 @@ module _ {x : Float} (x-f32 : F32 x) (x-pos : whole 0 ≺ val x) where
     -- y at the root's scale, or of fewer digits than the root
     fine : (root .scale ≤ digits y-f32 .j) → digits y-f32 .q * 2 ^ (digits y-f32 .j - root .scale) * s ≡ mag y
     unfolding s
-    fine le =
-        let d = digits y-f32 in
-        mul-assoc (d .q) (2 ^ (d .j - root .scale)) (2 ^ root .scale)
-        ∙ ap (λ (m : ℕ). d .q * m) (sym (pow-add 2 (d .j - root .scale) (root .scale))
-        ∙ ap (λ (m : ℕ). 2 ^ m) (back (d .j) (root .scale) le)) ∙ sym (d .is)
+    fine le = let d = digits y-f32 in as-digits root (d .q) (d .j) (d .small) le ∙ sym (d .is)
 
-    coarse : digits y-f32 .j < root .scale → mag y < 2 ^ 23 * s
+    short-below : digits y-f32 .j < root .scale → mag y < 2 ^ 23 * s
     unfolding s
-    coarse less =
+    short-below less =
         let d = digits y-f32 in
         lt-of-le-of-lt (le-of-eq (d .is))
-        (lt-of-lt-of-le (shl-lt 24 (d .j) (d .small))
-        (le-trans (pow-mono (one-more (d .j) (root .scale) less)) (le-of-eq (pow-add 2 23 (root .scale)))))
-      where
-        one-more : (j k : ℕ) → j < k → 24 + j ≤ 23 + k
-        one-more j k h = omega arith
+        (lt-of-lt-of-le (coarse root (d .q) (d .j) (d .small) less) (le-of-eq (pow-add 2 23 (root .scale))))
 
     s-pos : 0 < s
     unfolding s
@@ -193,7 +186,7 @@ module _ {x : Float} (x-f32 : F32 x) (x-pos : whole 0 ≺ val x) where
                 (lt-of-lt-of-le less (le-of-eq r-is))
                 (subst (λ (r : ℕ). r * r ≤ square .n) same (square .low))
             | inr more ↦ step-below (square .n) (root .digits) s s-pos nearest (mag y) (2 ^ 23)
-                (le-of-lt (coarse (lt-of-not-le short))) more
+                (le-of-lt (short-below (lt-of-not-le short))) more
           ]
         ])
 
@@ -209,6 +202,6 @@ module _ {x : Float} (x-f32 : F32 x) (x-pos : whole 0 ≺ val x) where
               (lt-of-le-of-lt (le-of-eq (sym r-is)) (lt-of-lt-of-le more (le-of-eq (sym (fine le))))))
           | no short ↦ absurd
               (not-le-of-lt
-              (lt-of-lt-of-le (coarse (lt-of-not-le short))
+              (lt-of-lt-of-le (short-below (lt-of-not-le short))
               (le-trans (mul-le-mul-right s (root .digits-low)) (le-of-eq (sym r-is)))) (le-of-lt more))
         ])

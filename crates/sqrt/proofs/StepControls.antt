@@ -1,6 +1,6 @@
 -- Closed cases of the three steps, computed by antt: what each operand's step is and gives. The roots are those of
 -- `Controls`, from outside, and that of twice the smallest subnormal number. So no step is empty. Assumes nothing.
-use mathlib.Core.Path.{_≡_, refl}
+use mathlib.Core.Path.{_≡_, refl, subst}
 use Prim.Native.Nat.{ℕ}
 use lib.Ieee.{Float, binary32, size, units, ofBits}
 use lib.Ieee.Bits.{ofBits-fits}
@@ -8,7 +8,8 @@ use Rattle.sqrt.specs.declared.root.Rooted.{Rooted}
 use Rattle.sqrt.specs.declared.root.Rooted.the-variants.{Special, Exact, Rounded}
 use Rattle.sqrt.specs.Sqrt.{root-digits, whole-root, root-by-steps}
 use Rattle.sqrt.specs.Steps as steps
-use Rattle.sqrt.proofs.ThreeSteps.{exact-told, rounded-told}
+use Rattle.sqrt.specs.Steps.{Told}
+use Rattle.sqrt.proofs.ThreeSteps.{three-steps}
 
 abbrev float : ℕ → Float
 float b = ofBits binary32 b
@@ -76,8 +77,11 @@ rounded-cases = record {
 
 -- ---- so some operand is exact and some is rounded
 four-exact : steps.Exact (float 0x4080_0000)
-four-exact = exact-told (float 0x4080_0000) (float 0x4000_0000) (ofBits-fits binary32 0x4080_0000) (exact-cases .four)
+four-exact =
+    subst (Told (float 0x4080_0000)) (exact-cases .four)
+    (three-steps (float 0x4080_0000) (ofBits-fits binary32 0x4080_0000) .told)
 
 two-rounded : steps.Rounded (float 0x4000_0000)
 two-rounded =
-    rounded-told (float 0x4000_0000) (float 0x3fb5_04f3) (ofBits-fits binary32 0x4000_0000) (rounded-cases .two)
+    subst (Told (float 0x4000_0000)) (rounded-cases .two)
+    (three-steps (float 0x4000_0000) (ofBits-fits binary32 0x4000_0000) .told)

@@ -27,9 +27,9 @@ pub nan-test : (x : Float) → eq x x ≡ false → special x ≡ true
 unfolding ne
 nan-test x h = ap special (nan-of-differs x (ap not h))
 
-pub zero-test : (x : Float) → T (fits binary32 x) → toBits binary32 x ≤ 0 → special x ≡ true
+pub zero-pattern-test : (x : Float) → T (fits binary32 x) → toBits binary32 x ≤ 0 → special x ≡ true
 unfolding ofBits
-zero-test x x-fits h =
+zero-pattern-test x x-fits h =
     let none : toBits binary32 x ≡ 0 = omega arith in
     let is : x ≡ ofBits binary32 0 = sym (ofBits-toBits binary32 x x-fits) ∙ ap (ofBits binary32) none in
     ap special is

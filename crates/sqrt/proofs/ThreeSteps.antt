@@ -12,10 +12,10 @@ use lib.Ieee.Fits.{eq→eqb}
 use Rattle.algebra.specs.Integer.{whole, _≺_}
 use Rattle.rounding.specs.Value.{metre, F32, mag, val}
 use Rattle.rounding.proofs.Patterns.{Units, same-units-equal}
-use Rattle.sqrt.specs.declared.root.Rooted.{Rooted}
 use Rattle.sqrt.specs.declared.root.Rooted.the-variants as rooted
 use Rattle.sqrt.specs.Sqrt.{root-by-steps, sqrt}
-use Rattle.sqrt.specs.Steps.{SquareIs, Special, Exact, Rounded, ExactGives, Nearest, ThreeSteps}
+use Rattle.sqrt.specs.Steps.{SquareIs, Special, Exact, Rounded, Told, SpecialGives, ExactGives, Nearest}
+use Rattle.sqrt.specs.Steps.{RoundedGives, ThreeSteps}
 use Rattle.sqrt.proofs.WholeRoot.{four-pow, four-pow-pos}
 use Rattle.sqrt.proofs.SqrtLaw.{units-are, steps-are, sqrt-is, sqrt-law, root-mag}
 use Rattle.sqrt.proofs.SqrtOrder.{sqrt-above, sqrt-below}
@@ -141,59 +141,49 @@ one-of-three x x-fits = elim (kind x x-fits) [
     by-square above true is = inl (exact-of-test above (above-not-special above) is)
     by-square above false is = inr (rounded-of-test above (above-not-special above) is)
 
-pub three-steps : (x : Float) → T (fits binary32 x) → ThreeSteps x
-three-steps x x-fits = record {
-  one = one-of-three x x-fits;
-  special-not-exact = λ is exact. exact .not-special is;
-  special-not-rounded = λ is rounded. rounded .not-special is;
-  exact-not-rounded = λ exact rounded. rounded .not-exact exact;
-  special-gives = λ is. (special-step x (test-of-special is), special-root x);
-  exact-gives = λ exact.
+module _ (x : Float) (x-fits : T (fits binary32 x)) where
+  special-gives : Special x
+      → (root-by-steps binary32 x ≡ rooted.Special (sqrt binary32 x)) × SpecialGives x (sqrt binary32 x)
+  special-gives is = (special-step x (test-of-special is), special-root x)
+
+  exact-gives : Exact x
+      → (root-by-steps binary32 x ≡ rooted.Exact (sqrt binary32 x)) × ExactGives x (sqrt binary32 x)
+  exact-gives exact =
       let above = not-special-is-above x x-fits (exact .not-special) in
       let is = root-squares above (exact .root) (exact .root-own) (exact .root-is) in
-      (step-by-square above true (back-test above is), exact-root above is);
-  rounded-gives = λ rounded.
+      (step-by-square above true (back-test above is), exact-root above is)
+
+  no-back : Above x → Rounded x → squares-back x (sqrt binary32 x) ≡ false
+  no-back above rounded = by-test (squares-back x (sqrt binary32 x)) refl
+    where
+      by-test : (t : Bool) → squares-back x (sqrt binary32 x) ≡ t → squares-back x (sqrt binary32 x) ≡ false
+      by-test true is = absurd (rounded .not-exact (exact-of-test above (rounded .not-special) is))
+      by-test false is = is
+
+  rounded-gives : Rounded x
+      → (root-by-steps binary32 x ≡ rooted.Rounded (sqrt binary32 x)) × RoundedGives x (sqrt binary32 x)
+  rounded-gives rounded =
       let above = not-special-is-above x x-fits (rounded .not-special) in
       let near = nearest-root above in
-      (step-by-square above false (no-back above rounded), record { nearest = near; only = λ y. nearest-only near });
-}
-  where
-    no-back : Above x → Rounded x → squares-back x (sqrt binary32 x) ≡ false
-    no-back above rounded = by-test (squares-back x (sqrt binary32 x)) refl
-      where
-        by-test : (t : Bool) → squares-back x (sqrt binary32 x) ≡ t → squares-back x (sqrt binary32 x) ≡ false
-        by-test true is = absurd (rounded .not-exact (exact-of-test above (rounded .not-special) is))
-        by-test false is = is
+      (step-by-square above false (no-back above rounded), record { nearest = near; only = λ y. nearest-only near })
 
--- ---- and so the step tells the kind of operand
-abbrev by-exact : Rooted → Bool
-by-exact (rooted.Special r) = false
-by-exact (rooted.Exact r) = true
-by-exact (rooted.Rounded r) = false
-
-abbrev by-rounding : Rooted → Bool
-by-rounding (rooted.Special r) = false
-by-rounding (rooted.Exact r) = false
-by-rounding (rooted.Rounded r) = true
-
-pub exact-told : (x r : Float) → T (fits binary32 x) → root-by-steps binary32 x ≡ rooted.Exact r → Exact x
-exact-told x r x-fits told =
-    let of-x = three-steps x x-fits in
-    elim (of-x .one) [
-      | inl is ↦ absurd (true≢false (ap by-exact (sym told ∙ of-x .special-gives is .0)))
-      | inr other ↦ elim other [
-        | inl is ↦ is
-        | inr is ↦ absurd (true≢false (ap by-exact (sym told ∙ of-x .rounded-gives is .0)))
-      ]
+  told : Told x (root-by-steps binary32 x)
+  told = elim (one-of-three x x-fits) [
+    | inl is ↦ subst (Told x) (sym (special-gives is .0)) is
+    | inr other ↦ elim other [
+      | inl is ↦ subst (Told x) (sym (exact-gives is .0)) is
+      | inr is ↦ subst (Told x) (sym (rounded-gives is .0)) is
     ]
+  ]
 
-pub rounded-told : (x r : Float) → T (fits binary32 x) → root-by-steps binary32 x ≡ rooted.Rounded r → Rounded x
-rounded-told x r x-fits told =
-    let of-x = three-steps x x-fits in
-    elim (of-x .one) [
-      | inl is ↦ absurd (true≢false (ap by-rounding (sym told ∙ of-x .special-gives is .0)))
-      | inr other ↦ elim other [
-        | inl is ↦ absurd (true≢false (ap by-rounding (sym told ∙ of-x .exact-gives is .0)))
-        | inr is ↦ is
-      ]
-    ]
+  pub three-steps : ThreeSteps x
+  three-steps = record {
+    one = one-of-three x x-fits;
+    special-not-exact = λ is exact. exact .not-special is;
+    special-not-rounded = λ is rounded. rounded .not-special is;
+    exact-not-rounded = λ exact rounded. rounded .not-exact exact;
+    told = told;
+    special-gives = special-gives;
+    exact-gives = exact-gives;
+    rounded-gives = rounded-gives;
+  }

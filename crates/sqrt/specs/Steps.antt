@@ -7,6 +7,7 @@ use mathlib.Core.Logic.{_⊎_}
 use lib.Ieee.{Float, nan, inf, binary32}
 use Rattle.algebra.specs.Integer.{whole, _≐_, _≺_}
 use Rattle.rounding.specs.Value.{metre, F32, mag, val}
+use Rattle.sqrt.specs.declared.root.Rooted.{Rooted}
 use Rattle.sqrt.specs.declared.root.Rooted.the-variants as rooted
 use Rattle.sqrt.specs.Sqrt.{root-by-steps, sqrt}
 
@@ -48,8 +49,8 @@ pub record ExactGives (x r : Float) : Type 0 where
   pub is : SquareIs x r
   pub only : (y : Float) → F32 y → whole 0 ≺ val y → SquareIs x y → y ≡ r
 
--- the f32 r lies nearer to √x than any other y: √x is above the middle between r and a lower y and below the middle
--- between r and a higher one, by squares. It is in no middle, so no tie happens. A y below 0 is further off than 0.
+-- the f32 r lies nearer to √x than any other y from 0 on: √x is above the middle between r and a lower y and below the
+-- middle between r and a higher one, by squares. It is in no middle, so no tie happens. Below 0 all are further off.
 pub record Nearest (x r : Float) : Type 0 where
   pub own : F32 r
   pub positive : whole 0 ≺ val r
@@ -61,12 +62,18 @@ pub record RoundedGives (x r : Float) : Type 0 where
   pub nearest : Nearest x r
   pub only : (y : Float) → Nearest x y → y ≡ r
 
--- ---- exactly one step, and what it gives
+-- ---- exactly one step, which is the one that is told, and what it gives
+abbrev pub Told : Float → Rooted → Type 0
+Told x (rooted.Special r) = Special x
+Told x (rooted.Exact r) = Exact x
+Told x (rooted.Rounded r) = Rounded x
+
 pub record ThreeSteps (x : Float) : Type 0 where
   pub one : Special x ⊎ (Exact x ⊎ Rounded x)
   pub special-not-exact : Special x → Exact x → ⊥
   pub special-not-rounded : Special x → Rounded x → ⊥
   pub exact-not-rounded : Exact x → Rounded x → ⊥
+  pub told : Told x (root-by-steps binary32 x)
   pub special-gives : Special x
       → (root-by-steps binary32 x ≡ rooted.Special (sqrt binary32 x)) × SpecialGives x (sqrt binary32 x)
   pub exact-gives : Exact x

@@ -10,7 +10,7 @@ use borrow.Author.Needs.{needs}
 use Rattle.sqrt.specs.declared.root.Rooted.the-variants.{Special}
 use Rattle.sqrt.specs.Sqrt.{special}
 use Rattle.sqrt.proofs.StepCases.{special-by-pattern, steps-by-pattern}
-use Rattle.sqrt.proofs.StepTests.{not-nan, nan-test, zero-test, step-of-special}
+use Rattle.sqrt.proofs.StepTests.{not-nan, nan-test, zero-pattern-test, step-of-special}
 use Rattle.sqrt.proofs.root.root_by_steps.Statement.{statement}
 use Rattle.sqrt.proofs.root.root_by_steps.Tie as tie
 
@@ -55,7 +55,7 @@ joined : (c : tie.Joined1) → special (c .before .args .x) ≡ true
 joined c = elim (c .if1 .came) [
   | inl w ↦ special-by-pattern _ (x-fits (c .before)) (not-nan _ (w .0 .taken)) (w .2 .left)
   | inr other ↦ elim other [
-    | inl w ↦ zero-test _ (x-fits (c .before)) (w .2 .left)
+    | inl w ↦ zero-pattern-test _ (x-fits (c .before)) (w .2 .left)
     | inr w ↦ nan-test _ (w .left)
   ]
 ]

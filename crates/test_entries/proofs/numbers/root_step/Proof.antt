@@ -1,21 +1,29 @@
 -- Entry 18 answers the step and the root, or nothing to a request of another length. Assumes nothing.
 use mathlib.Core.Path.{_≡_, refl, sym, ap, _∙_}
 use mathlib.Core.Bool.{true}
-use Prim.Native.Nat.{ℕ}
-use lib.Ieee.{Float, binary32, ofBits}
+use lib.Ieee.{binary32, ofBits}
+use denote.Ref.{now}
 use borrow.Author.Needs.{needs}
 use Rattle.sqrt.specs.declared.root.Rooted.{Rooted}
 use Rattle.sqrt.specs.Sqrt.{root-by-steps}
+use Rattle.wire.specs.Records.{float-at}
 use Rattle.wire.proofs.Requests.{other-length, answered}
 use Rattle.test_entries.specs.Numbers.{step-words, root-step-answer}
 use Rattle.test_entries.proofs.numbers.root_step.Statement.{statement}
 use Rattle.test_entries.proofs.numbers.root_step.Tie as tie
 
--- the words of the step that `root_by_steps` took
-told : (given answer : Rooted) (x : Float) (w v : ℕ) → answer ≡ given → answer ≡ root-by-steps binary32 x
-    → x ≡ ofBits binary32 w → w ≡ v → step-words given ≡ step-words (root-by-steps binary32 (ofBits binary32 v))
-told given answer x w v same is x-is w-is =
-    ap step-words (sym same ∙ is ∙ ap (root-by-steps binary32) (x-is ∙ ap (ofBits binary32) w-is))
+-- the words of the step that `root_by_steps` took are the answer's
+abbrev start : tie.After-root-by-steps → tie.Start
+start c = c .before .before .before .before .before .before
+
+answered-by : (c : tie.After-root-by-steps) (given : Rooted) → c .root-by-steps .result ≡ given
+    → step-words given ≡ step-words (root-by-steps binary32 (float-at (now (start c .args .input)) 1))
+answered-by c given same =
+    let from-bits = c .before in
+    ap step-words
+    (sym same ∙ c .root-by-steps .ensures
+    ∙ ap (root-by-steps binary32)
+    (from-bits .f32-from-bits .ensures ∙ ap (ofBits binary32) (from-bits .before .word .ensures)))
 
 returns : tie.Need-returns
 unfolding root-step-answer
@@ -57,12 +65,8 @@ returns-2 c =
     let called = c .before .before in
     let known = called .before .before .before in
     let stepped = known .before .before in
-    let from-bits = stepped .before in
-    let word = from-bits .before in
-    answered 2 _ _ _ _ true (word .before .if1 .left) refl _ _ _ refl
-    (told _ _ _ _ _ (known .r .given .1) (stepped .root-by-steps .ensures) (from-bits .f32-from-bits .ensures)
-    (word .word .ensures))
-    (called .put-step .ensures)
+    answered 2 _ _ _ _ true (stepped .before .before .before .if1 .left) refl _ _ _ refl
+    (answered-by stepped _ (known .r .given .1)) (called .put-step .ensures)
 
 same-length-2 : tie.Need-same-length-2
 same-length-2 c = search needs
@@ -73,12 +77,8 @@ returns-3 c =
     let called = c .before .before in
     let known = called .before .before .before in
     let stepped = known .before .before in
-    let from-bits = stepped .before in
-    let word = from-bits .before in
-    answered 2 _ _ _ _ true (word .before .if1 .left) refl _ _ _ refl
-    (told _ _ _ _ _ (known .r2 .given .1) (stepped .root-by-steps .ensures) (from-bits .f32-from-bits .ensures)
-    (word .word .ensures))
-    (called .put-step2 .ensures)
+    answered 2 _ _ _ _ true (stepped .before .before .before .if1 .left) refl _ _ _ refl
+    (answered-by stepped _ (known .r2 .given .1)) (called .put-step2 .ensures)
 
 same-length-3 : tie.Need-same-length-3
 same-length-3 c = search needs
@@ -89,12 +89,8 @@ returns-4 c =
     let called = c .before .before in
     let known = called .before .before .before in
     let stepped = known .before .before in
-    let from-bits = stepped .before in
-    let word = from-bits .before in
-    answered 2 _ _ _ _ true (word .before .if1 .left) refl _ _ _ refl
-    (told _ _ _ _ _ (known .r3 .given .1) (stepped .root-by-steps .ensures) (from-bits .f32-from-bits .ensures)
-    (word .word .ensures))
-    (called .put-step3 .ensures)
+    answered 2 _ _ _ _ true (stepped .before .before .before .if1 .left) refl _ _ _ refl
+    (answered-by stepped _ (known .r3 .given .1)) (called .put-step3 .ensures)
 
 pub root-step-spec : {M : Type 1} → statement M
 root-step-spec =
