@@ -43,6 +43,7 @@ template <class Call> bool completes(Call call) {
 struct Program {
     Body bodies[IDS];
     std::vector<Contact> pairs[IDS][IDS]; // none before the first accepted test
+    uint32_t step = 0;
     uint8_t answer[PIECES][LONGEST_TEST];
     size_t length[PIECES];
 
@@ -223,10 +224,12 @@ struct Program {
 
     size_t frame(const uint8_t *bytes, size_t count);
 
-    // One line without its line feed.
+    size_t next_step();
+
+    // One line without its line feed, not an empty one.
     size_t line(const uint8_t *text, size_t digits) {
         uint8_t bytes[LONGEST_CHAIN];
-        if (digits == 0 || digits > 2 * LONGEST_CHAIN || digits % 2 == 1) return refused(10);
+        if (digits > 2 * LONGEST_CHAIN || digits % 2 == 1) return refused(10);
         for (size_t i = 0; i < digits; i++) {
             uint8_t c = text[i], digit;
             if (c >= '0' && c <= '9') digit = (uint8_t)(c - '0');

@@ -1,6 +1,6 @@
-// A second `touches` over Box2D 2.4.1, written from document 01's "The touch record" and document 02's frames 06 and 07
-// and its count of touches: box2d_touches on a whole input, and box2d_export. A kind of frame is a row of KINDS and a
-// member of Program.
+// A second `touches` over Box2D 2.4.1, written from document 01's "The touch record" and document 02's frames 06 and
+// 07, its count of touches and its steps: box2d_touches on a whole input, and box2d_export. A kind of frame is a row
+// of KINDS and a member of Program.
 #include "box2d_frames.hpp"
 
 namespace {
@@ -36,6 +36,15 @@ size_t Program::frame(const uint8_t *bytes, size_t count) {
     return refused(10);
 }
 
+// An empty line: the next step number, as long as there is one.
+size_t Program::next_step() {
+    if (step < UINT32_MAX) step++;
+    Line to{answer[0]};
+    to.byte(0x0a), to.word(step);
+    length[0] = (size_t)(to.at - answer[0]);
+    return 1;
+}
+
 } // namespace
 
 // What is printed for the whole of an input, handed to `put` an answer at a time.
@@ -49,7 +58,7 @@ extern "C" void box2d_touches(const uint8_t *input, size_t length, void (*put)(v
         const uint8_t *feed = (const uint8_t *)std::memchr(input, '\n', (size_t)(end - input));
         const uint8_t *stop = feed ? feed : end;
         uint8_t *to = text;
-        size_t lines = program.line(input, (size_t)(stop - input));
+        size_t lines = stop == input ? program.next_step() : program.line(input, (size_t)(stop - input));
         for (size_t line = 0; line < lines; line++) {
             for (size_t i = 0; i < program.length[line]; i++) {
                 *to++ = (uint8_t)"0123456789abcdef"[program.answer[line][i] >> 4];

@@ -1,7 +1,7 @@
 //! A second `touches` over the unmodified Rust, written from document 01's "The touch record", from document 02's
-//! frames 06 and 07 and its count of touches, and from nothing of ours: what the program prints for an input, and the
-//! export. The Rust's panics are refusals 3, 4, 5 and 8; 1, 2, 6, 9 and 10 to 16 are tested here. A kind of frame is a
-//! row of KINDS and a function in the file of its like.
+//! frames 06 and 07, its count of touches and its steps, and from nothing of ours: what the program prints for an input,
+//! and the export. The Rust's panics are refusals 3, 4, 5 and 8; 1, 2, 6, 9 and 10 to 16 are tested here. A kind of
+//! frame is a row of KINDS and a function in the file of its like.
 mod placing;
 mod shapes;
 mod testing;
@@ -97,6 +97,8 @@ struct Pair {
 pub struct Program {
     bodies: [Option<Body>; IDS],
     pairs: Vec<Pair>,
+    /// The steps that have ended.
+    steps: u32,
 }
 
 fn accepted() -> Answer {
@@ -132,14 +134,25 @@ impl Program {
         (kind.run)(self, frame)
     }
 
-    /// One line without its line feed: 10 where it is no row of digits in pairs.
+    /// A step has ended: 0a and how many have.
+    fn step_ended(&mut self) -> Answer {
+        self.steps = self.steps.saturating_add(1);
+        let mut line = Line::of(&[0x0a]);
+        line.put(&self.steps.to_be_bytes());
+        Ok(vec![line])
+    }
+
+    /// One line without its line feed. An empty one ends a step; 10 where it is no row of digits in pairs.
     pub fn line(&mut self, line: &[u8]) -> Answer {
+        if line.is_empty() {
+            return self.step_ended();
+        }
         let digit = |c: u8| match c {
             b'0'..=b'9' => Ok(c - b'0'),
             b'a'..=b'f' => Ok(c - b'a' + 10),
             _ => Err(10),
         };
-        if line.is_empty() || line.len() > 2 * LONGEST_CHAIN || line.len() % 2 == 1 {
+        if line.len() > 2 * LONGEST_CHAIN || line.len() % 2 == 1 {
             return Err(10);
         }
         let frame: Result<Vec<u8>, u8> = line.chunks(2).map(|two| Ok(digit(two[0])? << 4 | digit(two[1])?)).collect();
