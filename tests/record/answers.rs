@@ -30,7 +30,7 @@ pub struct Answered<'a> {
 }
 
 impl Answered<'_> {
-    /// The answer's first byte: 00, 05 or ff; 00 too where there is no line.
+    /// The answer's first byte: 00, 05, 0a or ff; 00 too where there is no line.
     pub fn first(&self) -> usize {
         self.lines.first().map_or(0, |line| byte(line, 0))
     }

@@ -1,8 +1,9 @@
-//! What the heats of a run had in them, counted from inputs and the right outputs.
+//! What the heats of a run had in them, counted from inputs and the right outputs. Their steps: see steps.rs.
 use crate::answers::{byte, float, Answered, IDS};
 use crate::chain_census;
 use crate::kinds::{kind, KINDS};
 use crate::ranges::SIZE;
+use crate::steps::STEP;
 use crate::support::Tally;
 
 /// A quarter turn in parts of a turn.
@@ -26,8 +27,8 @@ pub fn add(input: &[u8], heat: &[Answered], tally: &mut Tally) {
         chains.add(answer, both, tally);
         frame(answer, &mut bodies, tally);
     }
-    if input.last().map_or(false, |c| *c != b'\n') {
-        tally.met("no line feed at the end");
+    if let Some(c) = input.last() {
+        tally.met(if *c == b'\n' { "line feed at the end" } else { "no line feed at the end" });
     }
 }
 
@@ -58,6 +59,7 @@ fn frame(answer: &Answered, bodies: &mut [Stands; IDS], tally: &mut Tally) {
                 body.turn = turn(line);
             }
         }
+        (None, STEP, _) => {}
         _ => answer.lines.iter().for_each(|piece| tested(line, piece, bodies, tally)),
     }
 }
@@ -137,11 +139,10 @@ fn damage(line: &[u8], tally: &mut Tally) {
     let has = |test: fn(&u8) -> bool| line.iter().any(test);
     let heading = |length: fn(usize) -> bool| line.starts_with(b"06") && length(line.len());
     let digits = |count: usize| line.len() == count && line.iter().all(|c| c.is_ascii_hexdigit());
-    let odd: [(&str, bool); 13] = [
+    let odd: [(&str, bool); 12] = [
         ("heading of 11 bytes", heading(|length| length == 22)),
         ("heading of 13 bytes", heading(|length| length == 26)),
         ("heading of odd digits", heading(|length| length % 2 == 1)),
-        ("empty line", line.is_empty()),
         ("CR", has(|c| *c == b'\r')),
         ("NUL", has(|c| *c == 0)),
         ("byte from 80 on", has(|c| *c >= 0x80)),
@@ -206,7 +207,6 @@ pub fn wanted() -> Vec<String> {
         "heading of 11 bytes",
         "heading of 13 bytes",
         "heading of odd digits",
-        "empty line",
         "CR",
         "NUL",
         "byte from 80 on",
@@ -216,6 +216,7 @@ pub fn wanted() -> Vec<String> {
         "136 digits, and no chain",
         "5000 characters",
         "100000 characters",
+        "line feed at the end",
         "no line feed at the end",
     ];
     list.extend(others.iter().map(|what| what.to_string()));

@@ -4,6 +4,7 @@ use crate::chains::POINTS;
 use crate::heats::Heat;
 use crate::kinds::{any, unknown_id, weighted};
 use crate::robots::{body_of, floats, hex, point, shape_frame, Body, Kind};
+use crate::steps::almost_empty;
 
 impl Heat<'_> {
     /// A wall so short that its squared length is 0 or has no finite reciprocal, and a circle over its middle.
@@ -70,10 +71,11 @@ impl Heat<'_> {
             _ => line.extend(vec![b'0'; self.random.of(&[1, 1, 2, 2, 16, 32, 1000])]),
         }
         self.line(&line);
+        self.may_end_step();
         self.bodies[id] = None;
     }
 
-    /// A line that is no frame, or hardly one: damaged digits, wrong lengths, unknown kinds, other bytes, none at all.
+    /// A line that is no frame, or hardly one: damaged digits, wrong lengths, unknown kinds, other bytes, one character.
     pub fn damaged(&mut self) {
         let id = if self.random.once_in(4) { 8 } else { self.id() as u8 };
         let random = &mut *self.random;
@@ -89,7 +91,7 @@ impl Heat<'_> {
             4 => drop(line.remove(place)),
             5 => line.truncate(place),
             14 | 15 => line.truncate(line.len() - 2),
-            7 => line = Vec::new(),
+            7 => line = almost_empty(random),
             8 => line[0..2].copy_from_slice(random.of(&[b"00", b"0b", b"0f", b"10", b"7f", b"ee", b"ff"])),
             9 if kind.third => line[4..6].copy_from_slice(random.of(&[b"02", b"09", b"10", b"ff"])),
             6 | 9 | 10 | 13 => line.extend(b"00"),
@@ -101,6 +103,7 @@ impl Heat<'_> {
             _ => line = vec![random.next() as u8 | 1; if random.once_in(8) { 100_000 } else { 5000 }],
         }
         self.line(&line);
+        self.may_end_step();
         if kind.makes_shape && (id as usize) < IDS {
             self.bodies[id as usize] = None;
         }

@@ -1,5 +1,5 @@
 //! Heats of the papers and of what was found by running, each once.
-pub const FIXED: &[(&str, &[u8])] = &[
+const FIXED: &[(&str, &[u8])] = &[
     ("the papers' whole case", b"010000000000000000003f800000\n01013fc00000000000003f800000\n050001\n"),
     (
         "a centroid beyond the range: built, and each test of it refused",
@@ -86,4 +86,40 @@ pub const FIXED: &[(&str, &[u8])] = &[
     ("one line feed", b"\n"),
     ("a character", b"0"),
     ("a frame with CR", b"050001\r\n050001\n"),
+    ("two line feeds", b"\n\n"),
+    ("a step after a refused test", b"050001\n\n"),
+    ("CR and line feed", b"\r\n"),
+    ("a blank", b" \n"),
+    ("one digit", b"0\n"),
+    ("lines of one character, and steps between them", b"\n\r\n\n \n\n\t\n\n0\n\n\0\n\n\x0b\n\n\xff\n\n"),
+    ("a frame without its line feed after a step", b"\n050001"),
+    ("CR without its line feed after a step", b"\n\n\r"),
+    (
+        "two circles and steps: one touch, its point persists; new shapes do not begin the steps again",
+        b"\n010000000000000000003f800000\n\n01013fc00000000000003f800000\n\n050001\n\n050001\n\n\n050001\n050100\n\n\
+          04013fc00000000000003f8000003f800000\n\n050001\n050100\n\n01013fc00000000000003f800000\n\n050001\n",
+    ),
+    (
+        "a ball on a joint of a chain and steps: each piece keeps its contact",
+        b"070003404000000000000040000000000000000000000000000000c00000003f800000c04000003f800000\n\
+          010100000000000000003f000000\n0401bdcccccd3f07ae14000000003f800000\n\n050001\n\n050001\n\n\n050001\n\n\
+          04013f8000003f000000000000003f800000\n050001\n\n050001\n\n0401bdcccccd3f07ae14000000003f800000\n\n050001\n",
+    ),
 ];
+
+/// More steps than 16 bits count, and more characters than the program reads at once.
+const MANY: usize = 70_000;
+
+/// All of them, with those that are long.
+pub fn fixed() -> Vec<(&'static str, Vec<u8>)> {
+    let lengths = [166, 167, 168, 400];
+    let overlong = |c: u8, end: &[u8]| lengths.map(|length| [&vec![c; length], end].concat()).concat();
+    let touching = b"010000000000000000003f800000\n01013fc00000000000003f800000\n050001\n";
+    let long = [
+        ("many line feeds", vec![b'\n'; MANY]),
+        ("many steps between two tests: one touch", [&touching[..], &[b'\n'; MANY], b"050001\n\n050001"].concat()),
+        ("steps after overlong lines", [overlong(b'0', b"\n\n"), overlong(b'\r', b"\n\n\n")].concat()),
+        ("an overlong line without its line feed after a step", [&b"\n"[..], &[b'0'; 400]].concat()),
+    ];
+    FIXED.iter().map(|(name, text)| (*name, text.to_vec())).chain(long).collect()
+}

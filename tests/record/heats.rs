@@ -1,6 +1,6 @@
 //! Random heats: lines of frames in which circles, outlines, walls and chains meet, rest, roll, slide and part, with
-//! new shapes under old ids, frames that are refused, and damaged lines. Bodies of one heat share a size, now and then
-//! an extreme one.
+//! new shapes under old ids, frames that are refused, damaged lines, and steps. Bodies of one heat share a size, now
+//! and then an extreme one.
 use crate::answers::IDS;
 use crate::generators::{grid, unit};
 use crate::ranges::SIZE;
@@ -153,6 +153,7 @@ impl Heat<'_> {
             if self.random.once_in(3) {
                 self.frame(&[5, b as u8, a as u8]);
             }
+            self.may_end_step();
             match self.random.below(8) {
                 0 | 1 => {}
                 2 => self.meet(a, b),
@@ -184,7 +185,7 @@ impl Heat<'_> {
 }
 
 /// What a heat does next: how often, whether a calm heat does it too, and what.
-const ACTIONS: [(usize, bool, fn(&mut Heat)); 8] = [
+const ACTIONS: [(usize, bool, fn(&mut Heat)); 9] = [
     (2, true, |heat| heat.new_shape()),
     (6, false, |heat| heat.refused()),
     (4, false, |heat| heat.damaged()),
@@ -193,6 +194,7 @@ const ACTIONS: [(usize, bool, fn(&mut Heat)); 8] = [
     (17, true, |heat| heat.scene()),
     (1, true, |heat| heat.bounces()),
     (3, true, |heat| heat.slide()),
+    (2, true, |heat| heat.end_step()),
 ];
 
 /// A heat of about this many lines.
@@ -202,6 +204,7 @@ pub fn heat(random: &mut Random, length: usize) -> Vec<u8> {
     let actions: Vec<fn(&mut Heat)> =
         ACTIONS.iter().filter(|row| !calm || row.1).flat_map(|row| vec![row.2; row.0]).collect();
     let mut heat = Heat { random, scale, bodies: Default::default(), text: Vec::new(), lines: 0 };
+    heat.may_end_step();
     for _ in 0..heat.random.below(6) {
         heat.new_shape();
     }
@@ -209,11 +212,13 @@ pub fn heat(random: &mut Random, length: usize) -> Vec<u8> {
         heat.random.of(&actions)(&mut heat);
     }
     let mut text = heat.text;
-    match random.below(8) {
+    match random.below(10) {
         0 => drop(text.pop()),
         1 => text.extend(hex(&[5, 0, 1])),
         2 => text.extend(b"0"),
         3 => text.extend(b"\r"),
+        4 => text.extend(b"\n"),
+        5 => text.extend(b"\n050001"),
         _ => {}
     }
     text

@@ -1,7 +1,8 @@
 //! The touch record: our program and our export beside second programs over the unmodified Rust and over Box2D 2.4.1,
 //! bytes against bytes. Built with `--cfg papers` where the Rust is at hand and `--cfg box2d` where Box2D is.
 //! usage: record heats PROGRAM HEATS LENGTH SEED   compares PROGRAM on HEATS heats of about LENGTH lines, fed in pieces
-//!                                                 and holds the touches to the rulebook, chains to single walls
+//!                                                 and holds the touches to the rulebook, chains to single walls,
+//!                                                 steps to the empty lines
 //!        record export CASES SEED                 compares the export
 //!        record limits CASES SEED                 searches for what docs/LIMITS.md says does not happen
 //!        record store FOLDER HEATS LENGTH SEED    writes heats and their answers for tests/stored, which both share
@@ -32,10 +33,11 @@ mod rulebook;
 #[cfg(papers)]
 mod rust_touches;
 mod second;
+mod steps;
 #[allow(dead_code)]
 #[path = "../shared/support.rs"]
 mod support;
-use fixed::FIXED;
+use fixed::fixed;
 use heats::heat;
 use std::io::{Read, Write};
 use support::{Random, Tally};
@@ -44,13 +46,14 @@ use support::{Random, Tally};
 /// long and a few of them 300 times.
 fn compare_heats(program: &str, heats: u64, length: usize, seed: u64) -> bool {
     let (mut tally, mut touches) = (Tally::new("heats"), Tally::new("touches by the rulebook"));
-    let mut walls = Tally::new("chains beside walls");
-    for i in 0..FIXED.len() as u64 + heats {
+    let (mut walls, mut steps) = (Tally::new("chains beside walls"), Tally::new("steps"));
+    let all_fixed = fixed();
+    for i in 0..all_fixed.len() as u64 + heats {
         let mut random = Random::new(seed.wrapping_mul(1 << 32).wrapping_add(i));
-        let fixed = FIXED.get(i as usize);
+        let fixed = all_fixed.get(i as usize);
         let longer = [1, 10, 300][(i % 10 == 0) as usize + (i % 2500 == 100) as usize];
         let lines = 1 + random.below(2 * (length * longer) as u64) as usize;
-        let input = fixed.map_or_else(|| heat(&mut random, lines), |(_, text)| text.to_vec());
+        let input = fixed.map_or_else(|| heat(&mut random, lines), |(_, text)| text.clone());
         let (wanted, agree) = second::touches(&input);
         let (ours, ended, pieces) = pieces::run(program, &input, &mut random);
         let name = || fixed.map_or_else(|| format!("'record heat {lines}' from seed {seed}, heat {i}"), |f| f.0.into());
@@ -66,20 +69,25 @@ fn compare_heats(program: &str, heats: u64, length: usize, seed: u64) -> bool {
         if whole {
             census::add(&input, &answered, &mut tally);
             rulebook::follow(&answered, name, fixed.is_none(), &mut touches);
+            if fixed.is_none() {
+                steps::census(&input, &answered, &mut steps);
+            }
         }
+        steps::follow(program, (&input, &ours), &mut random, name, &mut steps);
         as_walls::compare(program, (&input, &ours), &mut random, name, &mut walls);
     }
     let ruled = touches.report(&rulebook::WANTED.map(String::from));
     let equal = walls.report(&as_walls::wanted());
-    tally.report(&census::wanted()) && ruled && equal
+    let stepped = steps.report(&steps::wanted());
+    tally.report(&census::wanted()) && ruled && equal && stepped
 }
 
 /// The fixed heats and random ones, the last of them a hundred times as long, each with its answers.
 fn store(folder: &str, heats: usize, length: usize, seed: u64) {
-    let mut random = Random::new(seed);
+    let (mut random, all_fixed) = (Random::new(seed), fixed());
     for i in 0..heats {
         let lines = if i + 1 < heats { length } else { 100 * length };
-        let input = FIXED.get(i).map_or_else(|| short_heat(&mut random, lines), |(_, text)| text.to_vec());
+        let input = all_fixed.get(i).map_or_else(|| short_heat(&mut random, lines), |(_, text)| text.clone());
         let (output, agree) = second::touches(&input);
         assert!(cfg!(papers) && cfg!(box2d) && agree, "both references are needed, and have to agree");
         for (end, text) in [("in", input), ("out", output)] {
