@@ -2,8 +2,8 @@
 //! Box2D 2.4.1, on one heat sent over and over, on placements of one body, by frame 04 and by frame 06, and on a box
 //! along a chain; and ns a call of the export. usage: record OURS BOX2D HEAT [ROUNDS]
 //! Programs are run as they are used, from a file to a file, and must print the same; then ROUNDS times to nowhere, in
-//! turns. A figure is the least processor time of them, the system's for it included. `record touches` is the second
-//! program over the Rust.
+//! turns. A figure is the least processor time of them, the system's for it included, and that of the empty lines,
+//! which end steps and are no frames. `record touches` is the second program over the Rust.
 #![allow(unknown_lints, unexpected_cfgs)]
 #[allow(dead_code)]
 #[path = "../tests/shared/ranges.rs"]
@@ -48,7 +48,8 @@ fn run(program: &[&str], input: &str, output: &str) -> f64 {
 }
 
 fn programs(ours: &str, box2d: &str, name: &str, once: &[u8], rounds: usize) {
-    let frames = once.iter().filter(|c| **c == b'\n').count();
+    let frames = once.split(|c| *c == b'\n').filter(|line| !line.is_empty()).count();
+    let steps = once.iter().filter(|c| **c == b'\n').count() - frames;
     let times = FRAMES.div_ceil(frames);
     let folder = std::env::temp_dir().join(format!("record-bench-{}", std::process::id()));
     std::fs::create_dir_all(&folder).expect("a folder");
@@ -70,7 +71,7 @@ fn programs(ours: &str, box2d: &str, name: &str, once: &[u8], rounds: usize) {
         }
     }
     std::fs::remove_dir_all(&folder).expect("the folder");
-    println!("{name}, {times} times: {} frames", frames * times);
+    println!("{name}, {times} times: {} frames, {} steps", frames * times, steps * times);
     for ((name, _), seconds) in contestants.iter().zip(best) {
         let rate = (frames * times) as f64 / seconds;
         let ns = 1e9 / rate;
