@@ -97,7 +97,7 @@ const FIXED: &[(&str, &[u8])] = &[
     (
         "two circles and steps: one touch, its point persists; new shapes do not begin the steps again",
         b"\n010000000000000000003f800000\n\n01013fc00000000000003f800000\n\n050001\n\n050001\n\n\n050001\n050100\n\n\
-          04013fc00000000000003f8000003f800000\n\n050001\n050100\n\n01013fc00000000000003f800000\n\n050001\n",
+          04013fc0000000000000000000003f800000\n\n050001\n050100\n\n01013fc00000000000003f800000\n\n050001\n",
     ),
     (
         "a ball over a joint of a chain and steps: each piece keeps its contact",
