@@ -25,20 +25,21 @@ use Rattle.record_definitions.specs.declared.touch.TestAnswer.{TestAnswer}
 use Rattle.record_definitions.specs.declared.touch.Touch.{Touch}
 use Rattle.record_definitions.specs.declared.frame.Answer.the-variants.{Refused, Tested}
 use Rattle.record_definitions.specs.declared.frame.Change.{Change}
+use Rattle.record_definitions.specs.declared.frame.Said.{Said}
+use Rattle.record_definitions.specs.declared.server.Server.{Server}
 use Rattle.record_definitions.specs.World.{no-body, blank-body, circle-kind, chain-kind, fresh-world, chain-body}
 use Rattle.record_definitions.specs.World.{piece-of, pieces-of, kept-of, body-at, pair-at}
 use Rattle.record_definitions.specs.Touch.{tested, piece-tested, first-refusal}
 use Rattle.record_definitions.specs.Answer.{answer-bytes, answer-touches, touches-said, touch-lines, said-line}
-use Rattle.record_definitions.specs.Answer.{result-of}
-use Rattle.record_definitions.specs.declared.frame.Said.{Said}
+use Rattle.record_definitions.specs.Answer.{said-alone, result-of}
 use Rattle.record_definitions.specs.declared.frame.Answer.{Answer}
 use Rattle.record_definitions.specs.Frame.{outline-length, wall-length, frame-length, well-formed, frame-refusal}
 use Rattle.record_definitions.specs.Frame.{refused}
 use Rattle.record_definitions.specs.Frame.{listed, chain-at, test-refusal, all-tests, test-change, change-of-kind}
 use Rattle.record_definitions.specs.Frame.{change}
-use Rattle.record_definitions.specs.Step.{first-place, second-place, change-in, after-frame, said-of-frame, after-line}
-use Rattle.record_definitions.specs.Step.{said-of-line}
-use Rattle.record_definitions.specs.Heat.{after-lines}
+use Rattle.record_definitions.specs.Step.{first-place, second-place, change-in, after-frame, said-of-frame}
+use Rattle.record_definitions.specs.Server.{after-line, Framed, reply-to, reached}
+use Rattle.record_definitions.proofs.Replies.{reply-framed, said-framed}
 use Rattle.record_definitions.proofs.Changes.{by-choice}
 use Rattle.record_definitions.proofs.FrameRefusals.{of-bytes-alone}
 use Rattle.record_definitions.proofs.PieceTests.{all-size}
@@ -50,22 +51,23 @@ use Rattle.record_ranges.proofs.Bodies.{CappedBody}
 use Rattle.record_ranges.proofs.Theorem.{reached-worlds-capped}
 use Rattle.chains.specs.ChainAsWalls.{MakesPiece}
 use Rattle.chains.proofs.Refusals.{refusal-by, all-refused-alike}
-use Rattle.chains.proofs.Start.{points-few, chain-k}
+use Rattle.chains.proofs.Start.{points-few, chain-k, chain-after}
 
 -- ---- pieces: one less than points
 pieces-made : (bytes : List ℕ) → byte-at bytes 2 ≤ 8 → pieces-of (chain-body (chain-at bytes)) ≡ byte-at bytes 2 - 1
 unfolding chain-body chain-at
 pieces-made bytes few = let held : min (byte-at bytes 2 - 1) 7 ≡ byte-at bytes 2 - 1 = omega arith in held
 
-pub one-less-than-points : (lines : List (List ℕ)) (line : List ℕ) (i : ℕ)
-    → MakesPiece (after-lines fresh-world lines) line i
-    → pieces-of (body-at (after-line (after-lines fresh-world lines) line) (byte-at (frame-of line) 1))
+pub one-less-than-points : (lines : List (List ℕ)) (line : List ℕ) (i : ℕ) → MakesPiece (reached lines) line i
+    → pieces-of (body-at (after-line (reached lines) line .world) (byte-at (frame-of line) 1))
     ≡ byte-at (frame-of line) 2 - 1
 one-less-than-points lines line i makes =
-    ap pieces-of
-    (chain-k (after-lines fresh-world lines) (reached-worlds-sound lines) (reached-worlds-capped lines) line i makes)
-    ∙ pieces-made (frame-of line)
-    (points-few (after-lines fresh-world lines) (reached-worlds-sound lines) (reached-worlds-capped lines) line i makes)
+    let sound = reached-worlds-sound lines in
+    let capped = reached-worlds-capped lines in
+    ap (λ (s : Server). pieces-of (body-at (s .world) (byte-at (frame-of line) 1)))
+    (chain-after (reached lines) sound capped line i makes)
+    ∙ ap pieces-of (chain-k (reached lines) sound capped line i makes)
+    ∙ pieces-made (frame-of line) (points-few (reached lines) sound capped line i makes)
 
 -- a test that answers says a result for each
 pub a-result-for-each : (w : World) (frame : List ℕ) (t : Touch) → Sound w → said-of-frame w frame .answer ≡ Tested t
@@ -167,18 +169,19 @@ module _ (a b : Body) (pair : Pair) (chain : a .kind ≡ chain-kind) (a-sound : 
       (λ e. absurd (omega arith)) (λ e. absurd (omega arith))))
 
 -- with the laws of 6, 7 and 9 (record_ranges): what refuses a test of a chain is the frame, or 2 of the other body
-pub chain-never-too-short : (lines : List (List ℕ)) (line : List ℕ) (n : ℕ) → byte-at (frame-of line) 0 ≡ 5
-    → body-at (after-lines fresh-world lines) (first-place (frame-of line)) .kind ≡ chain-kind
-    → said-of-line (after-lines fresh-world lines) line .answer ≡ Refused n → (n ≡ wall-too-short → ⊥)
+pub chain-never-too-short : (lines : List (List ℕ)) (line : List ℕ) (said : Said) (n : ℕ)
+    → byte-at (frame-of line) 0 ≡ 5 → body-at (reached lines .world) (first-place (frame-of line)) .kind ≡ chain-kind
+    → reply-to (reached lines) line ≡ Framed said → said .answer ≡ Refused n → (n ≡ wall-too-short → ⊥)
 unfolding said-of-frame change-in
-chain-never-too-short lines line n five chain is =
-    let w = after-lines fresh-world lines in
+chain-never-too-short lines line said n five chain replied is =
+    let w = reached lines .world in
     let a = first-place (frame-of line) in
     let b = second-place (frame-of line) in
     let sound = reached-worlds-sound lines in
     let capped = reached-worlds-capped lines in
+    let same : said ≡ said-of-frame w (frame-of line) = said-framed (reached lines) line said replied .0 in
     frame-says (body-at w a) (body-at w b) (pair-at w a b) chain (sound .each a) (sound .each b) (capped .each a)
-    (capped .each b) (frame-of line) five n is
+    (capped .each b) (frame-of line) five n (ap (λ (of : Said). of .answer) (sym same) ∙ is)
 
 -- ---- lines of more than 134 characters are chains, or refused with 10
 outline-short : (third : ℕ) → outline-length third ≤ 67
@@ -237,12 +240,17 @@ unfolding frame-refusal
 malformed-number bytes malformed = rw malformed refl
 
 malformed-says : (a b : Body) (pair : Pair) (bytes : List ℕ) → well-formed bytes ≡ false
-    → change a b pair bytes .said .answer ≡ Refused malformed-frame
+    → change a b pair bytes .said ≡ said-alone (Refused malformed-frame)
 unfolding change
 malformed-says a b pair bytes malformed = rw (malformed-number bytes malformed) refl
 
-pub longer-lines-are-chains : (w : World) (line : List ℕ) → 134 < length line → (byte-at (frame-of line) 0 ≡ 7 → ⊥)
-    → said-of-line w line .answer ≡ Refused malformed-frame
+malformed-reply : (s : Server) (line : List ℕ) → (length line ≡ 0 → ⊥) → well-formed (frame-of line) ≡ false
+    → reply-to s line ≡ Framed (said-alone (Refused malformed-frame))
 unfolding said-of-frame change-in
-longer-lines-are-chains w line long other =
-    malformed-says _ _ _ (frame-of line) (not-formed line long other (frame-size line))
+malformed-reply s line begun malformed =
+    reply-framed s line begun ∙ ap Framed (malformed-says _ _ _ (frame-of line) malformed)
+
+pub longer-lines-are-chains : (s : Server) (line : List ℕ) → 134 < length line → (byte-at (frame-of line) 0 ≡ 7 → ⊥)
+    → reply-to s line ≡ Framed (said-alone (Refused malformed-frame))
+longer-lines-are-chains s line long other =
+    malformed-reply s line (λ none. omega arith) (not-formed line long other (frame-size line))

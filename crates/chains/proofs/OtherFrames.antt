@@ -1,5 +1,5 @@
 -- Two worlds, one with a chain under an id and one with its piece i, a wall, in its place (`Seen`): what is found in
--- each after a line, and that a frame of another body leaves them so. Assumes nothing.
+-- each after a frame, and that a frame of another body leaves them so. Assumes nothing.
 use Prim.Native.Nat.{ℕ, _<_}
 use mathlib.Core.Path.{_≡_, refl, sym, _∙_, ap}
 use mathlib.Core.Bool.{Bool, true, false, cond, _&&_, _||_}
@@ -11,7 +11,6 @@ use lib.ListN.{length, length-set}
 use borrow.Author.Tests.{eqb-true, eqb-false, ne-eqb}
 use Rattle.algebra.proofs.Booleans.{by-test}
 use Rattle.lines.specs.Fields.{byte-at}
-use Rattle.lines.specs.Hex.{frame-of}
 use Rattle.record_definitions.specs.declared.world.Body.{Body}
 use Rattle.record_definitions.specs.declared.world.Pair.{Pair}
 use Rattle.record_definitions.specs.declared.world.World.{World}
@@ -20,7 +19,6 @@ use Rattle.record_definitions.specs.World.{wall-kind, chain-kind, wall-body, pl
 use Rattle.record_definitions.specs.World.{pair-at}
 use Rattle.record_definitions.specs.Frame.{change}
 use Rattle.record_definitions.specs.Step.{first-place, second-place, changed, change-in, after-frame}
-use Rattle.record_definitions.specs.Step.{after-line}
 use Rattle.record_definitions.proofs.Sound.{Sound}
 use Rattle.record_definitions.proofs.SoundKept.{frame-keeps-sound}
 use Rattle.record_ranges.proofs.Kept.{CappedWorld, frame-keeps-capped}
@@ -30,10 +28,7 @@ use Rattle.chains.proofs.Lookups.{body-there, pair-there, pairs-length,
 use Rattle.chains.proofs.SeenWorlds.{Seen, fresh-piece}
 
 -- ---- one frame
-module _ (k i : ℕ) (w w′ : World) (same : Seen k i w w′) (line : List ℕ) where
-  abbrev bytes : List ℕ
-  bytes = frame-of line
-
+module _ (k i : ℕ) (w w′ : World) (same : Seen k i w w′) (bytes : List ℕ) where
   abbrev a : ℕ
   a = first-place bytes
 
@@ -53,11 +48,11 @@ module _ (k i : ℕ) (w w′ : World) (same : Seen k i w w′) (line : List ℕ)
   b-small = omega arith
 
   -- what is found after it
-  pub body-after : (x : ℕ) → body-at (after-line w line) x ≡ cond (eqb x a) (c .body) (body-at w x)
+  pub body-after : (x : ℕ) → body-at (after-frame w bytes) x ≡ cond (eqb x a) (c .body) (body-at w x)
   unfolding after-frame changed
   body-after x = body-there (w .bodies) a x (c .body) (same .sound .bodies-size) a-small
 
-  pub body-after′ : (x : ℕ) → body-at (after-line w′ line) x ≡ cond (eqb x a) (c′ .body) (body-at w′ x)
+  pub body-after′ : (x : ℕ) → body-at (after-frame w′ bytes) x ≡ cond (eqb x a) (c′ .body) (body-at w′ x)
   unfolding after-frame changed
   body-after′ x = body-there (w′ .bodies) a x (c′ .body) (same .bodies-size) a-small
 
@@ -65,29 +60,29 @@ module _ (k i : ℕ) (w w′ : World) (same : Seen k i w w′) (line : List ℕ)
   then forget x y new old = cond forget (cond (eqb x a || eqb y a) fresh-pair old) (cond (eqb x a && eqb y b) new old)
 
   pub pair-after : (x y : ℕ) → x < 8 → y < 8
-      → pair-at (after-line w line) x y ≡ then (c .forget) x y (c .pair) (pair-at w x y)
+      → pair-at (after-frame w bytes) x y ≡ then (c .forget) x y (c .pair) (pair-at w x y)
   unfolding after-frame changed
   pair-after x y x-small y-small =
       pair-there (w .pairs) a b x y (c .pair) (same .sound .pairs-size) a-small b-small x-small y-small (c .forget)
 
   pub pair-after′ : (x y : ℕ) → x < 8 → y < 8
-      → pair-at (after-line w′ line) x y ≡ then (c′ .forget) x y (c′ .pair) (pair-at w′ x y)
+      → pair-at (after-frame w′ bytes) x y ≡ then (c′ .forget) x y (c′ .pair) (pair-at w′ x y)
   unfolding after-frame changed
   pair-after′ x y x-small y-small =
       pair-there (w′ .pairs) a b x y (c′ .pair) (same .pairs-size) a-small b-small x-small y-small (c′ .forget)
 
-  pub bodies-after : length (after-line w′ line .bodies) ≡ 8
+  pub bodies-after : length (after-frame w′ bytes .bodies) ≡ 8
   unfolding after-frame changed
   bodies-after = simp length-set (same .bodies-size)
 
-  pub pairs-after-size : length (after-line w′ line .pairs) ≡ 64
+  pub pairs-after-size : length (after-frame w′ bytes .pairs) ≡ 64
   unfolding after-frame changed
   pairs-after-size = pairs-length (c′ .forget) (w′ .pairs) a b (c′ .pair) ∙ same .pairs-size
 
-  pub sound-after : Sound (after-line w line)
+  pub sound-after : Sound (after-frame w bytes)
   sound-after = frame-keeps-sound w bytes (same .sound)
 
-  pub capped-after : CappedWorld (after-line w line)
+  pub capped-after : CappedWorld (after-frame w bytes)
   capped-after = frame-keeps-capped w bytes (same .capped)
 
   -- the second body: the same, or the chain and its piece
@@ -120,7 +115,7 @@ module _ (k i : ℕ) (w w′ : World) (same : Seen k i w w′) (line : List ℕ)
     k-other : eqb k a ≡ false
     k-other = ne-eqb k a (λ is. other (sym is))
 
-    kept-chain : body-at (after-line w line) k ≡ body-at w k
+    kept-chain : body-at (after-frame w bytes) k ≡ body-at w k
     kept-chain = body-after k ∙ rw k-other refl
 
     push : (t u : Bool) (old : Pair)
@@ -131,18 +126,18 @@ module _ (k i : ℕ) (w w′ : World) (same : Seen k i w w′) (line : List ℕ)
     push false u old = refl
 
     own-kept : (y : ℕ) → y < 8
-        → pair-at (after-line w′ line) k y ≡ piece-pair i (pair-at (after-line w line) k y)
+        → pair-at (after-frame w′ bytes) k y ≡ piece-pair i (pair-at (after-frame w bytes) k y)
     own-kept y y-small =
         let old = pair-at w k y in
-        let now : pair-at (after-line w line) k y
+        let now : pair-at (after-frame w bytes) k y
         ≡ cond (c .forget) (cond (false || eqb y a) fresh-pair old) old =
         pair-after k y (same .small) y-small ∙ rw k-other refl in
-        let now′ : pair-at (after-line w′ line) k y
+        let now′ : pair-at (after-frame w′ bytes) k y
         ≡ cond (c .forget) (cond (false || eqb y a) fresh-pair (piece-pair i old)) (piece-pair i old) =
         pair-after′ k y (same .small) y-small ∙ rw (changes-same, k-other, same .own y y-small) refl in
         now′ ∙ push (c .forget) (eqb y a) old ∙ ap (piece-pair i) (sym now)
 
-    pub other-seen : Seen k i (after-line w line) (after-line w′ line)
+    pub other-seen : Seen k i (after-frame w bytes) (after-frame w′ bytes)
     other-seen = record {
       small = same .small;
       sound = sound-after;

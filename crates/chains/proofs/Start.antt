@@ -10,20 +10,24 @@ use lib.ListN.{length, length-set}
 use borrow.Author.Tests.{eqb-true, eq-eqb, ne-eqb, le-leb, le-ltb}
 use Rattle.algebra.proofs.Booleans.{by-test}
 use Rattle.lines.specs.Fields.{byte-at}
-use Rattle.lines.specs.Hex.{frame-of}
+use Rattle.lines.specs.Hex.{frame-of, hex}
 use Rattle.shape_definitions.specs.Refusal.{accepted}
 use Rattle.record_definitions.specs.declared.world.Body.{Body}
 use Rattle.record_definitions.specs.declared.world.Pair.{Pair}
 use Rattle.record_definitions.specs.declared.world.World.{World}
 use Rattle.record_definitions.specs.declared.frame.Answer.the-variants.{Accepted}
 use Rattle.record_definitions.specs.declared.frame.Change.{Change}
+use Rattle.record_definitions.specs.declared.frame.Said.{Said}
+use Rattle.record_definitions.specs.declared.server.Server.{Server}
 use Rattle.record_definitions.specs.World.{chain-kind, wall-body, chain-body, placed, piece-wall, pieces-of, piece-of}
 use Rattle.record_definitions.specs.World.{fresh-pair, body-at, pair-at}
 use Rattle.record_definitions.specs.Frame.{frame-length, well-formed, largest-id, defined, wall-change, chain-at}
 use Rattle.record_definitions.specs.Frame.{chain-refusal, chain-change, frame-refusal, change-of-kind, change}
 use Rattle.record_definitions.specs.Export.{answer-refusal}
 use Rattle.record_definitions.specs.Step.{first-place, second-place, changed, change-in, after-frame, said-of-frame}
-use Rattle.record_definitions.specs.Step.{after-line, said-of-line}
+use Rattle.record_definitions.specs.Server.{after-line, Framed, reply-to}
+use Rattle.record_definitions.specs.Answer.{said-alone}
+use Rattle.record_definitions.proofs.Replies.{said-framed}
 use Rattle.record_definitions.proofs.FrameRefusals.{formed as well-made}
 use Rattle.record_definitions.proofs.Changes.{not-refused, first-id, is-of-kind}
 use Rattle.record_definitions.proofs.OneLine.{length-forget}
@@ -34,7 +38,7 @@ use Rattle.chains.specs.ChainAsWalls.{wall-frame, wall-line, MakesPiece}
 use Rattle.chains.proofs.Frames.{wall-size, wall-there, line-says}
 use Rattle.chains.proofs.Outcomes.{piece-pair}
 use Rattle.chains.proofs.Lookups.{body-there, pair-there}
-use Rattle.chains.proofs.SeenWorlds.{Seen, fresh-piece}
+use Rattle.chains.proofs.SeenWorlds.{Seen, SeenServers, fresh-piece}
 
 -- ---- a frame 07 that is taken
 module _ (a b : Body) (pair : Pair) (bytes : List ℕ) (seven : byte-at bytes 0 ≡ 7)
@@ -112,8 +116,11 @@ module _ (w : World) (sound : Sound w) (k : ℕ) (small : k < 8) (bytes : List �
   )
 
 -- ---- the two worlds
-module _ (w : World) (sound : Sound w) (capped : CappedWorld w) (line : List ℕ) (i : ℕ)
-    (makes : MakesPiece w line i) where
+module _ (s : Server) (sound : Sound (s .world)) (capped : CappedWorld (s .world)) (line : List ℕ) (i : ℕ)
+    (makes : MakesPiece s line i) where
+  abbrev w : World
+  w = s .world
+
   abbrev bytes : List ℕ
   bytes = frame-of line
 
@@ -131,7 +138,8 @@ module _ (w : World) (sound : Sound w) (capped : CappedWorld w) (line : List ℕ
 
   was-taken : change first other their-pair bytes .said .answer ≡ Accepted
   unfolding said-of-frame change-in
-  was-taken = makes .taken
+  was-taken =
+      sym (ap (λ (said : Said). said .answer) (said-framed s line (said-alone Accepted) (makes .taken) .0))
 
   pub named : k ≤ largest-id
   named = first-id first other their-pair bytes (ap answer-refusal was-taken)
@@ -160,14 +168,12 @@ module _ (w : World) (sound : Sound w) (capped : CappedWorld w) (line : List ℕ
       (makes .piece)
 
   -- both print 00
-  pub wall-taken : said-of-line w (wall-line line i) ≡ said-of-line w line
-  unfolding said-of-frame
+  pub wall-taken : reply-to s (wall-line line i) ≡ reply-to s line
+  unfolding said-of-frame hex
   wall-taken =
-      ap (λ (frame : List ℕ). change-in w frame .said) wall-said ∙ ap (λ (c : Change). c .said) wall-change-is
-      ∙ sym (ap (λ (c : Change). c .said) chain-change-is)
-
-  wall-after : after-line w (wall-line line i) ≡ after-frame w (wall-frame bytes i)
-  wall-after = ap (after-frame w) wall-said
+      ap Framed
+      (ap (λ (frame : List ℕ). change-in w frame .said) wall-said ∙ ap (λ (c : Change). c .said) wall-change-is)
+      ∙ sym (makes .taken)
 
   abbrev chain-world : World
   chain-world = after-frame w bytes
@@ -240,5 +246,13 @@ module _ (w : World) (sound : Sound w) (capped : CappedWorld w) (line : List ℕ
       own-fresh : (y : ℕ) → y < 8 → pair-at chain-world k y ≡ fresh-pair
       own-fresh y y-small = pairs-there k y k-small y-small ∙ rw (eq-eqb k k refl) refl
 
-  pub begun : Seen k i (after-line w line) (after-line w (wall-line line i))
-  begun = rw wall-after worlds-seen
+  -- the states after them
+  pub chain-after : after-line s line ≡ record { world = chain-world; steps = s .steps }
+  chain-after = said-framed s line (said-alone Accepted) (makes .taken) .1
+
+  wall-after : after-line s (wall-line line i) ≡ record { world = wall-world; steps = s .steps }
+  unfolding hex
+  wall-after = ap (λ (frame : List ℕ). record { world = after-frame w frame; steps = s .steps }) wall-said
+
+  pub begun : SeenServers k i (after-line s line) (after-line s (wall-line line i))
+  begun = rw (chain-after, wall-after) (record { worlds = worlds-seen; steps = refl })

@@ -1,14 +1,14 @@
--- One turn of the loop of `feed` at a line feed, for any way of printing, from what the code calls: the line's bytes,
--- the bodies' places, the change and what is printed of it. Before the first turn the count of kept characters is held
--- to the row. Assumes nothing.
+-- One turn of the loop of `feed` at a line feed, for any way of printing, from what the code calls: a step that ends; or
+-- the line's bytes, the bodies' places, the change and what is printed of it. Before the first turn the count of kept
+-- characters is held to the row. Assumes nothing.
 use Prim.Native.Nat.{ℕ, _+_, _*_, _-_, _%_, _≤_, _<_, min}
-use mathlib.Core.Path.{_≡_, refl, _∙_, ap}
+use mathlib.Core.Path.{_≡_, refl, sym, _∙_, ap, subst}
 use mathlib.Core.Bool.{Bool, true, false}
 use mathlib.Core.List.{List}
 use native.Mathlib.Omega.{arith}
 use lib.Dec.{leb, eqb}
 use lib.ListN.{length, getD, take, set, length-set}
-use lib.Seq.{set-getD}
+use lib.Seq.{set-getD, length-take-le}
 use borrow.Author.Tests.{leb-true, leb-false}
 use borrow.Rule.Slice.PartMut.{putMid, midOf}
 use Rattle.lines.specs.Buffers.{Put}
@@ -20,12 +20,15 @@ use Rattle.record_definitions.specs.declared.world.Body.{Body}
 use Rattle.record_definitions.specs.declared.world.Pair.{Pair}
 use Rattle.record_definitions.specs.declared.world.World.{World}
 use Rattle.record_definitions.specs.declared.frame.Change.{Change}
-use Rattle.record_definitions.specs.declared.frame.Said.{Said}
+use Rattle.record_definitions.specs.declared.server.Server.{Server}
 use Rattle.record_definitions.specs.World.{forget}
 use Rattle.record_definitions.specs.Touch.{first-refusal}
 use Rattle.record_definitions.specs.Frame.{frame-refusal, test-refusal, all-tests, test-change, change-of-kind}
 use Rattle.record_definitions.specs.Frame.{change}
+use Rattle.record_definitions.specs.Server.{Reply, Framed, Stepped, next-step}
+use Rattle.record_definitions.specs.Step.{after-frame}
 use Rattle.record_definitions.specs.Reading.{Reading, kept-length}
+use Rattle.record_definitions.proofs.Replies.{after-framed, reply-framed}
 use Rattle.record_definitions.proofs.Feeding.{SoFar, next-line}
 use Rattle.record_definitions.proofs.OneLine.{said-is, world-forgets, world-keeps, length-forget, count-held}
 
@@ -43,55 +46,88 @@ row-held line len r r-is size = go (leb kept-length len) refl
         let same : r ≡ len = omega arith in
         ap (λ (n : ℕ). take n line) same
 
-module _ (print : Said → List ℕ) where
-  module _ (chunk old : List ℕ) (r : Reading) (out : List ℕ) (w : World) (line : List ℕ) (len at i x : ℕ)
-      (so-far : SoFar print chunk old r out w line len at i) (more : i < length chunk) (x-is : x ≡ getD chunk i 0)
-      (x-feed : x ≡ line-feed)
-      (frame : List ℕ) (frame-is : frame ≡ frame-of (take len line)) (a b : ℕ) (a-is : a ≡ byte-at frame 1 % 8)
-      (b-is : b ≡ byte-at frame 2 % 8) (past-a past-b : Body) (past-pair : Pair) (c : Change)
+module _ (print : Reply → List ℕ) (chunk old : List ℕ) (r : Reading) (out : List ℕ) (w : World) (steps : ℕ)
+    (line : List ℕ) (len at i x : ℕ)
+    (so-far : SoFar print chunk old r out (record { world = w; steps = steps }) line len at i)
+    (more : i < length chunk) (x-is : x ≡ getD chunk i 0) (x-feed : x ≡ line-feed) (part : List ℕ) (n : ℕ)
+    (part-size : length part ≡ length (midOf at (length out - at) out)) where
+  abbrev server : Server
+  server = record { world = w; steps = steps }
+
+  abbrev AfterWith : ℕ → Server → Type 0
+  AfterWith kept next = SoFar print chunk old r (putMid at (length out - at) out part) next line kept (at + n) (i + 1)
+
+  abbrev After : Server → Type 0
+  After = AfterWith 0
+
+  -- ---- an empty line
+  pub step-ends : len ≡ 0 → (raised : ℕ) → raised ≡ next-step steps
+      → Put (print (Stepped raised)) (midOf at (length out - at) out) n part
+      → AfterWith len (record { world = w; steps = raised })
+  step-ends none raised raised-is put =
+      subst (λ (kept : ℕ). AfterWith kept (record { world = w; steps = raised })) (sym none)
+      (next-line print chunk old r out server line len at i x so-far more x-is _ (Stepped raised) part n x-feed
+      (rw (none, raised-is) refl) (rw (none, raised-is) refl) (so-far .bodies-size) (so-far .pairs-size) part-size put)
+
+  -- ---- a frame
+  module _ (some : len ≡ 0 → ⊥) (frame : List ℕ) (frame-is : frame ≡ frame-of (take len line)) (a b : ℕ)
+      (a-is : a ≡ byte-at frame 1 % 8) (b-is : b ≡ byte-at frame 2 % 8) (past-a past-b : Body) (past-pair : Pair)
+      (c : Change)
       (c-is : c ≡ change (getD (w .bodies) a past-a) (getD (w .bodies) b past-b) (getD (w .pairs) (8 * a + b) past-pair)
       frame)
-      (part : List ℕ) (n : ℕ) (part-size : length part ≡ length (midOf at (length out - at) out))
-      (put : Put (print (c .said)) (midOf at (length out - at) out) n part) where
+      (put : Put (print (Framed (c .said))) (midOf at (length out - at) out) n part) where
+    some-kept : length (take len line) ≡ 0 → ⊥
+    some-kept none =
+        some (sym (length-take-le len line (omega (arith, so-far .kept, so-far .line-size))) ∙ none)
+
+    framed : (next : World) → next ≡ after-frame w (frame-of (take len line)) → length (next .bodies) ≡ 8
+        → length (next .pairs) ≡ 64 → After (record { world = next; steps = steps })
+    framed next next-is bodies pairs =
+        next-line print chunk old r out server line len at i x so-far more x-is _ (Framed (c .said)) part n x-feed
+        (ap (λ (v : World). record { world = v; steps = steps }) next-is
+        ∙ sym (after-framed server (take len line) some-kept))
+        (ap Framed (said-is w (take len line) frame frame-is a b a-is b-is (so-far .bodies-size) (so-far .pairs-size)
+        past-a past-b past-pair c c-is)
+        ∙ sym (reply-framed server (take len line) some-kept))
+        bodies pairs part-size put
+
     -- a new shape
     pub line-forgets : (fresh : List Pair) → c .forget ≡ true → fresh ≡ forget a (w .pairs)
-        → SoFar print chunk old r (putMid at (length out - at) out part)
-        (record { bodies = set (w .bodies) a (c .body); pairs = fresh }) line 0 (at + n) (i + 1)
+        → After (record { world = record { bodies = set (w .bodies) a (c .body); pairs = fresh }; steps = steps })
     line-forgets fresh forgets fresh-is =
-        next-line print chunk old r out w line len at i x so-far more x-is _ (c .said) part n x-feed
+        framed _
         (world-forgets w (take len line) frame frame-is a b a-is b-is (so-far .bodies-size) (so-far .pairs-size) past-a
         past-b past-pair c c-is fresh forgets fresh-is)
-        (said-is w (take len line) frame frame-is a b a-is b-is (so-far .bodies-size) (so-far .pairs-size) past-a past-b
-        past-pair c c-is)
         (simp length-set (so-far .bodies-size))
-        (ap length fresh-is ∙ length-forget a (w .pairs) 8 ∙ so-far .pairs-size) part-size put
+        (ap length fresh-is ∙ length-forget a (w .pairs) 8 ∙ so-far .pairs-size)
 
     -- any other frame: the body and the pair are written
     line-keeps : c .forget ≡ false → (bodies : List Body) → set (w .bodies) a (c .body) ≡ bodies → (pairs : List Pair)
         → set (w .pairs) (8 * a + b) (c .pair) ≡ pairs
-        → SoFar print chunk old r (putMid at (length out - at) out part) (record { bodies = bodies; pairs = pairs }) line
-        0 (at + n) (i + 1)
+        → After (record { world = record { bodies = bodies; pairs = pairs }; steps = steps })
     line-keeps keeps bodies bodies-are pairs pairs-are =
-        next-line print chunk old r out w line len at i x so-far more x-is _ (c .said) part n x-feed
+        framed _
         (rw (← bodies-are, ← pairs-are)
         (world-keeps w (take len line) frame frame-is a b a-is b-is (so-far .bodies-size) (so-far .pairs-size) past-a
         past-b past-pair c c-is keeps))
-        (said-is w (take len line) frame frame-is a b a-is b-is (so-far .bodies-size) (so-far .pairs-size) past-a past-b
-        past-pair c c-is)
         (rw (← bodies-are) (simp length-set (so-far .bodies-size)))
-        (rw (← pairs-are) (simp length-set (so-far .pairs-size))) part-size put
+        (rw (← pairs-are) (simp length-set (so-far .pairs-size)))
 
     -- no test: the pair is as it was, and the pairs are not written
     pub line-moves : c .forget ≡ false → c .pair ≡ getD (w .pairs) (8 * a + b) past-pair
-        → SoFar print chunk old r (putMid at (length out - at) out part)
-        (record { bodies = set (w .bodies) a (c .body); pairs = w .pairs }) line 0 (at + n) (i + 1)
+        → After (record {
+          world = record { bodies = set (w .bodies) a (c .body); pairs = w .pairs };
+          steps = steps;
+        })
     line-moves keeps same-pair =
         line-keeps keeps _ refl (w .pairs) (rw same-pair (set-getD (w .pairs) (8 * a + b) past-pair))
 
     -- a test: the body is as it was, and the bodies are not written
     pub line-tests : c .forget ≡ false → c .body ≡ getD (w .bodies) a past-a
-        → SoFar print chunk old r (putMid at (length out - at) out part)
-        (record { bodies = w .bodies; pairs = set (w .pairs) (8 * a + b) (c .pair) }) line 0 (at + n) (i + 1)
+        → After (record {
+          world = record { bodies = w .bodies; pairs = set (w .pairs) (8 * a + b) (c .pair) };
+          steps = steps;
+        })
     line-tests keeps same-body =
         line-keeps keeps (w .bodies) (rw same-body (set-getD (w .bodies) a past-a)) _ refl
 

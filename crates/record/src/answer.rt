@@ -10,6 +10,7 @@ ghost use Rattle.contact_definitions.specs.PointStates.{state-number};
 ghost use Rattle.record_definitions.specs.Answer.{names-bytes, states-bytes, head-bytes, point-bytes, touch-bytes};
 ghost use Rattle.record_definitions.specs.Answer.{answer-bytes, said-bytes, touch-lines, said-line, longest-answer};
 ghost use Rattle.record_definitions.specs.Answer.{longest-line, most-further, longest-said};
+ghost use Rattle.record_definitions.specs.Server.{step-bytes};
 use contact_definitions::b2_collision::B2pointState;
 use contact_definitions::b2_collision::PointStates;
 use lines::fields;
@@ -152,6 +153,28 @@ pub fn put_answer_line(out: &mut [u8], answer: Answer) -> usize
     let mut bytes = [0u8; LONGEST_ANSWER];
     let n = put_answer(&mut bytes, answer);
     hex::put_line(out, &bytes[..n])
+}
+
+// The bytes of a step's end.
+const STEP: usize = 5;
+
+// `0a` and the step number.
+fn put_step(out: &mut [u8], steps: u32)
+    requires { ⌜ 5 ≤ length (now out) ⌝ }
+    ensures { λ _. ⌜ now (out .exit) ≡ over (step-bytes steps) (now (out .entry)) ⌝ }
+{
+    out[0] = 10;
+    fields::put_number(&mut out[1..], steps);
+}
+
+// How many characters.
+pub fn put_step_line(out: &mut [u8], steps: u32) -> usize
+    requires { ⌜ longest-line ≤ length (now out) ⌝ }
+    ensures { λ r. ⌜ Put (line-of (step-bytes steps)) (now (out .entry)) r (now (out .exit)) ⌝ }
+{
+    let mut bytes = [0u8; STEP];
+    put_step(&mut bytes, steps);
+    hex::put_line(out, &bytes)
 }
 
 // A count of further results; one past the row says the whole row.

@@ -41,9 +41,8 @@ pub record LineCases : Type 0 where
       ("01013fc00000000000003f800000", "00") ∷
       ("050001", "050001010000000100000000013f800000000000003f40000000000000bf000000") ∷
       [])
-  -- 10 of lines: empty, another character, an odd number
+  -- 10 of lines: another character, an odd number
   pub malformed-lines : Runs (
-      ("", "ff0a") ∷
       ("0A", "ff0a") ∷
       ("050", "ff0a") ∷
       [])
@@ -142,12 +141,13 @@ pub record LineCases : Type 0 where
       ("01013fc00000000000003f800000", "00") ∷
       ("050001", "050001010000000100000000013f800000000000003f40000000000000bf000000") ∷
       [])
-  -- nothing is printed of nothing, and an empty line is a line
+  -- nothing is printed of nothing, and an empty line is a line: it ends a step
   pub no-input : touches [] ≡ []
-  pub one-line-feed : touches (text "\n") ≡ text "ff0a\n"
+  pub one-line-feed : touches (text "\n") ≡ text "0a00000001\n"
   -- the last line may lack its line feed; nothing after a last line feed is a line
-  pub last-line-without-line-feed : touches (text "\n050707\n050001") ≡ text "ff0a\nff0c\nff0c\n"
-  -- 134 characters are a frame, of eight points that are one; 135 and 136 are overlong; nine points have no length
+  pub last-line-without-line-feed : touches (text "\n050707\n050001") ≡ text "0a00000001\nff0c\nff0c\n"
+  -- an outline has at most 134 characters, here eight points that are one; with one or two more it is none, nor with
+  -- nine points
   pub longest-line : touches (text "020008" ++ replicate 128 48) ≡ text "ff03\n"
   pub overlong-by-one : touches (text "020008" ++ replicate 129 48) ≡ text "ff0a\n"
   pub overlong-by-two : touches (text "020009" ++ replicate 130 48) ≡ text "ff0a\n"

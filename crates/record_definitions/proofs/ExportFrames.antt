@@ -36,9 +36,10 @@ module _ (input : List ℕ) (from size : ℕ) (fits : from + size ≤ length inp
       ≡ size = ap₂ frame-length kind-is (at-place 2 (omega arith)) ∙ size-is in
       rw (length-is, part-length) (simp (ne-eqb size 0 (λ none. omega arith), eq-eqb size size refl))
 
-  part-sendable : size ≤ largest-frame → ((b : ℕ) → List·Memᴰ b input → b < 256)
+  part-sendable : 3 ≤ size → size ≤ largest-frame → ((b : ℕ) → List·Memᴰ b input → b < 256)
       → Sendable (take size (drop from input))
-  part-sendable small bytes = record {
+  part-sendable large small bytes = record {
+    some = λ none. omega (arith, part-length);
     short = omega (arith, part-length);
     bytes = λ b m. bytes b (in-rest b from input (in-front b size (drop from input) m));
   }
@@ -127,16 +128,17 @@ module _ (input : List ℕ) (ordered : in-order input ≡ true) where
   all-sendable bytes =
       let most-0 = length-at-most (byte-at input 2) in
       let most-2 = length-at-most (byte-at input (outline + 2)) in
-      let part-0 = part-sendable input 0 first (omega (arith, outline-is, second-is, size)) most-0 bytes in
+      let part-0 = part-sendable input 0 first (omega (arith, outline-is, second-is, size)) some-first most-0 bytes in
       let part-1 =
       part-sendable input first (outline - first) (omega (arith, outline-is, second-is, size))
-      (omega (arith, outline-is)) bytes in
+      (omega (arith, outline-is)) (omega (arith, outline-is)) bytes in
       let part-2 =
-      part-sendable input outline (second - outline) (omega (arith, some-second, size))
+      part-sendable input outline (second - outline) (omega (arith, some-second, size)) some-second
       (omega (arith, second-is, most-2)) bytes in
       let part-3 =
-      part-sendable input second (length input - second) (omega (arith, size)) (omega (arith, size)) bytes in
-      let test : Sendable test-frame = record { short = omega arith; bytes = test-bytes } in
+      part-sendable input second (length input - second) (omega (arith, size)) (omega (arith, size))
+      (omega (arith, size)) bytes in
+      let test : Sendable test-frame = record { some = λ none. omega arith; short = omega arith; bytes = test-bytes } in
       (rw from-begin part-0, (part-1, (part-2, (part-3, (test, tt)))))
     where
       test-bytes : (b : ℕ) → List·Memᴰ b test-frame → b < 256

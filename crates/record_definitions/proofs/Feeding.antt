@@ -13,10 +13,9 @@ use Rattle.algebra.specs.Buffer.{over}
 use Rattle.algebra.proofs.Buffer.{over-next, length-over}
 use Rattle.lines.specs.Buffers.{Put}
 use Rattle.lines.specs.Hex.{line-feed}
-use Rattle.record_definitions.specs.declared.world.World.{World}
-use Rattle.record_definitions.specs.declared.frame.Said.{Said}
+use Rattle.record_definitions.specs.declared.server.Server.{Server}
 use Rattle.record_definitions.specs.declared.reader.Reader.{Reader}
-use Rattle.record_definitions.specs.Step.{after-line, said-of-line}
+use Rattle.record_definitions.specs.Server.{after-line, Reply, reply-to}
 use Rattle.record_definitions.specs.Reading.{Reading, kept-length, with-character, after-character, after}
 use Rattle.record_definitions.specs.Reading.{printed-character, printed, reading, FedAs}
 use Rattle.record_definitions.proofs.Pieces.{after-append, printed-append}
@@ -44,27 +43,27 @@ put-fits at n out new part within size put =
       length-lent at out within,
     )
 
-module _ (print : Said → List ℕ) where
+module _ (print : Reply → List ℕ) where
   -- ---- what is known after i characters: the reading r before them, the output old before them, and all that the loop
   -- changes
-  pub record SoFar (chunk old : List ℕ) (r : Reading) (out : List ℕ) (w : World) (line : List ℕ) (len at i : ℕ) :
+  pub record SoFar (chunk old : List ℕ) (r : Reading) (out : List ℕ) (server : Server) (line : List ℕ) (len at i : ℕ) :
       Type 0 where
     pub within : i ≤ length chunk
     pub kept : len ≤ kept-length
     pub line-size : length line ≡ kept-length
-    pub bodies-size : length (w .bodies) ≡ 8
-    pub pairs-size : length (w .pairs) ≡ 64
+    pub bodies-size : length (server .world .bodies) ≡ 8
+    pub pairs-size : length (server .world .pairs) ≡ 64
     pub out-size : length out ≡ length old
     pub at-within : at ≤ length old
     pub count : at ≡ length (printed print r (take i chunk))
     pub output : out ≡ over (printed print r (take i chunk)) old
-    pub state : _≡_ {A = Reading} (record { world = w; line = take len line }) (after r (take i chunk))
+    pub state : _≡_ {A = Reading} (record { server = server; line = take len line }) (after r (take i chunk))
 
-  pub nothing-yet : (chunk old : List ℕ) (w : World) (line : List ℕ) (len : ℕ) → len ≤ kept-length
-      → length line ≡ kept-length → length (w .bodies) ≡ 8 → length (w .pairs) ≡ 64
-      → SoFar chunk old (record { world = w; line = take len line }) old w line len 0 0
+  pub nothing-yet : (chunk old : List ℕ) (server : Server) (line : List ℕ) (len : ℕ) → len ≤ kept-length
+      → length line ≡ kept-length → length (server .world .bodies) ≡ 8 → length (server .world .pairs) ≡ 64
+      → SoFar chunk old (record { server = server; line = take len line }) old server line len 0 0
   unfolding after printed
-  nothing-yet chunk old w line len short size bodies pairs = record {
+  nothing-yet chunk old server line len short size bodies pairs = record {
     within = omega arith;
     kept = short;
     line-size = size;
@@ -77,16 +76,16 @@ module _ (print : Said → List ℕ) where
     state = refl;
   }
 
-  module _ (chunk old : List ℕ) (r : Reading) (out : List ℕ) (w : World) (line : List ℕ) (len at i x : ℕ)
-      (so-far : SoFar chunk old r out w line len at i) (more : i < length chunk) (x-is : x ≡ getD chunk i 0) where
-    next-after : after r (take (i + 1) chunk) ≡ after-character (record { world = w; line = take len line }) x
+  module _ (chunk old : List ℕ) (r : Reading) (out : List ℕ) (server : Server) (line : List ℕ) (len at i x : ℕ)
+      (so-far : SoFar chunk old r out server line len at i) (more : i < length chunk) (x-is : x ≡ getD chunk i 0) where
+    next-after : after r (take (i + 1) chunk) ≡ after-character (record { server = server; line = take len line }) x
     unfolding after
     next-after =
         ap (after r) (one-more chunk i x more x-is) ∙ after-append r (take i chunk) (x ∷ [])
         ∙ ap (λ (s : Reading). after-character s x) (sym (so-far .state))
 
     next-printed : printed print r (take (i + 1) chunk)
-        ≡ printed print r (take i chunk) ++ printed-character print (record { world = w; line = take len line }) x
+        ≡ printed print r (take i chunk) ++ printed-character print (record { server = server; line = take len line }) x
     unfolding printed
     next-printed =
         let done = printed print r (take i chunk) in
@@ -97,7 +96,7 @@ module _ (print : Said → List ℕ) where
     -- another character is kept
     pub next-character : (line′ : List ℕ) (len′ : ℕ) → (x ≡ line-feed → ⊥)
         → take len′ line′ ≡ with-character (take len line) x → len′ ≤ kept-length → length line′ ≡ kept-length
-        → SoFar chunk old r out w line′ len′ at (i + 1)
+        → SoFar chunk old r out server line′ len′ at (i + 1)
     unfolding after-character printed-character
     next-character line′ len′ other kept-is short size =
         let done = printed print r (take i chunk) in
@@ -114,22 +113,22 @@ module _ (print : Said → List ℕ) where
           count = so-far .count ∙ ap length (sym same);
           output = so-far .output ∙ ap (λ (l : List ℕ). over l old) (sym same);
           state =
-              ap (λ (l : List ℕ). record { world = w; line = l }) kept-is
+              ap (λ (l : List ℕ). record { server = server; line = l }) kept-is
               ∙ rw next-after (simp (ne-eqb x line-feed other));
         }
 
     -- a line feed: the line is answered, and the next begins
-    pub next-line : (w′ : World) (said : Said) (part : List ℕ) (n : ℕ) → x ≡ line-feed
-        → w′ ≡ after-line w (take len line) → said ≡ said-of-line w (take len line) → length (w′ .bodies) ≡ 8
-        → length (w′ .pairs) ≡ 64 → length part ≡ length (midOf at (length out - at) out)
-        → Put (print said) (midOf at (length out - at) out) n part
-        → SoFar chunk old r (putMid at (length out - at) out part) w′ line 0 (at + n) (i + 1)
+    pub next-line : (server′ : Server) (reply : Reply) (part : List ℕ) (n : ℕ) → x ≡ line-feed
+        → server′ ≡ after-line server (take len line) → reply ≡ reply-to server (take len line) → length (server′ .world .bodies) ≡ 8
+        → length (server′ .world .pairs) ≡ 64 → length part ≡ length (midOf at (length out - at) out)
+        → Put (print reply) (midOf at (length out - at) out) n part
+        → SoFar chunk old r (putMid at (length out - at) out part) server′ line 0 (at + n) (i + 1)
     unfolding after-character printed-character
-    next-line w′ said part n feed w′-is said-is bodies pairs part-size put =
-        let new = print said in
+    next-line server′ reply part n feed server′-is reply-is bodies pairs part-size put =
+        let new = print reply in
         let done = printed print r (take i chunk) in
         let grown : printed print r (take (i + 1) chunk) ≡ done ++ new =
-        next-printed ∙ rw (eq-eqb x line-feed feed, said-is) refl in
+        next-printed ∙ rw (eq-eqb x line-feed feed, reply-is) refl in
         let room : at + n ≤ length old =
         omega (
           arith,
@@ -150,13 +149,13 @@ module _ (print : Said → List ℕ) where
           count = sym total ∙ ap length (sym grown);
           output = left ∙ ap (λ (l : List ℕ). over l old) (sym grown);
           state =
-              ap (λ (v : World). record { world = v; line = [] }) w′-is
+              ap (λ (v : Server). record { server = v; line = [] }) server′-is
               ∙ rw next-after (simp (eq-eqb x line-feed feed));
         }
 
   -- ---- at the end: all was taken, or the output has no room for one more line
-  module _ (longest : ℕ) (s : Reader) (chunk old out : List ℕ) (w : World) (line : List ℕ) (len at i : ℕ)
-      (so-far : SoFar chunk old (reading s) out w line len at i)
+  module _ (longest : ℕ) (s : Reader) (chunk old out : List ℕ) (server : Server) (line : List ℕ) (len at i : ℕ)
+      (so-far : SoFar chunk old (reading s) out server line len at i)
       (end : longest ≤ length old - at → i ≡ length chunk) where
     -- with room for a line some of a piece was taken
     some-taken : (k : ℕ) → k ≡ i → longest ≤ length old → 0 < length chunk → 0 < k
@@ -168,7 +167,7 @@ module _ (print : Said → List ℕ) where
     some-taken (suc k) is room more = omega arith
 
     pub fed-at-end : FedAs print longest s chunk old
-        (record { reader = record { world = w; line = line; len = len }; taken = i; written = at }) out
+        (record { reader = record { server = server; line = line; len = len }; taken = i; written = at }) out
     fed-at-end = record {
       within = so-far .within;
       all = end;

@@ -35,9 +35,11 @@ use Rattle.record_definitions.specs.Touch.{first-refusal}
 use Rattle.record_definitions.specs.Frame.{frame-length, well-formed, frame-refusal, circle-change, place-change}
 use Rattle.record_definitions.specs.Frame.{turn-change, listed, test-refusal, test-change, change-of-kind, change}
 use Rattle.record_definitions.specs.Answer.{result-of}
-use Rattle.record_definitions.specs.Step.{change-in, changed, after-frame, said-of-frame, said-of-line}
-use Rattle.record_definitions.specs.Heat.{after-lines, contact-in, contacts-after, contacts-of, touches-begun}
+use Rattle.record_definitions.specs.Step.{change-in, changed, after-frame, said-of-frame}
+use Rattle.record_definitions.specs.Server.{reached}
+use Rattle.record_definitions.specs.Heat.{contact-in, contacts-after, contacts-of, touches-begun}
 use Rattle.record_definitions.specs.Heat.{NextTest}
+use Rattle.record_definitions.specs.Export.{test-frame}
 use Rattle.record_definitions.proofs.HeatLaw.{heat-law}
 
 abbrev heat : List (List ℕ)
@@ -64,7 +66,7 @@ abbrev lines : ℕ → List (List ℕ)
 lines n = take n heat
 
 abbrev world : ℕ → World
-world n = after-lines fresh-world (lines n)
+world n = reached (lines n) .world
 
 -- the contacts of the pair 0 1, whose first body is its own only piece, that count there, and the touches begun
 abbrev counted : ℕ → ℕ × ℕ
@@ -72,7 +74,7 @@ counted n = let contacts = contacts-of 0 1 0 (lines n) in (length contacts, touc
 
 -- the result of the test of the pair there
 abbrev printed : ℕ → Touch
-printed n = result-of (said-of-line (world n) (text "050001")) 0
+printed n = result-of (said-of-frame (world n) test-frame) 0
 
 pub record HeatCases : Type 0 where
   -- how many contacts count, and how many touches: pushed, resting, apart, pushed again and a shape refused, a new
@@ -101,9 +103,9 @@ unfolding neg add sub mul div le lt eq ofBits toBits root-digits whole-root root
     touches-begun
 heat-cases =
     let law = heat-law 0 1 0 (omega arith) (omega arith) (lines 5) in
-    let next = law .next-test (text "050001") _ refl refl refl (omega arith) in
+    let next = law .next-test (text "050001") _ _ refl refl refl refl (omega arith) in
     let law-later = heat-law 0 1 0 (omega arith) (omega arith) (lines 10) in
-    let later = law-later .next-test (text "050001") _ refl refl refl (omega arith) in
+    let later = law-later .next-test (text "050001") _ _ refl refl refl refl (omega arith) in
     record {
       counts = refl;
       other-order = refl;

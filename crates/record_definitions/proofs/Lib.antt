@@ -1,3 +1,4 @@
+pub mod Replies
 pub mod Pieces
 pub mod Feeding
 pub mod OneLine
@@ -32,6 +33,8 @@ pub mod FirstTests
 pub mod HeatCases
 pub mod SaidAlone
 pub mod ExportRuns
+pub mod HexLines
+pub mod StepTheorem
 pub mod ExportLines
 pub mod ExportFrames
 pub mod ExportSteps
@@ -43,4 +46,5 @@ pub mod TurnCases
 pub mod TableCases
 pub mod Controls
 pub mod ChainCases
+pub mod StepCases
 pub mod MarkedCases

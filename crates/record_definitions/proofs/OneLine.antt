@@ -18,8 +18,7 @@ use Rattle.record_definitions.specs.declared.world.World.{World}
 use Rattle.record_definitions.specs.declared.frame.Change.{Change}
 use Rattle.record_definitions.specs.World.{blank-body, fresh-pair, forget, forget-below}
 use Rattle.record_definitions.specs.Frame.{change}
-use Rattle.record_definitions.specs.Step.{changed, change-in, after-frame, said-of-frame, after-line}
-use Rattle.record_definitions.specs.Step.{said-of-line}
+use Rattle.record_definitions.specs.Step.{changed, change-in, after-frame, said-of-frame}
 use Rattle.record_definitions.specs.Reading.{kept-length, with-character}
 
 -- ---- the world after a line, from what the code reads in it
@@ -41,24 +40,24 @@ module _ (w : World) (line frame : List ℕ) (frame-is : frame ≡ frame-of line
         frame-is,
       ) refl
 
-  pub said-is : c .said ≡ said-of-line w line
+  pub said-is : c .said ≡ said-of-frame w (frame-of line)
   unfolding said-of-frame
   said-is = ap (λ (d : Change). d .said) change-is
 
-  world-changed : changed w a b c ≡ after-line w line
+  world-changed : changed w a b c ≡ after-frame w (frame-of line)
   unfolding after-frame
   world-changed = rw (← frame-is, ← a-is, ← b-is) (ap (changed w a b) (change-is ∙ rw (← frame-is) refl))
 
   -- a new shape: its pairs are forgotten
   pub world-forgets : (fresh : List Pair) → c .forget ≡ true → fresh ≡ forget a (w .pairs)
-      → record { bodies = set (w .bodies) a (c .body); pairs = fresh } ≡ after-line w line
+      → record { bodies = set (w .bodies) a (c .body); pairs = fresh } ≡ after-frame w (frame-of line)
   unfolding changed
   world-forgets fresh forgets is = rw is (simp forgets at world-changed)
 
   -- any other frame: the pair is written
   pub world-keeps : c .forget ≡ false
       → record { bodies = set (w .bodies) a (c .body); pairs = set (w .pairs) (8 * a + b) (c .pair) }
-      ≡ after-line w line
+      ≡ after-frame w (frame-of line)
   unfolding changed
   world-keeps keeps = simp keeps at world-changed
 

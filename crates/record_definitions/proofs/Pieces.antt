@@ -13,13 +13,12 @@ use lib.Seq.{take-all, take-append-le, length-take-le}
 use borrow.Author.Tests.{lt-ltb, le-ltb, ne-eqb}
 use Rattle.algebra.proofs.Booleans.{less-or-not}
 use Rattle.lines.specs.Hex.{line-limit, frame-of, line-feed}
-use Rattle.record_definitions.specs.declared.world.World.{World}
-use Rattle.record_definitions.specs.declared.frame.Said.{Said}
-use Rattle.record_definitions.specs.World.{fresh-world}
-use Rattle.record_definitions.specs.Step.{after-line, said-of-line}
+use Rattle.record_definitions.specs.declared.server.Server.{Server}
+use Rattle.record_definitions.specs.Server.{fresh-server, after-line, Reply, reply-to}
 use Rattle.record_definitions.specs.Touches.{lines-from, printed-lines}
 use Rattle.record_definitions.specs.Reading.{Reading, kept-length, after-character, after, begin}
 use Rattle.record_definitions.specs.Reading.{printed-character, printed, last-line, fed-pieces, joined}
+use Rattle.record_definitions.proofs.Replies.{after-framed, reply-framed}
 
 -- ---- the characters that are kept
 kept-step : (k : ℕ) (line : List ℕ) (x : ℕ)
@@ -44,11 +43,16 @@ frame-kept line =
     simp (over, lt-ltb line-limit (length line) (omega arith)))
     (less-or-not (length line) kept-length)
 
-after-kept : (w : World) (line : List ℕ) → after-line w (take kept-length line) ≡ after-line w line
-after-kept w line = rw (frame-kept line) refl
+-- so an empty line is kept as one, and no other line
+after-kept : (s : Server) (line : List ℕ) → after-line s (take kept-length line) ≡ after-line s line
+after-kept s [] = refl
+after-kept s (c ∷ line) =
+    after-framed s (take kept-length (c ∷ line)) (λ none. omega arith) ∙ rw (frame-kept (c ∷ line)) refl
 
-said-kept : (w : World) (line : List ℕ) → said-of-line w (take kept-length line) ≡ said-of-line w line
-said-kept w line = rw (frame-kept line) refl
+reply-kept : (s : Server) (line : List ℕ) → reply-to s (take kept-length line) ≡ reply-to s line
+reply-kept s [] = refl
+reply-kept s (c ∷ line) =
+    reply-framed s (take kept-length (c ∷ line)) (λ none. omega arith) ∙ rw (frame-kept (c ∷ line)) refl
 
 -- ---- two pieces
 pub after-append : (r : Reading) (a b : List ℕ) → after r (a ++ b) ≡ after (after r a) b
@@ -56,10 +60,10 @@ unfolding after
 after-append r [] b = refl
 after-append r (x ∷ a) b = after-append (after-character r x) a b
 
-as-reading : World → List ℕ → Reading
-as-reading w line = record { world = w; line = take kept-length line }
+as-reading : Server → List ℕ → Reading
+as-reading s line = record { server = s; line = take kept-length line }
 
-module _ (print : Said → List ℕ) where
+module _ (print : Reply → List ℕ) where
   pub printed-append : (r : Reading) (a b : List ℕ)
       → printed print r (a ++ b) ≡ printed print r a ++ printed print (after r a) b
   unfolding after printed
@@ -83,65 +87,65 @@ module _ (print : Said → List ℕ) where
       append-assoc (printed-character print r x) (printed print next input) (last-line print (after next input))
 
   -- what the lines print of the input behind the beginning of one
-  of-lines : World → List ℕ → List ℕ → List ℕ
-  of-lines w line input = printed-lines print w (lines-from line input)
+  of-lines : Server → List ℕ → List ℕ → List ℕ
+  of-lines s line input = printed-lines print s (lines-from line input)
 
   -- one character, from what the rest prints after it
-  module _ (w : World) (line input : List ℕ) (x : ℕ) where
+  module _ (s : Server) (line input : List ℕ) (x : ℕ) where
     line-ended : eqb x line-feed ≡ true
-        → of-lines (after-line w line) [] input ≡ to-print (as-reading (after-line w line) []) input
-        → of-lines w line (x ∷ input) ≡ to-print (as-reading w line) (x ∷ input)
+        → of-lines (after-line s line) [] input ≡ to-print (as-reading (after-line s line) []) input
+        → of-lines s line (x ∷ input) ≡ to-print (as-reading s line) (x ∷ input)
     unfolding of-lines lines-from printed-lines as-reading after-character printed-character
     line-ended is rest =
-        let said = print (said-of-line w line) in
-        let answered : printed-character print (as-reading w line) x ≡ said =
-        rw is (ap print (said-kept w line)) in
-        let next : after-character (as-reading w line) x ≡ as-reading (after-line w line) [] =
-        rw is (ap (λ (v : World). as-reading v []) (after-kept w line)) in
-        let right : to-print (as-reading w line) (x ∷ input)
-        ≡ said ++ to-print (as-reading (after-line w line) []) input =
-        first-character (as-reading w line) x input
-        ∙ ap (λ (l : List ℕ). l ++ to-print (after-character (as-reading w line) x) input) answered
-        ∙ ap (λ (r : Reading). said ++ to-print r input) next in
-        rw (is, right) (ap (_++_ said) rest)
+        let reply = print (reply-to s line) in
+        let answered : printed-character print (as-reading s line) x ≡ reply =
+        rw is (ap print (reply-kept s line)) in
+        let next : after-character (as-reading s line) x ≡ as-reading (after-line s line) [] =
+        rw is (ap (λ (v : Server). as-reading v []) (after-kept s line)) in
+        let right : to-print (as-reading s line) (x ∷ input)
+        ≡ reply ++ to-print (as-reading (after-line s line) []) input =
+        first-character (as-reading s line) x input
+        ∙ ap (λ (l : List ℕ). l ++ to-print (after-character (as-reading s line) x) input) answered
+        ∙ ap (λ (r : Reading). reply ++ to-print r input) next in
+        rw (is, right) (ap (_++_ reply) rest)
 
     line-goes-on : eqb x line-feed ≡ false
-        → of-lines w (line ++ (x ∷ [])) input ≡ to-print (as-reading w (line ++ (x ∷ []))) input
-        → of-lines w line (x ∷ input) ≡ to-print (as-reading w line) (x ∷ input)
+        → of-lines s (line ++ (x ∷ [])) input ≡ to-print (as-reading s (line ++ (x ∷ []))) input
+        → of-lines s line (x ∷ input) ≡ to-print (as-reading s line) (x ∷ input)
     unfolding of-lines lines-from as-reading after-character printed-character
     line-goes-on is rest =
-        let nothing : printed-character print (as-reading w line) x ≡ [] = rw is refl in
-        let next : after-character (as-reading w line) x ≡ as-reading w (line ++ (x ∷ [])) =
-        rw is (ap (λ (l : List ℕ). record { world = w; line = l }) (kept-step kept-length line x)) in
-        let right : to-print (as-reading w line) (x ∷ input) ≡ to-print (as-reading w (line ++ (x ∷ []))) input =
-        first-character (as-reading w line) x input
-        ∙ ap (λ (l : List ℕ). l ++ to-print (after-character (as-reading w line) x) input) nothing
+        let nothing : printed-character print (as-reading s line) x ≡ [] = rw is refl in
+        let next : after-character (as-reading s line) x ≡ as-reading s (line ++ (x ∷ [])) =
+        rw is (ap (λ (l : List ℕ). record { server = s; line = l }) (kept-step kept-length line x)) in
+        let right : to-print (as-reading s line) (x ∷ input) ≡ to-print (as-reading s (line ++ (x ∷ []))) input =
+        first-character (as-reading s line) x input
+        ∙ ap (λ (l : List ℕ). l ++ to-print (after-character (as-reading s line) x) input) nothing
         ∙ ap (λ (r : Reading). to-print r input) next in
         rw (is, right) rest
 
     one-character : (t : Bool) → eqb x line-feed ≡ t
-        → of-lines (after-line w line) [] input ≡ to-print (as-reading (after-line w line) []) input
-        → of-lines w (line ++ (x ∷ [])) input ≡ to-print (as-reading w (line ++ (x ∷ []))) input
-        → of-lines w line (x ∷ input) ≡ to-print (as-reading w line) (x ∷ input)
+        → of-lines (after-line s line) [] input ≡ to-print (as-reading (after-line s line) []) input
+        → of-lines s (line ++ (x ∷ [])) input ≡ to-print (as-reading s (line ++ (x ∷ []))) input
+        → of-lines s line (x ∷ input) ≡ to-print (as-reading s line) (x ∷ input)
     one-character true is ended on = line-ended is ended
     one-character false is ended on = line-goes-on is on
 
-  by-characters : (w : World) (line input : List ℕ) → of-lines w line input ≡ to-print (as-reading w line) input
+  by-characters : (s : Server) (line input : List ℕ) → of-lines s line input ≡ to-print (as-reading s line) input
   unfolding of-lines lines-from printed-lines after printed to-print as-reading
-  by-characters w [] [] = refl
-  by-characters w (c ∷ line) [] =
-      append-nil (print (said-of-line w (c ∷ line))) ∙ sym (ap print (said-kept w (c ∷ line)))
+  by-characters s [] [] = refl
+  by-characters s (c ∷ line) [] =
+      append-nil (print (reply-to s (c ∷ line))) ∙ sym (ap print (reply-kept s (c ∷ line)))
       ∙ simp (ne-eqb (length (take kept-length (c ∷ line))) 0 (λ none. omega arith))
-  by-characters w line (x ∷ input) =
-      one-character w line input x (eqb x line-feed) refl (by-characters (after-line w line) [] input)
-      (by-characters w (line ++ (x ∷ [])) input)
+  by-characters s line (x ∷ input) =
+      one-character s line input x (eqb x line-feed) refl (by-characters (after-line s line) [] input)
+      (by-characters s (line ++ (x ∷ [])) input)
 
   -- a program that keeps so many characters of a line prints what the lines print
   whole : (input : List ℕ)
       → printed print begin input ++ last-line print (after begin input)
-      ≡ printed-lines print fresh-world (lines-from [] input)
+      ≡ printed-lines print fresh-server (lines-from [] input)
   unfolding of-lines to-print as-reading
-  whole input = sym (by-characters fresh-world [] input)
+  whole input = sym (by-characters fresh-server [] input)
 
   -- ---- pieces
   pieces-whole : (r : Reading) (pieces : List (List ℕ))
@@ -157,5 +161,5 @@ module _ (print : Said → List ℕ) where
 
   -- however the input is split, and however it is printed
   pub split-anyhow : (pieces : List (List ℕ))
-      → fed-pieces print begin pieces ≡ printed-lines print fresh-world (lines-from [] (joined pieces))
+      → fed-pieces print begin pieces ≡ printed-lines print fresh-server (lines-from [] (joined pieces))
   split-anyhow pieces = pieces-whole begin pieces ∙ whole (joined pieces)

@@ -2,7 +2,7 @@
 -- refusal changes no state; which frame changes which pair; what an answer's bytes are; which refusals a test cannot
 -- meet. TestTheorem has those of a test that answers. Bodies only cite. Assumes nothing.
 use Prim.Native.Nat.{ℕ, _≤_}
-use mathlib.Core.Path.{_≡_}
+use mathlib.Core.Path.{_≡_, sym, _∙_, ap}
 use mathlib.Core.Bool.{cond}
 use mathlib.Core.List.{List, [], _∷_}
 use lib.Dec.{eqb}
@@ -13,15 +13,17 @@ use Rattle.record_definitions.specs.declared.world.World.{World}
 use Rattle.record_definitions.specs.declared.touch.Touch.{Touch}
 use Rattle.record_definitions.specs.declared.frame.Answer.the-variants.{Accepted, Refused}
 use Rattle.record_definitions.specs.declared.frame.Said.{Said}
-use Rattle.record_definitions.specs.World.{fresh-pair, fresh-world, body-at, pair-at}
+use Rattle.record_definitions.specs.declared.server.Server.{Server}
+use Rattle.record_definitions.specs.World.{fresh-pair, body-at, pair-at}
 use Rattle.record_definitions.specs.Frame.{largest-id}
 use Rattle.record_definitions.specs.Answer.{touch-bytes, said-bytes, said-line}
 use Rattle.record_definitions.specs.Answer.{longest-answer, longest-said, most-further}
 use Rattle.record_definitions.specs.Step.{first-place, second-place, change-in, after-frame, said-of-frame}
-use Rattle.record_definitions.specs.Step.{after-line, said-of-line}
-use Rattle.record_definitions.specs.Heat.{after-lines}
+use Rattle.record_definitions.specs.Server.{fresh-server, after-line, Framed, reply-to, reply-line, after-lines}
+use Rattle.record_definitions.specs.Server.{reached}
 use Rattle.record_definitions.specs.Touches.{touches}
 use Rattle.record_definitions.specs.Reading.{begin, fed-pieces, joined}
+use Rattle.record_definitions.proofs.Replies.{said-framed}
 use Rattle.record_definitions.proofs.Pieces.{split-anyhow}
 use Rattle.record_definitions.proofs.Refusing.{after-refused}
 use Rattle.record_definitions.proofs.Changes.{NewShape, Placing}
@@ -34,23 +36,28 @@ use Rattle.record_definitions.proofs.SoundTests.{NotOfHost}
 use Rattle.record_definitions.proofs.SoundFrames.{test-frame-fine}
 
 -- ---- however the reads split the input, what is printed is `touches` of it
-pub split-input : (pieces : List (List ℕ)) → fed-pieces said-line begin pieces ≡ touches (joined pieces)
+pub split-input : (pieces : List (List ℕ)) → fed-pieces reply-line begin pieces ≡ touches (joined pieces)
 unfolding touches
-split-input pieces = split-anyhow said-line pieces
+split-input pieces = split-anyhow reply-line pieces
 
 -- ---- a line that is refused changes nothing
-pub refused-changes-nothing : (w : World) (line : List ℕ) (n : ℕ) → said-of-line w line .answer ≡ Refused n
-    → after-line w line ≡ w
-refused-changes-nothing w line n is = after-refused w (frame-of line) n is
+pub refused-changes-nothing : (s : Server) (line : List ℕ) (said : Said) (n : ℕ) → reply-to s line ≡ Framed said
+    → said .answer ≡ Refused n → after-line s line ≡ s
+refused-changes-nothing s line said n is refuses =
+    let framed = said-framed s line said is in
+    framed .1
+    ∙ ap (λ (w : World). record { world = w; steps = s .steps })
+    (after-refused (s .world) (frame-of line) n (ap (λ (of : Said). of .answer) (sym (framed .0)) ∙ refuses))
 
 -- ---- every world that lines reach is sound: eight bodies and 64 pairs, each as accepted frames left it
-lines-keep-sound : (w : World) (lines : List (List ℕ)) → Sound w → Sound (after-lines w lines)
-lines-keep-sound w [] sound = sound
-lines-keep-sound w (line ∷ lines) sound =
-    lines-keep-sound (after-line w line) lines (frame-keeps-sound w (frame-of line) sound)
+lines-keep-sound : (s : Server) (lines : List (List ℕ)) → Sound (s .world) → Sound (after-lines s lines .world)
+lines-keep-sound s [] sound = sound
+lines-keep-sound s ([] ∷ lines) sound = lines-keep-sound (after-line s []) lines sound
+lines-keep-sound s ((c ∷ line) ∷ lines) sound =
+    lines-keep-sound (after-line s (c ∷ line)) lines (frame-keeps-sound (s .world) (frame-of (c ∷ line)) sound)
 
-pub reached-worlds-sound : (lines : List (List ℕ)) → Sound (after-lines fresh-world lines)
-reached-worlds-sound lines = lines-keep-sound fresh-world lines fresh-sound
+pub reached-worlds-sound : (lines : List (List ℕ)) → Sound (reached lines .world)
+reached-worlds-sound lines = lines-keep-sound fresh-server lines fresh-sound
 
 -- ---- a frame that defines a shape, accepted: the pairs of its id are fresh, in both orders, and no other changes
 module _ (w : World) (frame : List ℕ) (new : NewShape (byte-at frame 0))

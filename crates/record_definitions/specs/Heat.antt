@@ -1,7 +1,7 @@
--- Document 01, "The touch record", and document 02, requests 02 and 03, over a whole heat: what an ordered pair of ids
--- remembers, counts and prints, of a chain each piece by itself, hangs on the contacts of its accepted tests since the
--- last accepted new shape under either id, and on nothing else. So "a resting contact recorded as a fresh push" is
--- ruled out over a heat, not a step. Definitions only.
+-- Document 01, "The touch record", and document 02, requests 02, 03 and 05, over a whole heat: what an ordered pair of
+-- ids remembers, counts and prints, of a chain each piece by itself, hangs on the contacts of its accepted tests since
+-- the last accepted new shape under either id, and on nothing else, empty lines among it. So "a resting contact
+-- recorded as a fresh push" is ruled out over a heat, not a step. Definitions only.
 use Prim.Native.Nat.{ℕ, suc, _<_, min}
 use mathlib.Core.Path.{_≡_}
 use mathlib.Core.Bool.{Bool, true, cond, _&&_, _||_}
@@ -19,17 +19,15 @@ use Rattle.record_definitions.specs.declared.world.World.{World}
 use Rattle.record_definitions.specs.declared.touch.Touch.{Touch}
 use Rattle.record_definitions.specs.declared.frame.Answer.{Answer}
 use Rattle.record_definitions.specs.declared.frame.Answer.the-variants.{Accepted, Refused, Tested}
+use Rattle.record_definitions.specs.declared.frame.Said.{Said}
+use Rattle.record_definitions.specs.declared.server.Server.{Server}
 use Rattle.record_definitions.specs.World.{circle-kind, outline-kind, wall-kind, chain-kind, pieces-of}
-use Rattle.record_definitions.specs.World.{piece-of, kept-of, fresh-world, body-at, pair-at}
+use Rattle.record_definitions.specs.World.{piece-of, kept-of, body-at, pair-at}
 use Rattle.record_definitions.specs.Touch.{meet, touch-begins, largest-count}
 use Rattle.record_definitions.specs.Rulebook.{Rulebook}
 use Rattle.record_definitions.specs.Answer.{result-of}
-use Rattle.record_definitions.specs.Step.{after-line, said-of-line}
-
--- the world after some lines
-abbrev pub after-lines : World → List (List ℕ) → World
-after-lines w [] = w
-after-lines w (line ∷ lines) = after-lines (after-line w line) lines
+use Rattle.record_definitions.specs.Server.{fresh-server, after-line, Reply, Framed, Stepped, reply-to}
+use Rattle.record_definitions.specs.Server.{reached}
 
 -- ---- the contacts that count, of an ordered pair and a piece of its first body: of the accepted tests since a new
 -- shape under either id, the latest first
@@ -56,16 +54,21 @@ module _ (a b i : ℕ) where
   abbrev pub contact-in : World → B2manifold
   contact-in w = meet (piece-of (body-at w a) i) (body-at w b) .manifold
 
-  abbrev pub with-line : World → List ℕ → List B2manifold → List B2manifold
-  with-line w line earlier =
-      with-answer (said-of-line w line .answer) (frame-of line) (piece-there w) (contact-in w) earlier
+  -- an empty line changes them not either
+  abbrev pub with-reply : Reply → List ℕ → Bool → B2manifold → List B2manifold → List B2manifold
+  with-reply (Framed said) frame there contact earlier = with-answer (said .answer) frame there contact earlier
+  with-reply (Stepped steps) frame there contact earlier = earlier
 
-  unfoldable pub contacts-after : World → List B2manifold → List (List ℕ) → List B2manifold
-  contacts-after w earlier [] = earlier
-  contacts-after w earlier (line ∷ lines) = contacts-after (after-line w line) (with-line w line earlier) lines
+  abbrev pub with-line : Server → List ℕ → List B2manifold → List B2manifold
+  with-line s line earlier =
+      with-reply (reply-to s line) (frame-of line) (piece-there (s .world)) (contact-in (s .world)) earlier
+
+  unfoldable pub contacts-after : Server → List B2manifold → List (List ℕ) → List B2manifold
+  contacts-after s earlier [] = earlier
+  contacts-after s earlier (line ∷ lines) = contacts-after (after-line s line) (with-line s line earlier) lines
 
   abbrev pub contacts-of : List (List ℕ) → List B2manifold
-  contacts-of lines = contacts-after fresh-world [] lines
+  contacts-of lines = contacts-after fresh-server [] lines
 
 -- ---- what they decide
 -- the contact of the last of these tests; none is a default manifold
@@ -105,12 +108,9 @@ pub record NextTest (earlier : List B2manifold) (contact : B2manifold) (t : Touc
 -- ---- the law of a heat, for an ordered pair of ids, a piece of the first and any lines from a fresh start
 pub record HeatLaw (a b i : ℕ) (lines : List (List ℕ)) : Type 0 where
   -- of the piece the pair remembers the last of these contacts, and the touches begun
-  pub remembered : kept-of (pair-at (after-lines fresh-world lines) a b) i .ids
-      ≡ ids-of (last-contact (contacts-of a b i lines))
-  pub counted : kept-of (pair-at (after-lines fresh-world lines) a b) i .touches ≡ touches-of (contacts-of a b i lines)
+  pub remembered : kept-of (pair-at (reached lines .world) a b) i .ids ≡ ids-of (last-contact (contacts-of a b i lines))
+  pub counted : kept-of (pair-at (reached lines .world) a b) i .touches ≡ touches-of (contacts-of a b i lines)
   -- and so it prints, whatever line comes next, where the first body has the piece
-  pub next-test : (line : List ℕ) (t : Touch)
-      → said-of-line (after-lines fresh-world lines) line .answer ≡ Tested t → t .a ≡ a → t .b ≡ b
-      → i < pieces-of (body-at (after-lines fresh-world lines) a)
-      → NextTest (contacts-of a b i lines) (contact-in a b i (after-lines fresh-world lines))
-      (result-of (said-of-line (after-lines fresh-world lines) line) i)
+  pub next-test : (line : List ℕ) (said : Said) (t : Touch) → reply-to (reached lines) line ≡ Framed said
+      → said .answer ≡ Tested t → t .a ≡ a → t .b ≡ b → i < pieces-of (body-at (reached lines .world) a)
+      → NextTest (contacts-of a b i lines) (contact-in a b i (reached lines .world)) (result-of said i)

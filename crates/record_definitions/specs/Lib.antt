@@ -4,7 +4,9 @@ pub mod Rulebook
 pub mod Answer
 pub mod Frame
 pub mod Step
+pub mod Server
 pub mod Touches
+pub mod StepLaws
 pub mod Reading
 pub mod Export
 pub mod Heat

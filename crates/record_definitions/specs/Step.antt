@@ -1,10 +1,9 @@
--- Document 01, "The touch record": one line. The world after it, and what is said of it. Definitions only.
+-- Document 01, "The touch record": one frame. The world after it, and what is said of it. Definitions only.
 use Prim.Native.Nat.{ℕ, _%_}
 use mathlib.Core.Bool.{Bool, true, false}
 use mathlib.Core.List.{List}
 use lib.ListN.{set}
 use Rattle.lines.specs.Fields.{byte-at}
-use Rattle.lines.specs.Hex.{frame-of}
 use Rattle.record_definitions.specs.declared.world.Pair.{Pair}
 use Rattle.record_definitions.specs.declared.world.World.{World}
 use Rattle.record_definitions.specs.declared.frame.Change.{Change}
@@ -37,15 +36,9 @@ changed w a b c = record {
   pairs = pairs-after (c .forget) (w .pairs) a b (c .pair);
 }
 
--- ---- a frame, and a line
+-- ---- a frame
 unfoldable pub after-frame : World → List ℕ → World
 after-frame w bytes = changed w (first-place bytes) (second-place bytes) (change-in w bytes)
 
 unfoldable pub said-of-frame : World → List ℕ → Said
 said-of-frame w bytes = change-in w bytes .said
-
-abbrev pub after-line : World → List ℕ → World
-after-line w line = after-frame w (frame-of line)
-
-abbrev pub said-of-line : World → List ℕ → Said
-said-of-line w line = said-of-frame w (frame-of line)

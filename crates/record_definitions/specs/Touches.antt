@@ -1,15 +1,12 @@
 -- Document 01, "The touch record": the program `touches`, from all of its input to all of its output, for any way of
--- printing what is said of a line. Definitions only.
+-- printing the reply to a line. Definitions only.
 use Prim.Native.Nat.{ℕ}
 use mathlib.Core.Bool.{cond}
 use mathlib.Core.List.{List, [], _∷_, _++_}
 use lib.Dec.{eqb}
 use Rattle.lines.specs.Hex.{line-feed}
-use Rattle.record_definitions.specs.declared.world.World.{World}
-use Rattle.record_definitions.specs.declared.frame.Said.{Said}
-use Rattle.record_definitions.specs.World.{fresh-world}
-use Rattle.record_definitions.specs.Answer.{said-line}
-use Rattle.record_definitions.specs.Step.{after-line, said-of-line}
+use Rattle.record_definitions.specs.declared.server.Server.{Server}
+use Rattle.record_definitions.specs.Server.{fresh-server, after-line, Reply, reply-to, reply-line}
 
 -- the lines of the input behind the beginning of one: a line ends at a line feed, the last may lack it, and nothing
 -- after a last line feed is a line
@@ -20,10 +17,9 @@ lines-from line (x ∷ input) =
     cond (eqb x line-feed) (line ∷ lines-from [] input) (lines-from (line ++ (x ∷ [])) input)
 
 -- what lines print, one after the other
-unfoldable pub printed-lines : (Said → List ℕ) → World → List (List ℕ) → List ℕ
-printed-lines print w [] = []
-printed-lines print w (line ∷ lines) =
-    print (said-of-line w line) ++ printed-lines print (after-line w line) lines
+unfoldable pub printed-lines : (Reply → List ℕ) → Server → List (List ℕ) → List ℕ
+printed-lines print s [] = []
+printed-lines print s (line ∷ lines) = print (reply-to s line) ++ printed-lines print (after-line s line) lines
 
 unfoldable pub touches : List ℕ → List ℕ
-touches input = printed-lines said-line fresh-world (lines-from [] input)
+touches input = printed-lines reply-line fresh-server (lines-from [] input)

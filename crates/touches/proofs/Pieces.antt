@@ -9,14 +9,13 @@ use borrow.Author.Tests.{ne-eqb}
 use lib.ListN.{length, take, drop, length-append, length-drop}
 use lib.Seq.{take-all, take-add, take-at}
 use Rattle.lines.specs.Hex.{line-feed}
-use Rattle.record_definitions.specs.declared.frame.Said.{Said}
 use Rattle.record_definitions.specs.declared.reader.Reader.{Reader}
 use Rattle.record_definitions.specs.declared.reader.Fed.{Fed}
-use Rattle.record_definitions.specs.Step.{said-of-line}
+use Rattle.record_definitions.specs.Server.{Reply, reply-to}
 use Rattle.record_definitions.specs.Reading.{Reading, after, printed-character, printed, last-line, reading, FedAs}
 use Rattle.record_definitions.proofs.Pieces.{after-append}
 
-module _ (print : Said → List ℕ) (longest : ℕ) where
+module _ (print : Reply → List ℕ) (longest : ℕ) where
   -- after the first characters of a piece; the output was as long as old before it
   pub record PieceSoFar (s : Reader) (chunk old out : List ℕ) (reader : Reader) (from : ℕ) : Type 0 where
     pub within : from ≤ length chunk
@@ -89,4 +88,4 @@ module _ (print : Said → List ℕ) (longest : ℕ) where
       → printed print r (line-feed ∷ []) ≡ last-line print r
   unfolding printed printed-character
   last-line-fed r some =
-      append-nil (print (said-of-line (r .world) (r .line))) ∙ simp (ne-eqb (length (r .line)) 0 some)
+      append-nil (print (reply-to (r .server) (r .line))) ∙ simp (ne-eqb (length (r .line)) 0 some)

@@ -7,7 +7,8 @@ ghost use mathlib.Core.Path.{_≡_};
 ghost use mathlib.Core.Bool.{true};
 ghost use Prim.Native.Nat.{_≤_, _<_};
 ghost use lib.ListN.{length, drop};
-ghost use Rattle.record_definitions.specs.Answer.{said-line, longest-said};
+ghost use Rattle.record_definitions.specs.Answer.{longest-said};
+ghost use Rattle.record_definitions.specs.Server.{reply-line};
 ghost use Rattle.record_definitions.specs.Reading.{reading, after, printed};
 use libc::STDIN_FILENO;
 use libc::STDOUT_FILENO;
@@ -21,7 +22,7 @@ const PATIENCE: u32 = 6000;
 // Hands to standard output what some input prints, but for the bytes that are done, and says how many of them it took:
 // 0 where it failed. No contract can say what a write does; this one has each call prove what it is handed.
 fn put<'a>(s: Reader, input: &'a [u8], done: usize, rest: &'a [u8]) -> usize
-    requires { ⌜ now rest ≡ drop done (printed said-line (reading s) (now input)) ⌝ }
+    requires { ⌜ now rest ≡ drop done (printed reply-line (reading s) (now input)) ⌝ }
     ensures { λ r. ⌜ r ≤ length (now (rest .entry)) ⌝ }
 {
     let mut patience = PATIENCE;
@@ -46,7 +47,7 @@ pub struct Written {
 
 // Writes what some input prints, part after part as the system takes it.
 fn put_out<'a>(s: Reader, input: &'a [u8], output: &'a [u8], before: u64) -> Written
-    requires { ⌜ now output ≡ printed said-line (reading s) (now input) ⌝ }
+    requires { ⌜ now output ≡ printed reply-line (reading s) (now input) ⌝ }
 {
     let mut done = 0usize;
     while done < output.len() {

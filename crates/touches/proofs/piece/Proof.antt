@@ -5,7 +5,8 @@ use mathlib.Core.Bool.{false≢true}
 use native.Mathlib.Omega.{arith}
 use lib.ListN.{length}
 use lib.Seq.{length-take-le}
-use Rattle.record_definitions.specs.Answer.{said-line, longest-said}
+use Rattle.record_definitions.specs.Answer.{longest-said}
+use Rattle.record_definitions.specs.Server.{reply-line}
 use Rattle.touches.proofs.Pieces.{PieceSoFar, none-fed, end-within, some-taken, written-within}
 use Rattle.touches.proofs.Pieces.{handed, more-fed, all-fed}
 use borrow.Author.Needs.{needs}
@@ -14,7 +15,7 @@ use Rattle.touches.proofs.piece.Tie as tie
 
 abbrev Inv-loop : tie.InvT-loop
 Inv-loop s₀ chunk out₀ before answers₀ from₀ s out answers from =
-    PieceSoFar said-line longest-said s₀ chunk out₀ out s from
+    PieceSoFar reply-line longest-said s₀ chunk out₀ out s from
 
 abbrev μ-loop : tie.MeasureT-loop
 μ-loop s₀ chunk out₀ before answers₀ from₀ s out answers from = length chunk - from
@@ -22,7 +23,7 @@ abbrev μ-loop : tie.MeasureT-loop
 loop-holds : tie.Need-loop-holds Inv-loop μ-loop
 loop-holds c =
     let pre′ = c .before .before .pre in
-    none-fed said-line longest-said _ _ _ (pre′)
+    none-fed reply-line longest-said _ _ _ (pre′)
 
 sub-feed : tie.Need-sub-feed Inv-loop μ-loop
 sub-feed c = search needs
@@ -43,7 +44,7 @@ add-end c =
     let at-args = c .before .before .before .before .before .before .before .before .before in
     let args′ = at-args .args in
     let good′ = at-args .good in
-    let within = end-within said-line longest-said (args′ .s) (args′ .chunk .now) (args′ .out .now) (loop′ .out)
+    let within = end-within reply-line longest-said (args′ .s) (args′ .chunk .now) (args′ .out .now) (loop′ .out)
     (loop′ .s) (loop′ .from) (loop′ .inv) (feed′ .result) _ (feed′ .kept .1 .1 .0) (feed′ .ensures) in
     omega (arith, within, good′ .1 .0 .0)
 
@@ -59,7 +60,7 @@ part-put-out-end c =
     let loop′ = c .before .before .before .before .before .before .loop in
     let at-args = c .before .before .before .before .before .before .before .before .before in
     let args′ = at-args .args in
-    let within = end-within said-line longest-said (args′ .s) (args′ .chunk .now) (args′ .out .now) (loop′ .out)
+    let within = end-within reply-line longest-said (args′ .s) (args′ .chunk .now) (args′ .out .now) (loop′ .out)
     (loop′ .s) (loop′ .from) (loop′ .inv) (feed′ .result) _ (feed′ .kept .1 .1 .0) (feed′ .ensures) in
     omega (arith, within)
 
@@ -69,7 +70,7 @@ slice-reshare-prefix-put-out c =
     let at-loop = c .before .before .before .before .before .before .before in
     let loop′ = at-loop .loop in
     let args′ = at-loop .before .before .before .args in
-    let within = written-within said-line longest-said (args′ .s) (args′ .chunk .now) (args′ .out .now) (loop′ .out)
+    let within = written-within reply-line longest-said (args′ .s) (args′ .chunk .now) (args′ .out .now) (loop′ .out)
     (loop′ .s) (loop′ .from) (loop′ .inv) (feed′ .result) _ (feed′ .kept .1 .1 .0) (feed′ .ensures) in
     omega (arith, within)
 
@@ -79,7 +80,7 @@ slice-aggregate-put-out c =
     let at-loop = c .before .before .before .before .before .before .before .before in
     let loop′ = at-loop .loop in
     let args′ = at-loop .before .before .before .args in
-    let within = written-within said-line longest-said (args′ .s) (args′ .chunk .now) (args′ .out .now) (loop′ .out)
+    let within = written-within reply-line longest-said (args′ .s) (args′ .chunk .now) (args′ .out .now) (loop′ .out)
     (loop′ .s) (loop′ .from) (loop′ .inv) (feed′ .result) _ (feed′ .kept .1 .1 .0) (feed′ .ensures) in
     sym (length-take-le _ _ within)
 
@@ -89,7 +90,7 @@ put-out-requires c κs =
     let at-loop = c .before .before .before .before .before .before .before .before in
     let loop′ = at-loop .loop in
     let args′ = at-loop .before .before .before .args in
-    handed said-line longest-said (args′ .s) (args′ .chunk .now) (args′ .out .now) (loop′ .out) (loop′ .s)
+    handed reply-line longest-said (args′ .s) (args′ .chunk .now) (args′ .out .now) (loop′ .out) (loop′ .s)
     (loop′ .from) (loop′ .inv) (feed′ .result) _ (feed′ .kept .1 .1 .0) (feed′ .ensures)
 
 same-length : tie.Need-same-length Inv-loop μ-loop
@@ -106,9 +107,9 @@ loop-less c =
     let loop′ = at-feed .before .before .before .before .loop in
     let at-args = at-feed .before .before .before .before .before .before .before in
     let args′ = at-args .args in
-    let within = end-within said-line longest-said (args′ .s) (args′ .chunk .now) (args′ .out .now) (loop′ .out)
+    let within = end-within reply-line longest-said (args′ .s) (args′ .chunk .now) (args′ .out .now) (loop′ .out)
     (loop′ .s) (loop′ .from) (loop′ .inv) (feed′ .result) _ (feed′ .kept .1 .1 .0) (feed′ .ensures) in
-    let some = some-taken said-line longest-said (args′ .s) (args′ .chunk .now) (args′ .out .now) (loop′ .out)
+    let some = some-taken reply-line longest-said (args′ .s) (args′ .chunk .now) (args′ .out .now) (loop′ .out)
     (loop′ .s) (loop′ .from) (loop′ .inv) (feed′ .result) _ (feed′ .kept .1 .1 .0) (feed′ .ensures)
     (loop-test′ .taken) in
     omega (arith, within, some)
@@ -120,7 +121,7 @@ loop-again c =
     let loop′ = at-feed .before .before .before .before .loop in
     let at-args = at-feed .before .before .before .before .before .before .before in
     let args′ = at-args .args in
-    more-fed said-line longest-said (args′ .s) (args′ .chunk .now) (args′ .out .now) (loop′ .out) (loop′ .s)
+    more-fed reply-line longest-said (args′ .s) (args′ .chunk .now) (args′ .out .now) (loop′ .out) (loop′ .s)
     (loop′ .from) (loop′ .inv) (feed′ .result) _ (feed′ .kept .1 .1 .0) (feed′ .ensures)
 
 same-length-2 : tie.Need-same-length-2 Inv-loop μ-loop
@@ -130,7 +131,7 @@ returns-2 : tie.Need-returns-2 Inv-loop μ-loop
 returns-2 c =
     let loop′ = c .before .loop in
     let args′ = c .before .before .before .before .args in
-    λ more. all-fed said-line longest-said _ _ (args′ .out .now) (loop′ .out) _ _ (c .loop-test .left) (loop′ .inv)
+    λ more. all-fed reply-line longest-said _ _ (args′ .out .now) (loop′ .out) _ _ (c .loop-test .left) (loop′ .inv)
 
 pub piece-spec : {M : Type 1} → statement M
 piece-spec =

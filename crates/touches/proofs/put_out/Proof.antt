@@ -4,14 +4,14 @@ use mathlib.Core.Path.{_≡_, _∙_, ap, sym}
 use native.Mathlib.Omega.{arith}
 use lib.ListN.{length, drop, length-drop}
 use lib.Seq.{take-all, length-take-le}
-use Rattle.record_definitions.specs.Answer.{said-line}
+use Rattle.record_definitions.specs.Server.{reply-line}
 use Rattle.record_definitions.specs.Reading.{reading, printed}
 use borrow.Author.Needs.{needs}
 use Rattle.touches.proofs.put_out.Statement.{statement}
 use Rattle.touches.proofs.put_out.Tie as tie
 
 abbrev Inv-loop : tie.InvT-loop
-Inv-loop s input output before done₀ t10 done = (done ≤ length output) × (output ≡ printed said-line (reading s) input)
+Inv-loop s input output before done₀ t10 done = (done ≤ length output) × (output ≡ printed reply-line (reading s) input)
 
 abbrev μ-loop : tie.MeasureT-loop
 μ-loop s input output before done₀ t10 done = length output - done

@@ -12,10 +12,11 @@ use Rattle.record.proofs.feed.feed.Proof.Room.{sub-put-answer-line, par
 use Rattle.record.proofs.feed.feed.Proof.Room.{put-answer-line-requires, add-at, sub-put-said-line}
 use Rattle.record.proofs.feed.feed.Proof.Room.{part-put-said-line-start, put-said-line-requires, add-at-2}
 use Rattle.record.proofs.feed.feed.Proof.Room.{sub-put-answer-line-2, part-put-answer-line-start-2}
-use Rattle.record.proofs.feed.feed.Proof.Room.{put-answer-line-requires-2, add-at-3}
+use Rattle.record.proofs.feed.feed.Proof.Room.{put-answer-line-requires-2, add-at-3, sub-put-step-line}
+use Rattle.record.proofs.feed.feed.Proof.Room.{part-put-step-line-start, put-step-line-requires, add-at-4}
 use Rattle.record.proofs.feed.feed.Proof.Turn.{loop-less, loop-again, loop-less-2, loop-again-2, loop-less-3}
 use Rattle.record.proofs.feed.feed.Proof.Turn.{loop-again-3, loop-less-4, loop-again-4, loop-less-5}
-use Rattle.record.proofs.feed.feed.Proof.Turn.{loop-again-5}
+use Rattle.record.proofs.feed.feed.Proof.Turn.{loop-again-5, loop-less-6, loop-again-6}
 mod Loop
 mod Room
 mod Turn
@@ -68,16 +69,16 @@ slice-aggregate-body-frame c = sym (length-take-le _ _ (omega arith))
 slice-aggregate-body-frame-2 : tie.Need-slice-aggregate-body-frame-2 Inv-loop μ-loop
 slice-aggregate-body-frame-2 c =
     let at-sines = c .before .before .before .before .before .before .before .before .before .before .before in
-    let at-sines = at-sines .before .before .before .before .before .before in
+    let at-sines = at-sines .before .before .before .before .before .before .before in
     sym (lent-length _ (at-sines .sines .ensures))
 
 body-frame-requires : tie.Need-body-frame-requires Inv-loop μ-loop
 body-frame-requires c κs =
-    let at-if3 = c .before .before .before in
-    let at-decode = at-if3 .before .before .before in
+    let at-if4 = c .before .before .before in
+    let at-decode = at-if4 .before .before .before in
     let at-sines = at-decode .before .before .before .before .before .before .before .before .before .before in
-    let at-sines = at-sines .before in
-    (λ five. at-if3 .if3 .taken (at-decode .decode .ensures .kind-is ∙ five), λ turned. at-sines .sines .ensures)
+    let at-sines = at-sines .before .before in
+    (λ five. at-if4 .if4 .taken (at-decode .decode .ensures .kind-is ∙ five), λ turned. at-sines .sines .ensures)
 
 part-put-answer-line-end : tie.Need-part-put-answer-line-end Inv-loop μ-loop
 part-put-answer-line-end c = search needs
@@ -91,11 +92,11 @@ element-set-from-body c = search needs
 forget-requires : tie.Need-forget-requires Inv-loop μ-loop
 forget-requires c κs = search needs
 
-mul-if5 : tie.Need-mul-if5 Inv-loop μ-loop
-mul-if5 c = search needs
+mul-if6 : tie.Need-mul-if6 Inv-loop μ-loop
+mul-if6 c = search needs
 
-element-copy-out-if5 : tie.Need-element-copy-out-if5 Inv-loop μ-loop
-element-copy-out-if5 c = search needs
+element-copy-out-if6 : tie.Need-element-copy-out-if6 Inv-loop μ-loop
+element-copy-out-if6 c = search needs
 
 mul-chain-test : tie.Need-mul-chain-test Inv-loop μ-loop
 mul-chain-test c = search needs
@@ -123,10 +124,10 @@ slice-aggregate-chain-test c = sym (length-take-le _ _ (omega arith))
 
 chain-test-requires : tie.Need-chain-test-requires Inv-loop μ-loop
 chain-test-requires c κs =
-    let at-if5 = c .before .before .before .before in
-    let at-if3 = at-if5 .before in
-    let at-decode = at-if3 .before .before .before in
-    (sym (at-decode .decode .ensures .kind-is) ∙ at-if3 .if3 .left, at-if5 .if5 .taken)
+    let at-if6 = c .before .before .before .before in
+    let at-if4 = at-if6 .before in
+    let at-decode = at-if4 .before .before .before in
+    (sym (at-decode .decode .ensures .kind-is) ∙ at-if4 .if4 .left, at-if6 .if6 .taken)
 
 part-put-said-line-end : tie.Need-part-put-said-line-end Inv-loop μ-loop
 part-put-said-line-end c = search needs
@@ -163,10 +164,10 @@ slice-aggregate-test-frame c = sym (length-take-le _ _ (omega arith))
 
 test-frame-requires : tie.Need-test-frame-requires Inv-loop μ-loop
 test-frame-requires c κs =
-    let at-if5 = c .before .before .before .before in
-    let at-if3 = at-if5 .before in
-    let at-decode = at-if3 .before .before .before in
-    (sym (at-decode .decode .ensures .kind-is) ∙ at-if3 .if3 .left, at-if5 .if5 .left)
+    let at-if6 = c .before .before .before .before in
+    let at-if4 = at-if6 .before in
+    let at-decode = at-if4 .before .before .before in
+    (sym (at-decode .decode .ensures .kind-is) ∙ at-if4 .if4 .left, at-if6 .if6 .left)
 
 part-put-answer-line-end-2 : tie.Need-part-put-answer-line-end-2 Inv-loop μ-loop
 part-put-answer-line-end-2 c = search needs
@@ -176,6 +177,12 @@ mul-pair-2 c = search needs
 
 element-set-from-pair-2 : tie.Need-element-set-from-pair-2 Inv-loop μ-loop
 element-set-from-pair-2 c = search needs
+
+next-step-requires : tie.Need-next-step-requires Inv-loop μ-loop
+next-step-requires c κs = search needs
+
+part-put-step-line-end : tie.Need-part-put-step-line-end Inv-loop μ-loop
+part-put-step-line-end c = search needs
 
 keep-requires : tie.Need-keep-requires Inv-loop μ-loop
 keep-requires c κs = search needs
@@ -222,8 +229,8 @@ feed-spec =
     loop-again
     loop-less-2
     loop-again-2
-    mul-if5
-    element-copy-out-if5
+    mul-if6
+    element-copy-out-if6
     mul-chain-test
     element-copy-out-chain-test
     mul-chain-test-2
@@ -260,9 +267,17 @@ feed-spec =
     element-set-from-pair-2
     loop-less-4
     loop-again-4
-    keep-requires
+    next-step-requires
+    sub-put-step-line
+    part-put-step-line-start
+    part-put-step-line-end
+    put-step-line-requires
+    add-at-4
     loop-less-5
     loop-again-5
+    keep-requires
+    loop-less-6
+    loop-again-6
     same-length
     returns
     same-length-2

@@ -10,7 +10,7 @@ fresh-world-requires : tie.Need-fresh-world-requires
 fresh-world-requires c κs = search needs
 
 returns : tie.Need-returns
-returns c = ap (λ (w : World). record { world = w; line = [] }) (c .fresh-world .ensures)
+returns c = ap (λ (w : World). record { server = record { world = w; steps = 0 }; line = [] }) (c .fresh-world .ensures)
 
 pub start-spec : {M : Type 1} → statement M
 start-spec = tie.close (tie.spec fresh-world-requires returns)

@@ -4,17 +4,19 @@ use Prim.Native.Nat.{_-_}
 use mathlib.Core.Path.{sym, _∙_}
 use native.Mathlib.Omega.{arith}
 use lib.ListN.{length, take, length-map}
-use Rattle.record_definitions.specs.Answer.{said-line, longest-said}
+use Rattle.record_definitions.specs.Answer.{longest-said}
+use Rattle.record_definitions.specs.Server.{reply-line}
 use Rattle.record_definitions.proofs.Feeding.{SoFar, nothing-yet, fed-at-end}
 use Rattle.record.proofs.Turns.{row-held}
 use Rattle.record.proofs.feed.feed.Tie as tie
 
 abbrev pub Inv-loop : tie.InvT-loop
-Inv-loop chunk out₀ sines w₀ line₀ len₀ at₀ i₀ out w line len at i =
-    SoFar said-line chunk out₀ (record { world = w₀; line = take len₀ line₀ }) out w line len at i
+Inv-loop chunk out₀ sines w₀ steps₀ line₀ len₀ at₀ i₀ out w steps line len at i =
+    SoFar reply-line chunk out₀ (record { server = record { world = w₀; steps = steps₀ }; line = take len₀ line₀ }) out
+    (record { world = w; steps = steps }) line len at i
 
 abbrev pub μ-loop : tie.MeasureT-loop
-μ-loop chunk out₀ sines w₀ line₀ len₀ at₀ i₀ out w line len at i = length chunk - i
+μ-loop chunk out₀ sines w₀ steps₀ line₀ len₀ at₀ i₀ out w steps line len at i = length chunk - i
 
 pub loop-holds : tie.Need-loop-holds Inv-loop μ-loop
 loop-holds c =
@@ -22,10 +24,10 @@ loop-holds c =
     let good′ = c .before .before .before .before .before .before .good in
     let s = args′ .s in
     let kept = good′ .0 .1 .1 in
-    nothing-yet said-line _ _ (s .world) (s .line) (c .held .result) (omega (arith, c .held .ensures))
+    nothing-yet reply-line _ _ (s .server) (s .line) (c .held .result) (omega (arith, c .held .ensures))
     (sym (length-map (s .line) _) ∙ kept .1 .0 .1 .0 .1)
-    (sym (length-map (s .world .bodies) _) ∙ kept .0 .1 .1 .0 .1 .0 .1)
-    (sym (length-map (s .world .pairs) _) ∙ kept .0 .1 .1 .1 .0 .1 .0 .1)
+    (sym (length-map (s .server .world .bodies) _) ∙ kept .0 .1 .1 .0 .1 .1 .0 .1 .0 .1)
+    (sym (length-map (s .server .world .pairs) _) ∙ kept .0 .1 .1 .0 .1 .1 .1 .0 .1 .0 .1)
 
 pub returns : tie.Need-returns Inv-loop μ-loop
 returns c =
@@ -38,7 +40,7 @@ returns c =
     let size = sym (length-map (s .line) _) ∙ good′ .0 .1 .1 .1 .0 .1 .0 .1 in
     let row = row-held (s .line) (s .len) (held′ .result) (held′ .ensures) size in
     let so-far = rw row at (loop′ .inv) in
-    fed-at-end said-line longest-said s _ (args′ .out .now) _ _ _ _ _ _ so-far
+    fed-at-end reply-line longest-said s _ (args′ .out .now) _ _ _ _ _ _ so-far
     (λ room. omega arith)
 
 pub returns-2 : tie.Need-returns-2 Inv-loop μ-loop
@@ -52,5 +54,5 @@ returns-2 c =
     let size = sym (length-map (s .line) _) ∙ good′ .0 .1 .1 .1 .0 .1 .0 .1 in
     let row = row-held (s .line) (s .len) (held′ .result) (held′ .ensures) size in
     let so-far = rw row at (loop′ .inv) in
-    fed-at-end said-line longest-said s _ (args′ .out .now) _ _ _ _ _ _ so-far
+    fed-at-end reply-line longest-said s _ (args′ .out .now) _ _ _ _ _ _ so-far
     (λ room. absurd (omega (arith, c .if1 .taken, loop′ .inv .out-size)))
