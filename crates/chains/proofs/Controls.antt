@@ -14,7 +14,7 @@ use Rattle.lines.proofs.Text.{text}
 use Rattle.contact_definitions.specs.Searches.{some-below}
 use Rattle.record_definitions.specs.Frame.{frame-length, well-formed, chain-at, long-piece, chain-refusal, chain-change}
 use Rattle.record_definitions.specs.Frame.{frame-refusal, change-of-kind, change}
-use Rattle.record_definitions.specs.Step.{change-in, said-of-frame}
+use Rattle.record_definitions.specs.OneFrame.{change-in, said-of-frame}
 use Rattle.record_definitions.specs.Server.{fresh-server, after-line}
 use Rattle.chains.specs.ChainAsWalls.{wall-line, MakesPiece, renews, NeverRenewed, EachLineAsItsWall}
 use Rattle.chains.proofs.Theorem.{each-line-as-its-wall}

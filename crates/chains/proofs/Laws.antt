@@ -37,7 +37,7 @@ use Rattle.record_definitions.specs.Frame.{outline-length, wall-length, frame-l
 use Rattle.record_definitions.specs.Frame.{refused}
 use Rattle.record_definitions.specs.Frame.{listed, chain-at, test-refusal, all-tests, test-change, change-of-kind}
 use Rattle.record_definitions.specs.Frame.{change}
-use Rattle.record_definitions.specs.Step.{first-place, second-place, change-in, after-frame, said-of-frame}
+use Rattle.record_definitions.specs.OneFrame.{first-place, second-place, change-in, after-frame, said-of-frame}
 use Rattle.record_definitions.specs.Server.{after-line, Framed, reply-to, reached}
 use Rattle.record_definitions.proofs.Replies.{reply-framed, said-framed}
 use Rattle.record_definitions.proofs.Changes.{by-choice}

@@ -22,7 +22,7 @@ use Rattle.record_definitions.specs.World.{no-body, circle-kind, outline-kind, 
 use Rattle.record_definitions.specs.World.{fresh-pair, body-at, pair-at, pair-place, forget}
 use Rattle.record_definitions.specs.Frame.{frame-refusal, refused, listed, test-refusal, test-change}
 use Rattle.record_definitions.specs.Frame.{change-of-kind, change}
-use Rattle.record_definitions.specs.Step.{pairs-after}
+use Rattle.record_definitions.specs.OneFrame.{pairs-after}
 use Rattle.record_definitions.proofs.Alone.{change-alone}
 use Rattle.record_definitions.proofs.OneLine.{length-forget}
 use Rattle.record_definitions.proofs.Pairs.{forgotten-below, others-kept}

@@ -18,7 +18,7 @@ use Rattle.record_definitions.specs.declared.frame.Change.{Change}
 use Rattle.record_definitions.specs.World.{wall-kind, chain-kind, wall-body, placed, piece-of, fresh-pair, body-at}
 use Rattle.record_definitions.specs.World.{pair-at}
 use Rattle.record_definitions.specs.Frame.{change}
-use Rattle.record_definitions.specs.Step.{first-place, second-place, changed, change-in, after-frame}
+use Rattle.record_definitions.specs.OneFrame.{first-place, second-place, changed, change-in, after-frame}
 use Rattle.record_definitions.proofs.Sound.{Sound}
 use Rattle.record_definitions.proofs.SoundKept.{frame-keeps-sound}
 use Rattle.record_ranges.proofs.Kept.{CappedWorld, frame-keeps-capped}

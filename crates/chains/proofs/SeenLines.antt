@@ -10,7 +10,7 @@ use Rattle.record_definitions.specs.declared.server.Server.{Server}
 use Rattle.record_definitions.specs.declared.world.World.{World}
 use Rattle.record_definitions.specs.declared.frame.Said.{Said}
 use Rattle.record_definitions.specs.Server.{next-step, after-line, Framed, Stepped, reply-to}
-use Rattle.record_definitions.specs.Step.{said-of-frame}
+use Rattle.record_definitions.specs.OneFrame.{said-of-frame}
 use Rattle.chains.specs.ChainAsWalls.{piece-alone, piece-reply, tests-first, seen, renews}
 use Rattle.chains.proofs.SeenWorlds.{SeenServers}
 use Rattle.chains.proofs.Simulation.{one-frame}

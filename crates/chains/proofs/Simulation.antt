@@ -19,7 +19,7 @@ use Rattle.record_definitions.specs.World.{piece-of, fresh-pair, body-at}
 use Rattle.record_definitions.specs.World.{pair-at}
 use Rattle.record_definitions.specs.Frame.{largest-id, change}
 use Rattle.record_definitions.specs.Export.{refusal-in}
-use Rattle.record_definitions.specs.Step.{first-place, second-place, change-in, after-frame, said-of-frame}
+use Rattle.record_definitions.specs.OneFrame.{first-place, second-place, change-in, after-frame, said-of-frame}
 use Rattle.record_definitions.specs.Heat.{defines-shape}
 use Rattle.chains.specs.ChainAsWalls.{piece-alone}
 use Rattle.chains.proofs.Outcomes.{piece-pair, Renewed, StillSeen, Outcome}

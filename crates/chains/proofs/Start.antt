@@ -24,7 +24,7 @@ use Rattle.record_definitions.specs.World.{fresh-pair, body-at, pair-at}
 use Rattle.record_definitions.specs.Frame.{frame-length, well-formed, largest-id, defined, wall-change, chain-at}
 use Rattle.record_definitions.specs.Frame.{chain-refusal, chain-change, frame-refusal, change-of-kind, change}
 use Rattle.record_definitions.specs.Export.{answer-refusal}
-use Rattle.record_definitions.specs.Step.{first-place, second-place, changed, change-in, after-frame, said-of-frame}
+use Rattle.record_definitions.specs.OneFrame.{first-place, second-place, changed, change-in, after-frame, said-of-frame}
 use Rattle.record_definitions.specs.Server.{after-line, Framed, reply-to}
 use Rattle.record_definitions.specs.Answer.{said-alone}
 use Rattle.record_definitions.proofs.Replies.{said-framed}

@@ -17,7 +17,7 @@ use Rattle.record_definitions.specs.declared.frame.Answer.the-variants.{Refused
 use Rattle.record_definitions.specs.declared.frame.Said.{Said}
 use Rattle.record_definitions.specs.World.{pieces-of, body-at}
 use Rattle.record_definitions.specs.Answer.{touch-bytes, touches-said, touch-lines, said-line, result-of}
-use Rattle.record_definitions.specs.Step.{said-of-frame}
+use Rattle.record_definitions.specs.OneFrame.{said-of-frame}
 use Rattle.record_definitions.specs.Server.{fresh-server, after-line, Reply, Framed, reply-to, reply-line, after-lines}
 use Rattle.record_definitions.specs.Touches.{printed-lines, touches}
 use Rattle.record_definitions.specs.Reading.{joined}

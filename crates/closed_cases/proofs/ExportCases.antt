@@ -44,7 +44,7 @@ use Rattle.record_definitions.specs.Touch.{first-refusal}
 use Rattle.record_definitions.specs.Frame.{frame-length, well-formed, frame-refusal, circle-change, outline-change}
 use Rattle.record_definitions.specs.Frame.{place-change, listed, test-refusal, test-change, change-of-kind, change}
 use Rattle.record_definitions.specs.Answer.{head-bytes, point-bytes, touch-bytes, touch-lines}
-use Rattle.record_definitions.specs.Step.{change-in, changed, after-frame, said-of-frame}
+use Rattle.record_definitions.specs.OneFrame.{change-in, changed, after-frame, said-of-frame}
 use Rattle.record_definitions.specs.Export.{last-said, in-order, export-said, export-number, export-output}
 use Rattle.record_definitions.proofs.Heats.{Exports}
 

@@ -49,7 +49,7 @@ use Rattle.record_definitions.specs.Frame.{frame-length, well-formed, frame-ref
 use Rattle.record_definitions.specs.Frame.{wall-at, wall-change, place-change, listed, test-refusal, test-change}
 use Rattle.record_definitions.specs.Frame.{change-of-kind, change}
 use Rattle.record_definitions.specs.Answer.{head-bytes, point-bytes, touch-bytes, touch-lines}
-use Rattle.record_definitions.specs.Step.{change-in, changed, after-frame, said-of-frame}
+use Rattle.record_definitions.specs.OneFrame.{change-in, changed, after-frame, said-of-frame}
 use Rattle.record_definitions.specs.Touches.{lines-from, printed-lines, touches}
 use Rattle.record_definitions.proofs.Heats.{Runs}
 

@@ -26,7 +26,7 @@ use Rattle.record_definitions.specs.Touch.{first-refusal}
 use Rattle.record_definitions.specs.Frame.{frame-refusal, test-refusal, all-tests, test-change, change-of-kind}
 use Rattle.record_definitions.specs.Frame.{change}
 use Rattle.record_definitions.specs.Server.{Reply, Framed, Stepped, next-step}
-use Rattle.record_definitions.specs.Step.{after-frame}
+use Rattle.record_definitions.specs.OneFrame.{after-frame}
 use Rattle.record_definitions.specs.Reading.{Reading, kept-length}
 use Rattle.record_definitions.proofs.Replies.{after-framed, reply-framed}
 use Rattle.record_definitions.proofs.Feeding.{SoFar, next-line}

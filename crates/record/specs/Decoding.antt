@@ -6,7 +6,7 @@ use mathlib.Core.List.{List}
 use lib.ListN.{take}
 use Rattle.lines.specs.Fields.{byte-at}
 use Rattle.lines.specs.Hex.{Decoded}
-use Rattle.record_definitions.specs.Step.{first-place, second-place}
+use Rattle.record_definitions.specs.OneFrame.{first-place, second-place}
 use Rattle.record.specs.declared.feed.Names.{Names}
 
 pub record Named (line : List ℕ) (r : Names) (buffer : List ℕ) : Type 0 where

@@ -37,7 +37,7 @@ use Rattle.record_definitions.specs.Frame.{place-change, listed, test-re
 use Rattle.record_definitions.specs.Frame.{chain-at, long-piece, chain-refusal, chain-change, change-of-kind, change}
 use Rattle.record_definitions.specs.Frame.{frame-refusal}
 use Rattle.record_definitions.specs.Answer.{head-bytes, point-bytes, touch-bytes, touch-lines}
-use Rattle.record_definitions.specs.Step.{change-in, changed, after-frame, said-of-frame}
+use Rattle.record_definitions.specs.OneFrame.{change-in, changed, after-frame, said-of-frame}
 use Rattle.record_definitions.specs.Touches.{lines-from, printed-lines, touches}
 use Rattle.record_definitions.proofs.Heats.{Runs}
 

@@ -15,7 +15,7 @@ use Rattle.lines.proofs.Theorem.{frame-of-hex}
 use Rattle.record_definitions.specs.declared.server.Server.{Server}
 use Rattle.record_definitions.specs.World.{fresh-world}
 use Rattle.record_definitions.specs.Answer.{said-line}
-use Rattle.record_definitions.specs.Step.{after-frame, said-of-frame}
+use Rattle.record_definitions.specs.OneFrame.{after-frame, said-of-frame}
 use Rattle.record_definitions.specs.Server.{fresh-server, reply-line}
 use Rattle.record_definitions.specs.Touches.{printed-lines, touches}
 use Rattle.record_definitions.specs.Reading.{joined}

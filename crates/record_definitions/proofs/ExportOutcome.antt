@@ -15,7 +15,7 @@ use Rattle.record_definitions.specs.declared.frame.Answer.the-variants.{
 use Rattle.record_definitions.specs.World.{outline-kind, kept-of, fresh-world, body-at, pair-at}
 use Rattle.record_definitions.specs.Touch.{tested}
 use Rattle.record_definitions.specs.Frame.{largest-id}
-use Rattle.record_definitions.specs.Step.{after-frame, said-of-frame}
+use Rattle.record_definitions.specs.OneFrame.{after-frame, said-of-frame}
 use Rattle.record_definitions.specs.Export.{test-frame, first-placement, second-outline, second-placement}
 use Rattle.record_definitions.specs.Export.{in-order, between}
 use Rattle.record_definitions.proofs.Sound.{Sound}

@@ -13,7 +13,7 @@ use Rattle.record_definitions.specs.declared.touch.Touch.{Touch}
 use Rattle.record_definitions.specs.declared.frame.Answer.the-variants.{Accepted, Refused, Tested}
 use Rattle.record_definitions.specs.declared.frame.Said.{Said}
 use Rattle.record_definitions.specs.Answer.{said-bytes, said-line}
-use Rattle.record_definitions.specs.Step.{after-frame, said-of-frame}
+use Rattle.record_definitions.specs.OneFrame.{after-frame, said-of-frame}
 use Rattle.record_definitions.specs.Export.{last-said}
 use Rattle.record_definitions.specs.ExportLaws.{accepted-lines, FirstRefused}
 use Rattle.record_definitions.proofs.SaidAlone.{one-line}

@@ -42,8 +42,8 @@ use Rattle.record_definitions.specs.Answer.{said-line}
 use Rattle.record_definitions.specs.Frame.{frame-length, well-formed, largest-id, frame-refusal, outline-change}
 use Rattle.record_definitions.specs.Frame.{place-change, listed, test-refusal, test-answered, test-change}
 use Rattle.record_definitions.specs.Frame.{change-of-kind, change, further-tests}
-use Rattle.record_definitions.specs.Step.{first-place, second-place, changed, change-in, after-frame}
-use Rattle.record_definitions.specs.Step.{said-of-frame}
+use Rattle.record_definitions.specs.OneFrame.{first-place, second-place, changed, change-in, after-frame}
+use Rattle.record_definitions.specs.OneFrame.{said-of-frame}
 use Rattle.record_definitions.specs.Export.{test-frame}
 use Rattle.record_definitions.proofs.FrameRefusals.{not-refused-alone}
 use Rattle.record_definitions.proofs.Pairs.{within-place}

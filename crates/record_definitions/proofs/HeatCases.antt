@@ -35,7 +35,7 @@ use Rattle.record_definitions.specs.Touch.{first-refusal}
 use Rattle.record_definitions.specs.Frame.{frame-length, well-formed, frame-refusal, circle-change, place-change}
 use Rattle.record_definitions.specs.Frame.{turn-change, listed, test-refusal, test-change, change-of-kind, change}
 use Rattle.record_definitions.specs.Answer.{result-of}
-use Rattle.record_definitions.specs.Step.{change-in, changed, after-frame, said-of-frame}
+use Rattle.record_definitions.specs.OneFrame.{change-in, changed, after-frame, said-of-frame}
 use Rattle.record_definitions.specs.Server.{reached}
 use Rattle.record_definitions.specs.Heat.{contact-in, contacts-after, contacts-of, touches-begun}
 use Rattle.record_definitions.specs.Heat.{NextTest}

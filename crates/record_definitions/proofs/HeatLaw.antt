@@ -18,7 +18,7 @@ use Rattle.record_definitions.specs.World.{fresh-kept, fresh-pair, fresh
 use Rattle.record_definitions.specs.World.{kept-of, pieces-of, body-at}
 use Rattle.record_definitions.specs.Answer.{result-of}
 use Rattle.record_definitions.specs.Frame.{largest-id}
-use Rattle.record_definitions.specs.Step.{said-of-frame}
+use Rattle.record_definitions.specs.OneFrame.{said-of-frame}
 use Rattle.record_definitions.specs.Server.{fresh-server, after-line, Framed, reply-to, after-lines, reached}
 use Rattle.record_definitions.specs.Heat.{with-line, contacts-after, contacts-of, contact-in, touches-begun, NextTest}
 use Rattle.record_definitions.specs.Heat.{HeatLaw}

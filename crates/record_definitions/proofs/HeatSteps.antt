@@ -28,7 +28,7 @@ use Rattle.record_definitions.specs.World.{fresh-kept, fresh-pair, body-
 use Rattle.record_definitions.specs.World.{kept-of}
 use Rattle.record_definitions.specs.Touch.{piece-tested, first-refusal}
 use Rattle.record_definitions.specs.Frame.{largest-id, test-refusal, all-tests, test-change, change-of-kind}
-use Rattle.record_definitions.specs.Step.{first-place, second-place, change-in, after-frame, said-of-frame}
+use Rattle.record_definitions.specs.OneFrame.{first-place, second-place, change-in, after-frame, said-of-frame}
 use Rattle.record_definitions.specs.Export.{answer-refusal}
 use Rattle.record_definitions.specs.Heat.{defines-shape, with-answer, piece-there, contact-in}
 use Rattle.record_definitions.specs.Heat.{touches-begun}

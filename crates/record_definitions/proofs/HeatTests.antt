@@ -23,7 +23,7 @@ use Rattle.record_definitions.specs.declared.frame.Answer.the-variants.{
 use Rattle.record_definitions.specs.World.{pieces-of, piece-of, kept-of, body-at, pair-at}
 use Rattle.record_definitions.specs.Touch.{touches-after, states-of, tested, piece-tested}
 use Rattle.record_definitions.specs.Answer.{result-of}
-use Rattle.record_definitions.specs.Step.{change-in, after-frame, said-of-frame}
+use Rattle.record_definitions.specs.OneFrame.{change-in, after-frame, said-of-frame}
 use Rattle.record_definitions.specs.Rulebook.{Rulebook}
 use Rattle.record_definitions.specs.Heat.{contact-in, last-contact, touches-begun, touches-of, NextTest}
 use Rattle.record_definitions.proofs.Changes.{WasTested}

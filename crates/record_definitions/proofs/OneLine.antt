@@ -18,7 +18,7 @@ use Rattle.record_definitions.specs.declared.world.World.{World}
 use Rattle.record_definitions.specs.declared.frame.Change.{Change}
 use Rattle.record_definitions.specs.World.{blank-body, fresh-pair, forget, forget-below}
 use Rattle.record_definitions.specs.Frame.{change}
-use Rattle.record_definitions.specs.Step.{changed, change-in, after-frame, said-of-frame}
+use Rattle.record_definitions.specs.OneFrame.{changed, change-in, after-frame, said-of-frame}
 use Rattle.record_definitions.specs.Reading.{kept-length, with-character}
 
 -- ---- the world after a line, from what the code reads in it

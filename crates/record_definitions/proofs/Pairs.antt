@@ -16,8 +16,8 @@ use Rattle.record_definitions.specs.declared.frame.Answer.the-variants.{
 use Rattle.record_definitions.specs.World.{blank-body, fresh-pair, body-at, pair-at, pair-place, forget}
 use Rattle.record_definitions.specs.World.{forget-below}
 use Rattle.record_definitions.specs.Frame.{largest-id, all-tests, keep, change}
-use Rattle.record_definitions.specs.Step.{first-place, second-place, changed, change-in, after-frame}
-use Rattle.record_definitions.specs.Step.{said-of-frame}
+use Rattle.record_definitions.specs.OneFrame.{first-place, second-place, changed, change-in, after-frame}
+use Rattle.record_definitions.specs.OneFrame.{said-of-frame}
 use Rattle.record_definitions.specs.Export.{answer-refusal}
 use Rattle.record_definitions.proofs.Changes.{NewShape, Placing, WasTested, first-id, shape-forgets}
 use Rattle.record_definitions.proofs.Changes.{placing-leaves, was-tested}

@@ -23,8 +23,8 @@ use Rattle.record_definitions.specs.Frame.{frame-refusal, refused, circl
 use Rattle.record_definitions.specs.Frame.{wall-at, wall-change, place-change, turn-change, chain-refusal}
 use Rattle.record_definitions.specs.Frame.{chain-change, test-refusal, all-tests, test-change, change-of-kind}
 use Rattle.record_definitions.specs.Frame.{change}
-use Rattle.record_definitions.specs.Step.{first-place, second-place, changed, change-in, after-frame}
-use Rattle.record_definitions.specs.Step.{said-of-frame}
+use Rattle.record_definitions.specs.OneFrame.{first-place, second-place, changed, change-in, after-frame}
+use Rattle.record_definitions.specs.OneFrame.{said-of-frame}
 use Rattle.record_definitions.proofs.Placements.{place-cases, turn-cases}
 
 -- where the answer is a refusal, the change is that refusal alone

@@ -7,7 +7,7 @@ use lib.ListN.{length}
 use Rattle.lines.specs.Hex.{frame-of}
 use Rattle.record_definitions.specs.declared.server.Server.{Server}
 use Rattle.record_definitions.specs.declared.frame.Said.{Said}
-use Rattle.record_definitions.specs.Step.{after-frame, said-of-frame}
+use Rattle.record_definitions.specs.OneFrame.{after-frame, said-of-frame}
 use Rattle.record_definitions.specs.Server.{after-line, Framed, reply-to}
 
 pub after-framed : (s : Server) (line : List ℕ) → (length line ≡ 0 → ⊥)

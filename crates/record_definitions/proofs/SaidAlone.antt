@@ -23,7 +23,7 @@ use Rattle.record_definitions.specs.Answer.{answer-bytes, said-alone, to
 use Rattle.record_definitions.specs.Frame.{frame-refusal, refused, defined, circle-at, circle-change}
 use Rattle.record_definitions.specs.Frame.{outline-change, wall-at, wall-change, chain-refusal, chain-change}
 use Rattle.record_definitions.specs.Frame.{test-refusal, all-tests, test-change, change-of-kind, change}
-use Rattle.record_definitions.specs.Step.{first-place, second-place, change-in, said-of-frame}
+use Rattle.record_definitions.specs.OneFrame.{first-place, second-place, change-in, said-of-frame}
 use Rattle.record_definitions.proofs.Placements.{place-cases, turn-cases}
 
 NoResult : Answer → Type 0

@@ -17,7 +17,7 @@ use Rattle.record_definitions.specs.declared.frame.Answer.the-variants.{
 use Rattle.record_definitions.specs.declared.frame.Said.{Said}
 use Rattle.record_definitions.specs.Answer.{head-bytes, touch-bytes, answer-bytes, said-bytes, touch-lines}
 use Rattle.record_definitions.specs.Answer.{said-line}
-use Rattle.record_definitions.specs.Step.{after-frame, said-of-frame}
+use Rattle.record_definitions.specs.OneFrame.{after-frame, said-of-frame}
 use Rattle.record_definitions.specs.Server.{fresh-server, largest-step, after-line, Reply, Framed, Stepped}
 use Rattle.record_definitions.specs.Server.{step-bytes, reply-line, after-lines, reached}
 use Rattle.record_definitions.specs.Touches.{lines-from, printed-lines, touches}

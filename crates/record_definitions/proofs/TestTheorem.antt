@@ -30,7 +30,7 @@ use Rattle.record_definitions.specs.Rulebook.{Rulebook}
 use Rattle.record_definitions.specs.Frame.{largest-id, further-tests, all-tests, results-of, change}
 use Rattle.record_definitions.specs.Answer.{touch-bytes, said-line, blank-touch, touch-lines, touches-said}
 use Rattle.record_definitions.specs.Answer.{result-of}
-use Rattle.record_definitions.specs.Step.{after-frame, said-of-frame}
+use Rattle.record_definitions.specs.OneFrame.{after-frame, said-of-frame}
 use Rattle.record_definitions.proofs.PieceTests.{nth-test, each-accepted, piece-kept, past-kept, all-said}
 use Rattle.record_definitions.specs.Touches.{touches}
 use Rattle.record_definitions.proofs.Pairs.{test-seen, said-at, test-keeps-bodies}

@@ -18,7 +18,7 @@ use Rattle.record_definitions.specs.World.{fresh-pair, body-at, pair-at}
 use Rattle.record_definitions.specs.Frame.{largest-id}
 use Rattle.record_definitions.specs.Answer.{touch-bytes, said-bytes, said-line}
 use Rattle.record_definitions.specs.Answer.{longest-answer, longest-said, most-further}
-use Rattle.record_definitions.specs.Step.{first-place, second-place, change-in, after-frame, said-of-frame}
+use Rattle.record_definitions.specs.OneFrame.{first-place, second-place, change-in, after-frame, said-of-frame}
 use Rattle.record_definitions.specs.Server.{fresh-server, after-line, Framed, reply-to, reply-line, after-lines}
 use Rattle.record_definitions.specs.Server.{reached}
 use Rattle.record_definitions.specs.Touches.{touches}

@@ -30,8 +30,8 @@ use Rattle.record_definitions.specs.World.{no-body, placed, fresh-pair, 
 use Rattle.record_definitions.specs.Frame.{frame-length, well-formed, largest-id, frame-refusal, moved}
 use Rattle.record_definitions.specs.Frame.{place-change, largest-turn, turn-at, turned-placement}
 use Rattle.record_definitions.specs.Frame.{turn-change, change-of-kind, change}
-use Rattle.record_definitions.specs.Step.{first-place, second-place, changed, change-in, after-frame}
-use Rattle.record_definitions.specs.Step.{said-of-frame}
+use Rattle.record_definitions.specs.OneFrame.{first-place, second-place, changed, change-in, after-frame}
+use Rattle.record_definitions.specs.OneFrame.{said-of-frame}
 use Rattle.record_definitions.specs.TurnFrames.{frame-by-turn, frame-by-heading, turn-refusal, answer-of, turned}
 use Rattle.record_definitions.specs.TurnFrames.{TurnFrames}
 

@@ -3,7 +3,7 @@ pub mod Touch
 pub mod Rulebook
 pub mod Answer
 pub mod Frame
-pub mod Step
+pub mod OneFrame
 pub mod Server
 pub mod Touches
 pub mod StepLaws

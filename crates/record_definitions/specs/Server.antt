@@ -8,7 +8,7 @@ use Rattle.record_definitions.specs.declared.server.Server.{Server}
 use Rattle.record_definitions.specs.declared.frame.Said.{Said}
 use Rattle.record_definitions.specs.World.{fresh-world}
 use Rattle.record_definitions.specs.Answer.{said-line}
-use Rattle.record_definitions.specs.Step.{after-frame, said-of-frame}
+use Rattle.record_definitions.specs.OneFrame.{after-frame, said-of-frame}
 
 -- ---- the step number, 32 bits: it starts at 0 and holds at its largest
 abbrev pub fresh-server : Server

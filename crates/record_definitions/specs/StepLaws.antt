@@ -9,7 +9,7 @@ use lib.ListN.{length}
 use Rattle.lines.specs.Fields.{number-bytes}
 use Rattle.lines.specs.Hex.{frame-of, hex, line-of}
 use Rattle.record_definitions.specs.declared.server.Server.{Server}
-use Rattle.record_definitions.specs.Step.{after-frame, said-of-frame}
+use Rattle.record_definitions.specs.OneFrame.{after-frame, said-of-frame}
 use Rattle.record_definitions.specs.Server.{fresh-server, largest-step, after-line, Framed, Stepped, reply-to}
 use Rattle.record_definitions.specs.Server.{step-bytes, reply-line, reached}
 use Rattle.record_definitions.specs.Touches.{lines-from, printed-lines, touches}

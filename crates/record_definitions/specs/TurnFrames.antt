@@ -15,7 +15,7 @@ use Rattle.record_definitions.specs.declared.frame.Answer.{Answer}
 use Rattle.record_definitions.specs.declared.frame.Answer.the-variants.{Accepted, Refused}
 use Rattle.record_definitions.specs.World.{no-body, placed, body-at}
 use Rattle.record_definitions.specs.Frame.{largest-id, largest-turn, turn-at, turned-placement}
-use Rattle.record_definitions.specs.Step.{after-frame, said-of-frame}
+use Rattle.record_definitions.specs.OneFrame.{after-frame, said-of-frame}
 
 -- 06, the id, the bytes of the position, the turn number in two bytes
 abbrev pub frame-by-turn : ℕ → List ℕ → ℕ → List ℕ

@@ -1,8 +1,8 @@
 // The whole state.
 use crate::world::World;
 
-// Bodies and pairs, and the number of steps that have ended.
+// The number of steps that have ended; bodies and pairs.
 pub struct Server {
-    pub world: World,
     pub steps: u32,
+    pub world: World,
 }

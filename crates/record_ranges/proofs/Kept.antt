@@ -23,7 +23,7 @@ use Rattle.record_definitions.specs.Frame.{frame-refusal, circle-at, circle-cha
 use Rattle.record_definitions.specs.Frame.{wall-change, placed-at, place-change, largest-turn, turn-at}
 use Rattle.record_definitions.specs.Frame.{turned-placement, turn-change, chain-refusal, chain-change, test-refusal}
 use Rattle.record_definitions.specs.Frame.{all-tests, test-change, change-of-kind, change}
-use Rattle.record_definitions.specs.Step.{first-place, second-place, changed, change-in, after-frame}
+use Rattle.record_definitions.specs.OneFrame.{first-place, second-place, changed, change-in, after-frame}
 use Rattle.record_definitions.proofs.Changes.{by-choice}
 use Rattle.record_ranges.proofs.Outlines.{built-radius}
 use Rattle.record_ranges.proofs.Bodies.{CappedBody, blank-capped, circle-capped, outline-capped, wall-capped}

@@ -21,7 +21,7 @@ use Rattle.record_definitions.specs.World.{no-body, body-at, pair-at}
 use Rattle.record_definitions.specs.Touch.{piece-tested, first-refusal}
 use Rattle.record_definitions.specs.Frame.{frame-refusal, refused, listed, test-refusal, all-tests, test-change}
 use Rattle.record_definitions.specs.Frame.{change-of-kind, change}
-use Rattle.record_definitions.specs.Step.{first-place, second-place, change-in, said-of-frame}
+use Rattle.record_definitions.specs.OneFrame.{first-place, second-place, change-in, said-of-frame}
 use Rattle.record_definitions.specs.Server.{fresh-server, after-line, Framed, reply-to, after-lines, reached}
 use Rattle.record_definitions.proofs.Replies.{said-framed}
 use Rattle.record_definitions.proofs.FrameRefusals.{of-bytes-alone}

@@ -26,8 +26,8 @@ loop-holds c =
     let kept = good′ .0 .1 .1 in
     nothing-yet reply-line _ _ (s .server) (s .line) (c .held .result) (omega (arith, c .held .ensures))
     (sym (length-map (s .line) _) ∙ kept .1 .0 .1 .0 .1)
-    (sym (length-map (s .server .world .bodies) _) ∙ kept .0 .1 .1 .0 .1 .1 .0 .1 .0 .1)
-    (sym (length-map (s .server .world .pairs) _) ∙ kept .0 .1 .1 .0 .1 .1 .1 .0 .1 .0 .1)
+    (sym (length-map (s .server .world .bodies) _) ∙ kept .0 .1 .1 .1 .0 .1 .1 .0 .1 .0 .1)
+    (sym (length-map (s .server .world .pairs) _) ∙ kept .0 .1 .1 .1 .0 .1 .1 .1 .0 .1 .0 .1)
 
 pub returns : tie.Need-returns Inv-loop μ-loop
 returns c =
