@@ -19,7 +19,7 @@ use Rattle.record_definitions.specs.OneFrame.{after-frame, said-of-frame
 use Rattle.record_definitions.specs.Server.{fresh-server, reply-line}
 use Rattle.record_definitions.specs.Touches.{printed-lines, touches}
 use Rattle.record_definitions.specs.Reading.{joined}
-use Rattle.record_definitions.proofs.HexLines.{lines-read}
+use Rattle.record_definitions.proofs.LineFeeds.{lines-read}
 use Rattle.record_definitions.proofs.ExportRuns.{printed-frames}
 
 -- bytes, some, and no more than the longest frame has

@@ -31,7 +31,7 @@ pub length-lent : (at : ℕ) (l : List ℕ) → at ≤ length l → length (midO
 length-lent at l within = length-take-le (length l - at) (drop at l) (omega (arith, length-drop at l))
 
 -- what was written to such a part fits behind the place
-pub put-fits : (at n : ℕ) (out new part : List ℕ) → at ≤ length out
+put-fits : (at n : ℕ) (out new part : List ℕ) → at ≤ length out
     → length part ≡ length (midOf at (length out - at) out)
     → Put new (midOf at (length out - at) out) n part → at + n ≤ length out
 put-fits at n out new part within size put =
@@ -58,6 +58,19 @@ module _ (print : Reply → List ℕ) where
     pub count : at ≡ length (printed print r (take i chunk))
     pub output : out ≡ over (printed print r (take i chunk)) old
     pub state : _≡_ {A = Reading} (record { server = server; line = take len line }) (after r (take i chunk))
+
+  -- ---- room: the place is inside the output, a part lent from there on has what is left, and what is put there fits
+  module _ {chunk old out line : List ℕ} {r : Reading} {server : Server} {len at i : ℕ}
+      (so-far : SoFar chunk old r out server line len at i) where
+    pub at-inside : at ≤ length out
+    at-inside = omega (arith, so-far .at-within, so-far .out-size)
+
+    pub room-lent : (n : ℕ) → n ≤ length out - at → n ≤ length (midOf at (length out - at) out)
+    room-lent n room = omega (arith, length-lent at out at-inside)
+
+    pub put-inside : (n : ℕ) (new part : List ℕ) → length part ≡ length (midOf at (length out - at) out)
+        → Put new (midOf at (length out - at) out) n part → at + n ≤ length old
+    put-inside n new part size put = omega (arith, put-fits at n out new part at-inside size put, so-far .out-size)
 
   pub nothing-yet : (chunk old : List ℕ) (server : Server) (line : List ℕ) (len : ℕ) → len ≤ kept-length
       → length line ≡ kept-length → length (server .world .bodies) ≡ 8 → length (server .world .pairs) ≡ 64
@@ -129,12 +142,7 @@ module _ (print : Reply → List ℕ) where
         let done = printed print r (take i chunk) in
         let grown : printed print r (take (i + 1) chunk) ≡ done ++ new =
         next-printed ∙ rw (eq-eqb x line-feed feed, reply-is) refl in
-        let room : at + n ≤ length old =
-        omega (
-          arith,
-          so-far .out-size,
-          put-fits at n out new part (omega (arith, so-far .out-size, so-far .at-within)) part-size put,
-        ) in
+        let room : at + n ≤ length old = put-inside so-far n new part part-size put in
         let total : length (done ++ new) ≡ at + n = omega (arith, length-append done new, so-far .count, put .count) in
         let left : putMid at (length out - at) out part ≡ over (done ++ new) old =
         over-next done new old out part at (sym (so-far .count)) (so-far .output) (put .left) in

@@ -33,7 +33,7 @@ pub mod FirstTests
 pub mod HeatCases
 pub mod SaidAlone
 pub mod ExportRuns
-pub mod HexLines
+pub mod LineFeeds
 pub mod StepTheorem
 pub mod ExportLines
 pub mod ExportFrames

@@ -3,28 +3,29 @@
 use Prim.Native.Nat.{ℕ, suc, _+_, _≤_, _<_, min}
 use mathlib.Core.Path.{_≡_, refl, sym, _∙_, ap}
 use mathlib.Core.Bool.{Bool, true, false, not}
-use mathlib.Core.List.{List, [], _∷_, _++_, map, append-assoc}
+use mathlib.Core.List.{List, [], _∷_, _++_, map, append-assoc, append-nil}
 use native.Mathlib.Omega.{arith}
 use lib.Dec.{eqb}
 use lib.ListN.{length, take}
 use Rattle.contact_definitions.proofs.Counts.{either}
-use Rattle.lines.specs.Hex.{frame-of, hex, line-of}
+use Rattle.lines.specs.Hex.{frame-of, hex, line-of, line-feed}
 use Rattle.record_definitions.specs.declared.world.World.{World}
 use Rattle.record_definitions.specs.declared.server.Server.{Server}
 use Rattle.record_definitions.specs.declared.touch.Touch.{Touch}
 use Rattle.record_definitions.specs.declared.frame.Answer.{Answer}
 use Rattle.record_definitions.specs.declared.frame.Answer.the-variants.{Accepted, Refused, Tested}
 use Rattle.record_definitions.specs.declared.frame.Said.{Said}
+use Rattle.record_definitions.specs.Touch.{largest-count}
 use Rattle.record_definitions.specs.Answer.{head-bytes, touch-bytes, answer-bytes, said-bytes, touch-lines}
 use Rattle.record_definitions.specs.Answer.{said-line}
 use Rattle.record_definitions.specs.OneFrame.{after-frame, said-of-frame}
-use Rattle.record_definitions.specs.Server.{fresh-server, largest-step, after-line, Reply, Framed, Stepped}
+use Rattle.record_definitions.specs.Server.{fresh-server, after-line, Reply, Framed, Stepped}
 use Rattle.record_definitions.specs.Server.{step-bytes, reply-line, after-lines, reached}
 use Rattle.record_definitions.specs.Touches.{lines-from, printed-lines, touches}
 use Rattle.record_definitions.specs.StepLaws.{EmptyLine, OtherLine, steps-ended, without-empty, StepsReached}
-use Rattle.record_definitions.specs.StepLaws.{begins-0a, those, step-lines, StepsPrinted}
+use Rattle.record_definitions.specs.StepLaws.{as-input, begins-0a, those, step-lines, StepsPrinted}
 use Rattle.record_definitions.proofs.Replies.{after-framed, reply-framed}
-use Rattle.record_definitions.proofs.HexLines.{line-read}
+use Rattle.record_definitions.proofs.LineFeeds.{AllFree, lines-free, lines-again, line-read}
 
 -- ---- one line
 pub empty-line : (s : Server) → EmptyLine s
@@ -43,11 +44,11 @@ other-line s line some = record {
 }
 
 -- ---- some lines
-number-reached : (s : Server) (k : ℕ) (lines : List (List ℕ)) → s .steps ≡ min k largest-step
-    → after-lines s lines .steps ≡ min (k + steps-ended lines) largest-step
+number-reached : (s : Server) (k : ℕ) (lines : List (List ℕ)) → s .steps ≡ min k largest-count
+    → after-lines s lines .steps ≡ min (k + steps-ended lines) largest-count
 number-reached s k [] is = omega arith
 number-reached s k ([] ∷ lines) is =
-    number-reached (after-line s []) (suc k) lines (omega arith) ∙ ap (λ (n : ℕ). min n largest-step) (omega arith)
+    number-reached (after-line s []) (suc k) lines (omega arith) ∙ ap (λ (n : ℕ). min n largest-count) (omega arith)
 number-reached s k ((c ∷ line) ∷ lines) is = number-reached (after-line s (c ∷ line)) k lines is
 
 world-reached : (s t : Server) (lines : List (List ℕ)) → s .world ≡ t .world
@@ -60,8 +61,8 @@ world-reached s t ((c ∷ line) ∷ lines) same =
 
 pub steps-reached : (lines : List (List ℕ)) → StepsReached lines
 steps-reached lines =
-    let number : reached lines .steps ≡ min (steps-ended lines) largest-step =
-    number-reached fresh-server 0 lines refl ∙ ap (λ (n : ℕ). min n largest-step) (omega arith) in
+    let number : reached lines .steps ≡ min (steps-ended lines) largest-count =
+    number-reached fresh-server 0 lines refl ∙ ap (λ (n : ℕ). min n largest-count) (omega arith) in
     record {
       number = number;
       next = ap Stepped (omega (arith, number));
@@ -147,15 +148,15 @@ step-passed n rest = rw (step-begins n) refl
 abbrev output : Server → List (List ℕ) → List ℕ
 output s lines = printed-lines reply-line s lines
 
-steps-from : (s : Server) (k : ℕ) (lines : List (List ℕ)) → s .steps ≡ min k largest-step
+steps-from : (s : Server) (k : ℕ) (lines : List (List ℕ)) → s .steps ≡ min k largest-count
     → those begins-0a (lines-from [] (output s lines)) ≡ step-lines (suc k) (steps-ended lines)
 unfolding printed-lines lines-from
 steps-from s k [] is = refl
 steps-from s k ([] ∷ lines) is =
-    let n : after-line s [] .steps ≡ min (suc k) largest-step = omega arith in
+    let n : after-line s [] .steps ≡ min (suc k) largest-count = omega arith in
     rw (line-read (step-bytes (after-line s [] .steps)) (output (after-line s []) lines), step-begins (after-line s [] .steps))
     (ap (λ (m : ℕ). hex (step-bytes m) ∷ those begins-0a (lines-from [] (output (after-line s []) lines))) n
-    ∙ ap (_∷_ (hex (step-bytes (min (suc k) largest-step)))) (steps-from (after-line s []) (suc k) lines n))
+    ∙ ap (_∷_ (hex (step-bytes (min (suc k) largest-count)))) (steps-from (after-line s []) (suc k) lines n))
 steps-from s k ((c ∷ line) ∷ lines) is =
     let said = said-of-frame (s .world) (frame-of (c ∷ line)) in
     let next = after-line s (c ∷ line) in
@@ -185,9 +186,17 @@ others-from s t ((c ∷ line) ∷ lines) same =
     ∙ sym (read-said said rest)
     ∙ ap (λ (w : World). lines-from [] (said-line (said-of-frame w frame) ++ rest)) same
 
+others-free : (lines : List (List ℕ)) → AllFree lines → AllFree (without-empty lines)
+others-free [] free = tt
+others-free ([] ∷ lines) free = others-free lines (free .1)
+others-free ((c ∷ line) ∷ lines) free = (free .0, others-free lines (free .1))
+
 pub steps-printed : (input : List ℕ) → StepsPrinted input
 unfolding touches other
 steps-printed input = record {
   steps = steps-from fresh-server 0 (lines-from [] input) refl;
-  others = others-from fresh-server fresh-server (lines-from [] input) refl;
+  others =
+      others-from fresh-server fresh-server (lines-from [] input) refl
+      ∙ ap (λ (lines : List (List ℕ)). lines-from [] (output fresh-server lines))
+      (sym (lines-again (without-empty (lines-from [] input)) (others-free (lines-from [] input) (lines-free [] input tt))));
 }

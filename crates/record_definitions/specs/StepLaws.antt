@@ -3,24 +3,24 @@
 use Prim.Native.Nat.{ℕ, zero, suc, _+_, _≤_, _<_, min}
 use mathlib.Core.Path.{_≡_}
 use mathlib.Core.Bool.{Bool, false, not, cond, _&&_}
-use mathlib.Core.List.{List, [], _∷_}
+use mathlib.Core.List.{List, [], _∷_, _++_}
 use lib.Dec.{eqb}
-use lib.ListN.{length}
 use Rattle.lines.specs.Fields.{number-bytes}
-use Rattle.lines.specs.Hex.{frame-of, hex, line-of}
+use Rattle.lines.specs.Hex.{frame-of, hex, line-of, line-feed}
 use Rattle.record_definitions.specs.declared.server.Server.{Server}
+use Rattle.record_definitions.specs.Touch.{largest-count}
 use Rattle.record_definitions.specs.OneFrame.{after-frame, said-of-frame}
-use Rattle.record_definitions.specs.Server.{fresh-server, largest-step, after-line, Framed, Stepped, reply-to}
+use Rattle.record_definitions.specs.Server.{after-line, Framed, Stepped, reply-to}
 use Rattle.record_definitions.specs.Server.{step-bytes, reply-line, reached}
-use Rattle.record_definitions.specs.Touches.{lines-from, printed-lines, touches}
+use Rattle.record_definitions.specs.Touches.{lines-from, touches}
 
 -- ---- one line, in any state
 pub record EmptyLine (s : Server) : Type 0 where
   -- no body, contact or count changes: the world is all of them
   pub world-stays : after-line s [] .world ≡ s .world
   -- the step number is raised, and holds at its largest
-  pub raised : s .steps < largest-step → after-line s [] .steps ≡ s .steps + 1
-  pub held : largest-step ≤ s .steps → after-line s [] .steps ≡ largest-step
+  pub raised : s .steps < largest-count → after-line s [] .steps ≡ s .steps + 1
+  pub held : largest-count ≤ s .steps → after-line s [] .steps ≡ largest-count
   -- and is printed behind `0a`
   pub printed : reply-line (reply-to s []) ≡ line-of (10 ∷ number-bytes (after-line s [] .steps))
 
@@ -44,13 +44,18 @@ without-empty ((c ∷ line) ∷ lines) = (c ∷ line) ∷ without-empty lines
 
 pub record StepsReached (lines : List (List ℕ)) : Type 0 where
   -- the number is that of the empty lines, whatever stands between them, as far as 32 bits hold it
-  pub number : reached lines .steps ≡ min (steps-ended lines) largest-step
+  pub number : reached lines .steps ≡ min (steps-ended lines) largest-count
   -- and the next empty line prints the next
-  pub next : reply-to (reached lines) [] ≡ Stepped (min (steps-ended lines + 1) largest-step)
+  pub next : reply-to (reached lines) [] ≡ Stepped (min (steps-ended lines + 1) largest-count)
   -- the world is that of the other lines
   pub world : reached lines .world ≡ reached (without-empty lines) .world
 
 -- ---- all of the input, and all of the output
+-- lines as an input, each with its line feed
+abbrev pub as-input : List (List ℕ) → List ℕ
+as-input [] = []
+as-input (line ∷ lines) = line ++ (line-feed ∷ as-input lines)
+
 -- a line that begins with the characters `0a`
 abbrev pub begins-0a : List ℕ → Bool
 begins-0a [] = false
@@ -64,11 +69,11 @@ those test (line ∷ lines) = cond (test line) (line ∷ those test lines) (thos
 -- `0a` and a number, for so many numbers from a first one on, held at the largest
 abbrev pub step-lines : ℕ → ℕ → List (List ℕ)
 step-lines first zero = []
-step-lines first (suc n) = hex (step-bytes (min first largest-step)) ∷ step-lines (suc first) n
+step-lines first (suc n) = hex (step-bytes (min first largest-count)) ∷ step-lines (suc first) n
 
 pub record StepsPrinted (input : List ℕ) : Type 0 where
   -- the printed lines that begin with `0a` are 1, 2, 3, .. up to the largest, one for each empty line of the input
   pub steps : those begins-0a (lines-from [] (touches input)) ≡ step-lines 1 (steps-ended (lines-from [] input))
-  -- the others are what the other lines of the input print alone
+  -- the others are all that the program prints of the input without its empty lines
   pub others : those (λ (line : List ℕ). not (begins-0a line)) (lines-from [] (touches input))
-      ≡ lines-from [] (printed-lines reply-line fresh-server (without-empty (lines-from [] input)))
+      ≡ lines-from [] (touches (as-input (without-empty (lines-from [] input))))
