@@ -27,7 +27,7 @@ use Rattle.record_definitions.specs.declared.frame.Answer.the-variants.{Refused
 use Rattle.record_definitions.specs.declared.frame.Change.{Change}
 use Rattle.record_definitions.specs.declared.frame.Said.{Said}
 use Rattle.record_definitions.specs.declared.server.Server.{Server}
-use Rattle.record_definitions.specs.World.{no-body, blank-body, circle-kind, chain-kind, fresh-world, chain-body}
+use Rattle.record_definitions.specs.World.{no-body, blank-body, circle-kind, chain-kind, chain-body}
 use Rattle.record_definitions.specs.World.{piece-of, pieces-of, kept-of, body-at, pair-at}
 use Rattle.record_definitions.specs.Touch.{tested, piece-tested, first-refusal}
 use Rattle.record_definitions.specs.Answer.{answer-bytes, answer-touches, touches-said, touch-lines, said-line}

@@ -44,7 +44,11 @@ module _ (k i : ℕ) (s s′ : Server) (same : SeenServers k i s s′) where
   one-line (c ∷ line) =
       let frame = frame-of (c ∷ line) in
       ⊎-elim
-      (λ new. inl (new .0, ap Framed (new .1), ap₂ (λ (w : World) (steps : ℕ). record { world = w; steps = steps }) (new .2) (same .steps)))
+      (λ new. inl (
+        new .0,
+        ap Framed (new .1),
+        ap₂ (λ (w : World) (steps : ℕ). record { world = w; steps = steps }) (new .2) (same .steps),
+      ))
       (λ old. inr (
         old .0,
         ap Framed (old .1) ∙ framed-reply (tests-first k (c ∷ line)) (said-of-frame (s .world) frame),

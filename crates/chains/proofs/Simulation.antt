@@ -70,7 +70,8 @@ module _ (k i : ℕ) (w w′ : World) (same : Seen k i w w′) (bytes : List ℕ
         (change body (body-at w′ b) (piece-pair i (pair-at w k b)) bytes))
         (sym (same .wall ∙ piece-is (body-at w k) (same .chain) i (same .piece) fresh-pair))
         (change-seen (body-at w k) (same .chain) i (same .piece) (pair-at w k b) bytes test (body-at w b) (body-at w′ b)
-        (second k i w w′ same bytes) (same .sound .each k) (same .sound .each b) (same .capped .each k) (same .capped .each b) is-test)))
+        (second k i w w′ same bytes) (same .sound .each k) (same .sound .each b) (same .capped .each k)
+        (same .capped .each b) is-test)))
 
     outcome : Outcome bytes i test c c′
     unfolding change-in
@@ -95,7 +96,9 @@ module _ (k i : ℕ) (w w′ : World) (same : Seen k i w w′) (bytes : List ℕ
       pairs-size = (pairs-after-size k i w w′ same bytes);
       chain = ap (λ (body : Body). body .kind) own-changed ∙ s .chain;
       piece = rw own-changed (s .piece);
-      wall = body-after′ k i w w′ same bytes k ∙ rw k-own (s .body ∙ ap (λ (body : Body). piece-of body i) (sym own-changed));
+      wall =
+          body-after′ k i w w′ same bytes k
+          ∙ rw k-own (s .body ∙ ap (λ (body : Body). piece-of body i) (sym own-changed));
       others = λ x x-small other.
           body-after′ k i w w′ same bytes x
           ∙ rw (other-place x other)
@@ -113,22 +116,26 @@ module _ (k i : ℕ) (w w′ : World) (same : Seen k i w w′) (bytes : List ℕ
         push false new old = refl
 
         now : (x y : ℕ) → x < 8 → y < 8 → (x ≡ k → ⊥) → pair-at (after-frame w bytes) x y ≡ pair-at w x y
-        now x y x-small y-small other = pair-after k i w w′ same bytes x y x-small y-small ∙ rw (s .keeps, other-place x other) refl
+        now x y x-small y-small other =
+            pair-after k i w w′ same bytes x y x-small y-small ∙ rw (s .keeps, other-place x other) refl
 
-        own-pair : (y : ℕ) → y < 8 → pair-at (after-frame w′ bytes) k y ≡ piece-pair i (pair-at (after-frame w bytes) k y)
+        own-pair : (y : ℕ) → y < 8
+            → pair-at (after-frame w′ bytes) k y ≡ piece-pair i (pair-at (after-frame w bytes) k y)
         own-pair y y-small =
             let old = pair-at w k y in
             let written : pair-at (after-frame w bytes) k y ≡ cond (eqb y b) (c .pair) old =
             pair-after k i w w′ same bytes k y (same .small) y-small ∙ rw (s .keeps, k-own) refl in
             let written′ : pair-at (after-frame w′ bytes) k y
             ≡ cond (eqb y b) (piece-pair i (c .pair)) (piece-pair i old) =
-            pair-after′ k i w w′ same bytes k y (same .small) y-small ∙ rw (s .keeps′, k-own, s .pair, same .own y y-small) refl in
+            pair-after′ k i w w′ same bytes k y (same .small) y-small
+            ∙ rw (s .keeps′, k-own, s .pair, same .own y y-small) refl in
             written′ ∙ push (eqb y b) (c .pair) old ∙ ap (piece-pair i) (sym written)
 
     -- a new shape: the same world
     renewed : Renewed bytes i test c c′ → after-frame w′ bytes ≡ after-frame w bytes
     renewed r =
-        same-world (after-frame w bytes) (after-frame w′ bytes) ((sound-after k i w w′ same bytes) .bodies-size) (bodies-after k i w w′ same bytes)
+        same-world (after-frame w bytes) (after-frame w′ bytes) (sound-after k i w w′ same bytes .bodies-size)
+        (bodies-after k i w w′ same bytes)
         ((sound-after k i w w′ same bytes) .pairs-size) (pairs-after-size k i w w′ same bytes)
         (λ x x-small. body-after′ k i w w′ same bytes x
         ∙ by-test (eqb x a)
@@ -147,7 +154,8 @@ module _ (k i : ℕ) (w w′ : World) (same : Seen k i w w′) (bytes : List ℕ
 
   abbrev NewStep : Type 0
   NewStep =
-      (makes-new ≡ true) × (said-of-frame w′ bytes ≡ said-of-frame w bytes) × (after-frame w′ bytes ≡ after-frame w bytes)
+      (makes-new ≡ true) × (said-of-frame w′ bytes ≡ said-of-frame w bytes)
+      × (after-frame w′ bytes ≡ after-frame w bytes)
 
   abbrev SeenStep : Type 0
   SeenStep =
@@ -198,6 +206,7 @@ module _ (k i : ℕ) (w w′ : World) (same : Seen k i w w′) (bytes : List ℕ
       let not-id = not-named k i w w′ same bytes other in
       inr (
         rw not-id (second-fails (defines-shape bytes) (eqb (refusal-in (c .said)) accepted)),
-        rw (not-id, last-fails (eqb (byte-at bytes 0) 5)) (ap (λ (d : Change). d .said) (changes-same k i w w′ same bytes other)),
+        rw (not-id, last-fails (eqb (byte-at bytes 0) 5))
+            (ap (λ (d : Change). d .said) (changes-same k i w w′ same bytes other)),
         other-seen k i w w′ same bytes other,
       ))

@@ -26,7 +26,8 @@ use Rattle.record_definitions.proofs.Changes.{both}
 use Rattle.record_definitions.proofs.Theorem.{reached-worlds-sound}
 use Rattle.record_ranges.proofs.Theorem.{reached-worlds-capped}
 use Rattle.chains.specs.ChainAsWalls.{wall-line, MakesPiece, piece-of-answer, piece-alone, piece-reply}
-use Rattle.chains.specs.ChainAsWalls.{tests-first, seen, taken, renews, replies, seen-replies, NeverRenewed, chain-id, there}
+use Rattle.chains.specs.ChainAsWalls.{tests-first, seen, renews, replies, seen-replies, NeverRenewed}
+use Rattle.chains.specs.ChainAsWalls.{chain-id, there}
 use Rattle.chains.specs.ChainAsWalls.{with-chain, with-wall, EachLineAsItsWall}
 use Rattle.chains.proofs.SeenWorlds.{SeenServers}
 use Rattle.chains.proofs.SeenLines.{one-line}

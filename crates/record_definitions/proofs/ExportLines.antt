@@ -1,16 +1,11 @@
 -- Frames as the lines of the program: what `touches` prints of the hexadecimal of frames, a line each, is what the
 -- frames print (`program-prints`). Assumes nothing.
-use Prim.Native.Nat.{ℕ, _+_, _-_, _/_, _%_, _≤_, _<_}
-use mathlib.Core.Path.{_≡_, refl, sym, _∙_, ap}
-use mathlib.Core.Bool.{false}
-use mathlib.Core.List.{List, [], _∷_, _++_, map, append-assoc, append-nil, List·Memᴰ}
+use Prim.Native.Nat.{ℕ, _≤_, _<_}
+use mathlib.Core.Path.{_≡_, refl, _∙_, ap}
+use mathlib.Core.List.{List, [], _∷_, _++_, map, List·Memᴰ}
 use mathlib.Core.List as L
-use native.Mathlib.Omega.{arith}
-use lib.Dec.{eqb, ltb}
 use lib.ListN.{length, take, drop, take-append-drop}
-use borrow.Author.Tests.{ne-eqb}
-use Rattle.contact_definitions.proofs.Counts.{either}
-use Rattle.lines.specs.Hex.{largest-frame, digit, hex, line-of, line-feed}
+use Rattle.lines.specs.Hex.{largest-frame, hex, line-of}
 use Rattle.lines.proofs.Theorem.{frame-of-hex}
 use Rattle.record_definitions.specs.declared.server.Server.{Server}
 use Rattle.record_definitions.specs.World.{fresh-world}

@@ -132,7 +132,8 @@ module _ (print : Reply → List ℕ) where
 
     -- a line feed: the line is answered, and the next begins
     pub next-line : (server′ : Server) (reply : Reply) (part : List ℕ) (n : ℕ) → x ≡ line-feed
-        → server′ ≡ after-line server (take len line) → reply ≡ reply-to server (take len line) → length (server′ .world .bodies) ≡ 8
+        → server′ ≡ after-line server (take len line) → reply ≡ reply-to server (take len line)
+        → length (server′ .world .bodies) ≡ 8
         → length (server′ .world .pairs) ≡ 64 → length part ≡ length (midOf at (length out - at) out)
         → Put (print reply) (midOf at (length out - at) out) n part
         → SoFar chunk old r (putMid at (length out - at) out part) server′ line 0 (at + n) (i + 1)

@@ -15,7 +15,8 @@ use Rattle.record_definitions.specs.declared.frame.Change.{Change}
 use Rattle.record_definitions.specs.declared.frame.Said.{Said}
 use Rattle.record_definitions.specs.World.{blank-body, fresh-pair, fresh-world, pair-place, forget-below}
 use Rattle.record_definitions.specs.Frame.{change}
-use Rattle.record_definitions.specs.OneFrame.{first-place, second-place, pairs-after, changed, change-in, after-frame}
+use Rattle.record_definitions.specs.OneFrame.{first-place, second-place, pairs-after, changed, change-in}
+use Rattle.record_definitions.specs.OneFrame.{after-frame}
 use Rattle.record_definitions.specs.OneFrame.{said-of-frame}
 use Rattle.record_definitions.specs.Export.{refusal-in, last-said, test-frame, FourFrames}
 use Rattle.record_definitions.proofs.Alone.{change-alone}

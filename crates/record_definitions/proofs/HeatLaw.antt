@@ -20,7 +20,8 @@ use Rattle.record_definitions.specs.Answer.{result-of}
 use Rattle.record_definitions.specs.Frame.{largest-id}
 use Rattle.record_definitions.specs.OneFrame.{said-of-frame}
 use Rattle.record_definitions.specs.Server.{fresh-server, after-line, Framed, reply-to, after-lines, reached}
-use Rattle.record_definitions.specs.Heat.{with-line, contacts-after, contacts-of, contact-in, touches-begun, NextTest}
+use Rattle.record_definitions.specs.Heat.{with-line, contacts-after, contacts-of, contact-in, touches-begun}
+use Rattle.record_definitions.specs.Heat.{NextTest}
 use Rattle.record_definitions.specs.Heat.{HeatLaw}
 use Rattle.record_definitions.proofs.Replies.{said-framed}
 use Rattle.record_definitions.proofs.FreshPairs.{get-same}

@@ -1,14 +1,14 @@
 -- Document 02, request 05: an empty line ends a step (`empty-line`, `other-line`), the step number after some lines
 -- (`steps-reached`), and what the program prints of all of its input (`steps-printed`). Assumes nothing.
-use Prim.Native.Nat.{ℕ, suc, _+_, _≤_, _<_, min}
+use Prim.Native.Nat.{ℕ, suc, _+_, min}
 use mathlib.Core.Path.{_≡_, refl, sym, _∙_, ap}
 use mathlib.Core.Bool.{Bool, true, false, not}
-use mathlib.Core.List.{List, [], _∷_, _++_, map, append-assoc, append-nil}
+use mathlib.Core.List.{List, [], _∷_, _++_, map, append-assoc}
 use native.Mathlib.Omega.{arith}
 use lib.Dec.{eqb}
 use lib.ListN.{length, take}
 use Rattle.contact_definitions.proofs.Counts.{either}
-use Rattle.lines.specs.Hex.{frame-of, hex, line-of, line-feed}
+use Rattle.lines.specs.Hex.{frame-of, hex, line-of}
 use Rattle.record_definitions.specs.declared.world.World.{World}
 use Rattle.record_definitions.specs.declared.server.Server.{Server}
 use Rattle.record_definitions.specs.declared.touch.Touch.{Touch}
@@ -19,11 +19,11 @@ use Rattle.record_definitions.specs.Touch.{largest-count}
 use Rattle.record_definitions.specs.Answer.{head-bytes, touch-bytes, answer-bytes, said-bytes, touch-lines}
 use Rattle.record_definitions.specs.Answer.{said-line}
 use Rattle.record_definitions.specs.OneFrame.{after-frame, said-of-frame}
-use Rattle.record_definitions.specs.Server.{fresh-server, after-line, Reply, Framed, Stepped}
+use Rattle.record_definitions.specs.Server.{fresh-server, after-line, Stepped}
 use Rattle.record_definitions.specs.Server.{step-bytes, reply-line, after-lines, reached}
 use Rattle.record_definitions.specs.Touches.{lines-from, printed-lines, touches}
 use Rattle.record_definitions.specs.StepLaws.{EmptyLine, OtherLine, steps-ended, without-empty, StepsReached}
-use Rattle.record_definitions.specs.StepLaws.{as-input, begins-0a, those, step-lines, StepsPrinted}
+use Rattle.record_definitions.specs.StepLaws.{begins-0a, those, step-lines, StepsPrinted}
 use Rattle.record_definitions.proofs.Replies.{after-framed, reply-framed}
 use Rattle.record_definitions.proofs.LineFeeds.{AllFree, lines-free, lines-again, line-read}
 
@@ -154,7 +154,8 @@ unfolding printed-lines lines-from
 steps-from s k [] is = refl
 steps-from s k ([] ∷ lines) is =
     let n : after-line s [] .steps ≡ min (suc k) largest-count = omega arith in
-    rw (line-read (step-bytes (after-line s [] .steps)) (output (after-line s []) lines), step-begins (after-line s [] .steps))
+    let raised = after-line s [] .steps in
+    rw (line-read (step-bytes raised) (output (after-line s []) lines), step-begins raised)
     (ap (λ (m : ℕ). hex (step-bytes m) ∷ those begins-0a (lines-from [] (output (after-line s []) lines))) n
     ∙ ap (_∷_ (hex (step-bytes (min (suc k) largest-count)))) (steps-from (after-line s []) (suc k) lines n))
 steps-from s k ((c ∷ line) ∷ lines) is =
@@ -198,5 +199,6 @@ steps-printed input = record {
   others =
       others-from fresh-server fresh-server (lines-from [] input) refl
       ∙ ap (λ (lines : List (List ℕ)). lines-from [] (output fresh-server lines))
-      (sym (lines-again (without-empty (lines-from [] input)) (others-free (lines-from [] input) (lines-free [] input tt))));
+      (sym (lines-again (without-empty (lines-from [] input))
+      (others-free (lines-from [] input) (lines-free [] input tt))));
 }

@@ -100,7 +100,8 @@ loop-again-3 c =
     (loop′ .steps) (loop′ .line) (loop′ .len) (loop′ .at) (loop′ .i) _ (loop′ .inv) (at-loop-test .loop-test .taken)
     refl (at-if2 .if2 .taken) _ (put-said-line′ .result) (put-said-line′ .kept .0) (at-if3 .if3 .taken) _
     (decode′ .ensures .decoded .bytes) (decode′ .result .first) (decode′ .result .second) (decode′ .ensures .first-is)
-    (decode′ .ensures .second-is) _ _ _ (chain-test′ .result) (chain-test′ .ensures) (put-said-line′ .ensures) (rw (chain-test′ .ensures) (leaves .0))
+    (decode′ .ensures .second-is) _ _ _ (chain-test′ .result) (chain-test′ .ensures) (put-said-line′ .ensures)
+    (rw (chain-test′ .ensures) (leaves .0))
     (rw (chain-test′ .ensures) (leaves .1))
 
 pub loop-less-4 : tie.Need-loop-less-4 Inv-loop μ-loop
