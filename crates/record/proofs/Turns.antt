@@ -30,6 +30,8 @@ use Rattle.record_definitions.specs.OneFrame.{after-frame}
 use Rattle.record_definitions.specs.Reading.{Reading, kept-length}
 use Rattle.record_definitions.proofs.Replies.{after-framed, reply-framed}
 use Rattle.record_definitions.proofs.Feeding.{SoFar, next-line}
+use Rattle.record.specs.declared.feed.Names.{Names}
+use Rattle.record.specs.Decoding.{Named}
 use Rattle.record_definitions.proofs.OneLine.{said-is, world-forgets, world-keeps, length-forget, count-held}
 
 pub row-held : (line : List ℕ) (len r : ℕ) → r ≡ min len kept-length → length line ≡ kept-length
@@ -46,8 +48,8 @@ row-held line len r r-is size = go (leb kept-length len) refl
         let same : r ≡ len = omega arith in
         ap (λ (n : ℕ). take n line) same
 
-module _ (print : Reply → List ℕ) (chunk old : List ℕ) (r : Reading) (out : List ℕ) (w : World) (steps : ℕ)
-    (line : List ℕ) (len at i x : ℕ)
+module _ {print : Reply → List ℕ} {chunk old : List ℕ} {r : Reading} {out : List ℕ} {w : World} {steps : ℕ}
+    {line : List ℕ} {len at i x : ℕ}
     (so-far : SoFar print chunk old r out (record { world = w; steps = steps }) line len at i)
     (more : i < length chunk) (x-is : x ≡ getD chunk i 0) (x-feed : x ≡ line-feed) (part : List ℕ) (n : ℕ)
     (part-size : length part ≡ length (midOf at (length out - at) out)) where
@@ -69,13 +71,30 @@ module _ (print : Reply → List ℕ) (chunk old : List ℕ) (r : Reading) (out 
       (next-line print chunk old r out server line len at i x so-far more x-is _ (Stepped raised) part n x-feed
       (rw (none, raised-is) refl) (rw (none, raised-is) refl) (so-far .bodies-size) (so-far .pairs-size) part-size put)
 
-  -- ---- a frame
-  module _ (some : len ≡ 0 → ⊥) (frame : List ℕ) (frame-is : frame ≡ frame-of (take len line)) (a b : ℕ)
-      (a-is : a ≡ byte-at frame 1 % 8) (b-is : b ≡ byte-at frame 2 % 8) (past-a past-b : Body) (past-pair : Pair)
-      (c : Change)
-      (c-is : c ≡ change (getD (w .bodies) a past-a) (getD (w .bodies) b past-b) (getD (w .pairs) (8 * a + b) past-pair)
-      frame)
+  -- ---- a frame, of the bytes that the line says
+  module _ (some : len ≡ 0 → ⊥) {names : Names} {buffer : List ℕ} (named : Named (take len line) names buffer)
+      (past-a past-b : Body) (past-pair : Pair) (c : Change)
+      (c-is : c ≡ change (getD (w .bodies) (names .first) past-a) (getD (w .bodies) (names .second) past-b)
+      (getD (w .pairs) (8 * names .first + names .second) past-pair) (take (names .count) buffer))
       (put : Put (print (Framed (c .said))) (midOf at (length out - at) out) n part) where
+    abbrev a : ℕ
+    a = names .first
+
+    abbrev b : ℕ
+    b = names .second
+
+    abbrev frame : List ℕ
+    frame = take (names .count) buffer
+
+    frame-is : frame ≡ frame-of (take len line)
+    frame-is = named .decoded .bytes
+
+    a-is : a ≡ byte-at frame 1 % 8
+    a-is = named .first-is
+
+    b-is : b ≡ byte-at frame 2 % 8
+    b-is = named .second-is
+
     some-kept : length (take len line) ≡ 0 → ⊥
     some-kept none =
         some (sym (length-take-le len line (omega (arith, so-far .kept, so-far .line-size))) ∙ none)

@@ -28,19 +28,12 @@ loop-again c =
     let at-body-frame = at-put-answer-line .before .before in
     let body-frame′ = at-body-frame .body-frame in
     let at-decode = at-body-frame .before .before .before .before .before .before .before in
-    let decode′ = at-decode .decode in
     let at-if3 = at-decode .before .before .before in
     let at-if2 = at-if3 .before in
     let at-loop-test = at-if2 .before .before .before in
-    let at-loop = at-loop-test .before in
-    let loop′ = at-loop .loop in
-    let at-args = at-loop .before .before .before .before .before .before .before in
-    line-forgets reply-line (at-args .args .chunk .now) (at-args .args .out .now) _ (loop′ .out) (loop′ .w)
-    (loop′ .steps) (loop′ .line) (loop′ .len) (loop′ .at) (loop′ .i) _ (loop′ .inv) (at-loop-test .loop-test .taken)
-    refl (at-if2 .if2 .taken) _ (put-answer-line′ .result) (put-answer-line′ .kept .0) (at-if3 .if3 .taken) _
-    (decode′ .ensures .decoded .bytes) (decode′ .result .first) (decode′ .result .second)
-    (decode′ .ensures .first-is) (decode′ .ensures .second-is) _ blank-body fresh-pair
-    (of-body (body-frame′ .result) _) (body-frame′ .ensures _ _)
+    line-forgets (at-loop-test .before .loop .inv) (at-loop-test .loop-test .taken) refl (at-if2 .if2 .taken) _
+    (put-answer-line′ .result) (put-answer-line′ .kept .0) (at-if3 .if3 .taken) (at-decode .decode .ensures)
+    _ blank-body fresh-pair (of-body (body-frame′ .result) _) (body-frame′ .ensures _ _)
     (said-alone-put (said-alone (body-frame′ .result .answer)) _ _ _ refl (put-answer-line′ .ensures .0))
     (c .forget .result) (at-if5 .if5 .taken) (c .forget .ensures)
 
@@ -57,18 +50,12 @@ loop-again-2 c =
     let at-body-frame = at-put-answer-line .before .before in
     let body-frame′ = at-body-frame .body-frame in
     let at-decode = at-body-frame .before .before .before .before .before .before .before in
-    let decode′ = at-decode .decode in
     let at-if3 = at-decode .before .before .before in
     let at-if2 = at-if3 .before in
     let at-loop-test = at-if2 .before .before .before in
-    let at-loop = at-loop-test .before in
-    let loop′ = at-loop .loop in
-    let at-args = at-loop .before .before .before .before .before .before .before in
-    line-moves reply-line (at-args .args .chunk .now) (at-args .args .out .now) _ (loop′ .out) (loop′ .w)
-    (loop′ .steps) (loop′ .line) (loop′ .len) (loop′ .at) (loop′ .i) _ (loop′ .inv) (at-loop-test .loop-test .taken)
-    refl (at-if2 .if2 .taken) _ (put-answer-line′ .result) (put-answer-line′ .kept .0) (at-if3 .if3 .taken) _
-    (decode′ .ensures .decoded .bytes) (decode′ .result .first) (decode′ .result .second) (decode′ .ensures .first-is)
-    (decode′ .ensures .second-is) _ blank-body fresh-pair (of-body (body-frame′ .result) _) (body-frame′ .ensures _ _)
+    line-moves (at-loop-test .before .loop .inv) (at-loop-test .loop-test .taken) refl (at-if2 .if2 .taken) _
+    (put-answer-line′ .result) (put-answer-line′ .kept .0) (at-if3 .if3 .taken) (at-decode .decode .ensures)
+    _ blank-body fresh-pair (of-body (body-frame′ .result) _) (body-frame′ .ensures _ _)
     (said-alone-put (said-alone (body-frame′ .result .answer)) _ _ _ refl (put-answer-line′ .ensures .0))
     (c .if5 .left) refl
 
@@ -87,21 +74,14 @@ loop-again-3 c =
     let chain-test′ = at-chain-test .chain-test in
     let at-if4 = at-chain-test .before .before .before .before .before .before in
     let at-decode = at-if4 .before .before .before in
-    let decode′ = at-decode .decode in
     let at-if3 = at-decode .before .before .before in
     let at-if2 = at-if3 .before in
     let at-loop-test = at-if2 .before .before .before in
-    let at-loop = at-loop-test .before in
-    let loop′ = at-loop .loop in
-    let at-args = at-loop .before .before .before .before .before .before .before in
-    let five = sym (decode′ .ensures .kind-is) ∙ at-if4 .if4 .left in
+    let five = sym (at-decode .decode .ensures .kind-is) ∙ at-if4 .if4 .left in
     let leaves = test-leaves _ _ _ _ five in
-    line-tests reply-line (at-args .args .chunk .now) (at-args .args .out .now) _ (loop′ .out) (loop′ .w)
-    (loop′ .steps) (loop′ .line) (loop′ .len) (loop′ .at) (loop′ .i) _ (loop′ .inv) (at-loop-test .loop-test .taken)
-    refl (at-if2 .if2 .taken) _ (put-said-line′ .result) (put-said-line′ .kept .0) (at-if3 .if3 .taken) _
-    (decode′ .ensures .decoded .bytes) (decode′ .result .first) (decode′ .result .second) (decode′ .ensures .first-is)
-    (decode′ .ensures .second-is) _ _ _ (chain-test′ .result) (chain-test′ .ensures) (put-said-line′ .ensures)
-    (rw (chain-test′ .ensures) (leaves .0))
+    line-tests (at-loop-test .before .loop .inv) (at-loop-test .loop-test .taken) refl (at-if2 .if2 .taken) _
+    (put-said-line′ .result) (put-said-line′ .kept .0) (at-if3 .if3 .taken) (at-decode .decode .ensures)
+    _ _ _ (chain-test′ .result) (chain-test′ .ensures) (put-said-line′ .ensures) (rw (chain-test′ .ensures) (leaves .0))
     (rw (chain-test′ .ensures) (leaves .1))
 
 pub loop-less-4 : tie.Need-loop-less-4 Inv-loop μ-loop
@@ -117,18 +97,12 @@ loop-again-4 c =
     let at-test-frame = at-put-answer-line2 .before .before in
     let test-frame′ = at-test-frame .test-frame in
     let at-decode = at-test-frame .before .before .before .before .before .before .before .before .before in
-    let decode′ = at-decode .decode in
     let at-if3 = at-decode .before .before .before in
     let at-if2 = at-if3 .before in
     let at-loop-test = at-if2 .before .before .before in
-    let at-loop = at-loop-test .before in
-    let loop′ = at-loop .loop in
-    let at-args = at-loop .before .before .before .before .before .before .before in
-    line-tests reply-line (at-args .args .chunk .now) (at-args .args .out .now) _ (loop′ .out) (loop′ .w)
-    (loop′ .steps) (loop′ .line) (loop′ .len) (loop′ .at) (loop′ .i) _ (loop′ .inv) (at-loop-test .loop-test .taken)
-    refl (at-if2 .if2 .taken) _ (put-answer-line2′ .result) (put-answer-line2′ .kept .0) (at-if3 .if3 .taken) _
-    (decode′ .ensures .decoded .bytes) (decode′ .result .first) (decode′ .result .second) (decode′ .ensures .first-is)
-    (decode′ .ensures .second-is) _ _ _ (of-test (test-frame′ .result) _) (test-frame′ .ensures)
+    line-tests (at-loop-test .before .loop .inv) (at-loop-test .loop-test .taken) refl (at-if2 .if2 .taken) _
+    (put-answer-line2′ .result) (put-answer-line2′ .kept .0) (at-if3 .if3 .taken) (at-decode .decode .ensures)
+    _ _ _ (of-test (test-frame′ .result) _) (test-frame′ .ensures)
     (said-alone-put (said-alone (test-frame′ .result .answer)) _ _ _ refl (put-answer-line2′ .ensures .0)) refl refl
 
 pub loop-less-5 : tie.Need-loop-less-5 Inv-loop μ-loop
@@ -142,13 +116,9 @@ loop-again-5 c =
     let at-if3 = at-next-step .before in
     let at-if2 = at-if3 .before in
     let at-loop-test = at-if2 .before .before .before in
-    let at-loop = at-loop-test .before in
-    let loop′ = at-loop .loop in
-    let at-args = at-loop .before .before .before .before .before .before .before in
-    step-ends reply-line (at-args .args .chunk .now) (at-args .args .out .now) _ (loop′ .out) (loop′ .w) (loop′ .steps)
-    (loop′ .line) (loop′ .len) (loop′ .at) (loop′ .i) _ (loop′ .inv) (at-loop-test .loop-test .taken) refl
-    (at-if2 .if2 .taken) _ (put-step-line′ .result) (put-step-line′ .kept .0) (at-if3 .if3 .left)
-    (at-next-step .next-step .result) (at-next-step .next-step .ensures) (put-step-line′ .ensures)
+    step-ends (at-loop-test .before .loop .inv) (at-loop-test .loop-test .taken) refl (at-if2 .if2 .taken) _
+    (put-step-line′ .result) (put-step-line′ .kept .0) (at-if3 .if3 .left) (at-next-step .next-step .result)
+    (at-next-step .next-step .ensures) (put-step-line′ .ensures)
 
 pub loop-less-6 : tie.Need-loop-less-6 Inv-loop μ-loop
 loop-less-6 c = search needs
