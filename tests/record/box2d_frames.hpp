@@ -3,14 +3,17 @@
 #pragma once
 #include "box2d_bytes.hpp"
 #include "box2d_headings.hpp"
+#include "box2d_kept.hpp"
 #include "box2d_words.hpp"
 #include <vector>
 
 namespace {
 
 const float SIZE = 1048576.0f;
-// a chain's points, the ones before and after left aside, and its pieces; bytes of a frame and of a test's line
-enum { IDS = 8, POINTS = 8, PIECES = POINTS - 1, LONGEST_FRAME = 67, LONGEST_CHAIN = 83, LONGEST_TEST = 45 };
+// a chain's points, the ones before and after left aside, and its pieces; bytes of a frame
+enum { IDS = 8, POINTS = 8, PIECES = POINTS - 1, LONGEST_FRAME = 67, LONGEST_CHAIN = 83 };
+// bytes of a test's line: what each has, the normal where there are points, a point: x, y, separation, age
+enum { HEAD = 13, NORMAL = 8, POINT = 16, LONGEST_TEST = HEAD + NORMAL + b2_maxManifoldPoints * POINT };
 enum Kind : uint8_t { NOTHING = 0, CIRCLE = 1, OUTLINE = 2, WALL = 3, CHAIN = 7 };
 
 struct Body {
@@ -21,13 +24,6 @@ struct Body {
     std::vector<b2EdgeShape> walls; // one, or the pieces of a chain
     float radius() const { return kind == CIRCLE ? circle.m_radius : b2_polygonRadius; }
     size_t pieces() const { return kind == WALL || kind == CHAIN ? walls.size() : 1; }
-};
-
-// What an ordered pair keeps of a piece of its first body: the contact at the last accepted test, without points where
-// there was none, and the touches so far.
-struct Contact {
-    b2Manifold last = b2Manifold();
-    uint32_t touches = 0;
 };
 
 bool within(float x, float limit) { return x >= -limit && x <= limit; }
@@ -210,7 +206,7 @@ struct Program {
         b2PointState states[4];
         b2GetPointStates(states, states + 2, &kept.last, &m);
         if (kept.last.pointCount == 0 && m.pointCount > 0 && kept.touches < UINT32_MAX) kept.touches++;
-        kept.last = m;
+        kept.renew(m, states + 2);
         to.byte((uint32_t)m.pointCount), to.byte(m.pointCount == 0 ? 0 : (uint32_t)m.type);
         for (auto state : states) to.byte((uint32_t)state);
         to.word(kept.touches);
@@ -218,7 +214,8 @@ struct Program {
             b2WorldManifold world;
             world.Initialize(&m, a.place, a.radius(), b.place, b.radius());
             to.vec(world.normal);
-            for (int i = 0; i < m.pointCount; i++) to.vec(world.points[i]), to.number(world.separations[i]);
+            for (int i = 0; i < m.pointCount; i++)
+                to.vec(world.points[i]), to.number(world.separations[i]), to.word(kept.ages[i]);
         }
     }
 

@@ -1,18 +1,23 @@
 //! A second `touches` over the unmodified Rust, written from document 01's "The touch record", from document 02's
-//! frames 06 and 07, its count of touches and its steps, and from nothing of ours: what the program prints for an input,
-//! and the export. The Rust's panics are refusals 3, 4, 5 and 8; 1, 2, 6, 9 and 10 to 16 are tested here. A kind of
-//! frame is a row of KINDS and a function in the file of its like.
+//! frames 06 and 07, its count of touches, its steps and its ages of points, and from nothing of ours: what the program
+//! prints for an input, and the export. The Rust's panics are refusals 3, 4, 5 and 8; 1, 2, 6, 9 and 10 to 16 are tested
+//! here. A kind of frame is a row of KINDS and a function in the file of its like.
 mod placing;
 mod shapes;
 mod testing;
 use box2d_rs::b2_collision::B2manifold;
+use box2d_rs::b2_common::B2_MAX_MANIFOLD_POINTS;
 use box2d_rs::b2_math::{B2Rot, B2Transform, B2vec2};
 use shapes::Shape;
 
 const IDS: usize = 8;
 const LONGEST_FRAME: usize = 67;
 const LONGEST_CHAIN: usize = 83;
-const LONGEST_TEST: usize = 45;
+/// The bytes of a test's line: those that each has, the normal where there are points, a point with its age.
+const HEAD: usize = 13;
+const NORMAL: usize = 8;
+const POINT: usize = 16;
+const LONGEST_TEST: usize = HEAD + NORMAL + B2_MAX_MANIFOLD_POINTS * POINT;
 
 /// The lines, or the number of a refusal.
 type Answer = Result<Vec<Line>, u8>;
@@ -79,10 +84,11 @@ struct Body {
 }
 
 /// What an ordered pair keeps of a piece of its first body: the contact at the last accepted test, if there was one,
-/// and the touches so far.
+/// the ages of its points, and the touches so far.
 #[derive(Clone, Copy, Default)]
 struct Contact {
     last: Option<B2manifold>,
+    ages: [u32; B2_MAX_MANIFOLD_POINTS],
     touches: u32,
 }
 

@@ -84,6 +84,12 @@ pub fn test(program: &mut Program, frame: &[u8]) -> Answer {
     Ok(found.iter().zip(contacts).map(|(m, kept)| line(frame, kept, m, a, b)).collect())
 }
 
+/// How long a point has been there: one more than the first old point with its id had; 0 where none has it.
+fn age(id: B2contactId, kept: &Contact) -> u32 {
+    let old = kept.last.and_then(|last| last.points[..last.point_count].iter().position(|point| point.id == id));
+    old.map_or(0, |place| kept.ages[place].saturating_add(1))
+}
+
 /// The line of a piece and its new contact, which is kept. A touch begins at a test that finds points where the last
 /// test found none, or where there was no last test; a refused test is none.
 fn line(frame: &[u8], kept: &mut Contact, m: &B2manifold, a: &Body, b: &Body) -> Line {
@@ -92,7 +98,8 @@ fn line(frame: &[u8], kept: &mut Contact, m: &B2manifold, a: &Body, b: &Body) ->
     let (mut old, mut new) = ([B2pointState::B2NullState; 2], [B2pointState::B2NullState; 2]);
     b2_get_point_states(&mut old, &mut new, &kept.last.unwrap_or_default(), m);
     let begins = m.point_count > 0 && kept.last.map_or(true, |last| last.point_count == 0);
-    *kept = Contact { last: Some(*m), touches: kept.touches.saturating_add(begins as u32) };
+    let ages = m.points.map(|point| age(point.id, kept));
+    *kept = Contact { last: Some(*m), ages, touches: kept.touches.saturating_add(begins as u32) };
 
     let kind = if m.point_count == 0 { 0 } else { m.manifold_type as u8 };
     let mut line = Line::of(frame);
@@ -105,6 +112,7 @@ fn line(frame: &[u8], kept: &mut Contact, m: &B2manifold, a: &Body, b: &Body) ->
     for i in 0..m.point_count {
         put_point(&mut line, world.points[i]);
         put(&mut line, world.separations[i]);
+        line.put(&kept.ages[i].to_be_bytes());
     }
     line
 }
