@@ -15,6 +15,7 @@ use std::hint::black_box;
 use std::io::{Read, Write};
 use std::process::Command;
 use std::time::Instant;
+use touches::LONGEST_TEST;
 
 extern "C" {
     fn netxurbil_test(frames: *const u8, frames_length: usize, out: *mut u8, out_length: usize) -> u32;
@@ -150,7 +151,7 @@ fn exports(corners: usize, rounds: usize) {
         [("ours", &ours), ("Rust", &touches::export), ("Box2D", &box2d)];
     for input in &inputs {
         let answer = |call: &dyn Fn(&[u8], &mut [u8]) -> u32| {
-            let mut out = [0; 45];
+            let mut out = [0; LONGEST_TEST];
             (call(input, &mut out), out)
         };
         let answers = contestants.map(|(_, call)| answer(call));
@@ -159,7 +160,7 @@ fn exports(corners: usize, rounds: usize) {
     let mut best = [f64::INFINITY; 3];
     for _ in 0..rounds {
         for (least, (_, call)) in best.iter_mut().zip(contestants) {
-            let (start, mut out) = (Instant::now(), [0; 45]);
+            let (start, mut out) = (Instant::now(), [0; LONGEST_TEST]);
             for i in 0..CALLS {
                 black_box(call(&inputs[i % 64], &mut out));
             }

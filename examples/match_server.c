@@ -9,7 +9,8 @@
 #include <stdio.h>
 #include <string.h>
 
-enum { MOST_POINTS = 8 };
+/* More room than an answer needs; where an answer has the normal and its points, and the bytes of a point. */
+enum { MOST_POINTS = 8, ROOM = 2 * NETXURBIL_OUTPUT, NORMAL = 13, POINTS = 21, POINT = 16 };
 
 /* A robot as its team drew it, and where it is. */
 struct robot {
@@ -24,8 +25,12 @@ static uint8_t *put(uint8_t *at, float number) {
     return at;
 }
 
+static uint32_t word(const uint8_t *at) {
+    return (uint32_t)at[0] << 24 | (uint32_t)at[1] << 16 | (uint32_t)at[2] << 8 | at[3];
+}
+
 static float number(const uint8_t *at) {
-    uint32_t bits = (uint32_t)at[0] << 24 | (uint32_t)at[1] << 16 | (uint32_t)at[2] << 8 | at[3];
+    uint32_t bits = word(at);
     float x;
     memcpy(&x, &bits, sizeof x);
     return x;
@@ -43,7 +48,7 @@ static int can_be_sent(const struct robot *robot) { return robot->count >= 0 && 
 
 static void show(const char *what, const struct robot *a, const struct robot *b, size_t room) {
     static const char *const kinds[] = {"no face", "a face of robot 0", "a face of robot 1"};
-    uint8_t frames[NETXURBIL_INPUT], out[64];
+    uint8_t frames[NETXURBIL_INPUT], out[ROOM];
     printf("%s: ", what);
     if (!can_be_sent(a) || !can_be_sent(b)) {
         printf("not sent\n");
@@ -58,10 +63,11 @@ static void show(const char *what, const struct robot *a, const struct robot *b,
     int points = out[3];
     printf("%" PRIu32 " bytes, %d point%s", said, points, points == 1 ? "" : "s");
     if (points > 0) {
-        printf(" on %s, normal (%.9g, %.9g)", kinds[out[4]], number(out + 13), number(out + 17));
+        printf(" on %s, normal (%.9g, %.9g)", kinds[out[4]], number(out + NORMAL), number(out + NORMAL + 4));
         for (int i = 0; i < points; i++) {
-            const uint8_t *point = out + 21 + 12 * i;
+            const uint8_t *point = out + POINTS + POINT * i;
             printf("; at (%.9g, %.9g) separation %.9g", number(point), number(point + 4), number(point + 8));
+            printf(" age %" PRIu32, word(point + 12));
         }
     }
     printf("\n");
@@ -70,20 +76,20 @@ static void show(const char *what, const struct robot *a, const struct robot *b,
 int main(void) {
     const struct robot pusher = {4, {{-1, -1}, {1, -1}, {1, 1}, {-1, 1}}, 0, 0, 0, 1};
     struct robot wedge = {3, {{0, 0}, {2, -1}, {2, 1}}, 2, 0, 0, 1};
-    show("a metre apart", &pusher, &wedge, 45);
+    show("a metre apart", &pusher, &wedge, NETXURBIL_OUTPUT);
     wedge.x = 0.9921875f;
-    show("the wedge's tip in the side", &pusher, &wedge, 45);
+    show("the wedge's tip in the side", &pusher, &wedge, NETXURBIL_OUTPUT);
     wedge.sine = 0.6f, wedge.cosine = 0.8f;
-    show("turned", &pusher, &wedge, 64);
+    show("turned", &pusher, &wedge, ROOM);
     struct robot other = pusher;
     other.x = 1.5f;
-    show("two boxes that overlap", &pusher, &other, 45);
-    show("an output that is too short", &pusher, &other, 44);
+    show("two boxes that overlap", &pusher, &other, NETXURBIL_OUTPUT);
+    show("an output that is too short", &pusher, &other, NETXURBIL_OUTPUT - 1);
     other.cosine = 1.5f;
-    show("a cosine above 1", &pusher, &other, 45);
+    show("a cosine above 1", &pusher, &other, NETXURBIL_OUTPUT);
     wedge.count = 2;
-    show("a drawing of two points", &pusher, &wedge, 45);
+    show("a drawing of two points", &pusher, &wedge, NETXURBIL_OUTPUT);
     wedge.count = 9;
-    show("a drawing of nine points", &pusher, &wedge, 45);
+    show("a drawing of nine points", &pusher, &wedge, NETXURBIL_OUTPUT);
     return 0;
 }

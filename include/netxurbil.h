@@ -20,7 +20,7 @@ enum netxurbil_refusal {
     NETXURBIL_PLACEMENT_OUT_OF_RANGE = 6, /* a placement, or a box's sine or cosine, is out of range */
     NETXURBIL_COUNT_OUT_OF_RANGE = 7,     /* a record's count is out of range; no frame gives it */
     NETXURBIL_WALL_TOO_SHORT = 8,         /* wall against circle: the wall's squared length is not above 0 */
-    NETXURBIL_CONTACT_OUT_OF_RANGE = 9,   /* an output under 45 bytes; of clips and world points, a number's range */
+    NETXURBIL_CONTACT_OUT_OF_RANGE = 9,   /* an output under 53 bytes; of clips and world points, a number's range */
     NETXURBIL_MALFORMED_FRAME = 10,       /* what was sent is no frame, or not the frames that are asked for */
     NETXURBIL_UNKNOWN_ID = 11,            /* an id above 7 */
     NETXURBIL_NO_SHAPE = 12,              /* no shape under the id */
@@ -30,12 +30,12 @@ enum netxurbil_refusal {
     NETXURBIL_CHAIN_TOO_NEAR = 16         /* neighbouring points of a chain too near; this call never returns it */
 };
 
-#define NETXURBIL_VERSION "1.4"
+#define NETXURBIL_VERSION "1.5"
 
 /* The longest input: two outlines of eight points, and two placements. */
 #define NETXURBIL_INPUT 170
 /* The room that an output needs: the longest answer, a test with two points. */
-#define NETXURBIL_OUTPUT 45
+#define NETXURBIL_OUTPUT 53
 /* What is added to a refusal's number when netxurbil_test returns it. */
 #define NETXURBIL_REFUSED 256
 
@@ -67,10 +67,10 @@ enum netxurbil_state {
        05 00 01, the number of points (0 to 2), the kind (0 where there is no point, 1 for a face of robot 0, 2 for one of
        robot 1), the states of two old points (0) and of two new ones (1 where there is a point), the number of touches
        (4 bytes: 1 where there are points, one or two, else 0); with points: the normal's x and y, from robot 0 to robot
-       1, then x, y and separation of each point, below 0 where they overlap
+       1, then of each point x, y, separation, below 0 where they overlap, and age (4 bytes: 0, since each point is new)
 
-   Returns the number of bytes written: 13, 33 or 45 with 0, 1 or 2 points; or 256 plus a refusal, and then `out` is
-   untouched: 9 for an output under 45 bytes, tried first; 10 where `frames` is anything but these four; else 1 to 6.
+   Returns the number of bytes written: 13, 37 or 53 with 0, 1 or 2 points; or 256 plus a refusal, and then `out` is
+   untouched: 9 for an output under 53 bytes, tried first; 10 where `frames` is anything but these four; else 1 to 6.
    No other number is returned. The bytes are those of the last line that the program touches prints when it is sent these
    four frames and 050001, each as a line of hexadecimal; a refusal from 1 to 6 is the first `ff` line that it prints
    (both are proved: docs/CLAIMS.md, R4n and R4p).

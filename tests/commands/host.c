@@ -41,6 +41,9 @@ int main(void) {
     hold("its kind", NETXURBIL_FACE_OF_FIRST, out[4]);
     hold("its first old state", NETXURBIL_NULL_STATE, out[5]);
     hold("its second new state", NETXURBIL_ADD_STATE, out[8]);
+    hold("its second age", 0, memcmp(out + sizeof out - sizeof zero, zero, sizeof zero) != 0);
+    hold("an output a byte short", NETXURBIL_REFUSED + NETXURBIL_CONTACT_OUT_OF_RANGE,
+         netxurbil_test(frames, n, out, sizeof out - 1));
     hold("no input", NETXURBIL_REFUSED + NETXURBIL_MALFORMED_FRAME, netxurbil_test(NULL, 0, out, sizeof out));
     hold("no output", NETXURBIL_REFUSED + NETXURBIL_CONTACT_OUT_OF_RANGE, netxurbil_test(frames, n, NULL, 0));
     hold("neither", NETXURBIL_REFUSED + NETXURBIL_CONTACT_OUT_OF_RANGE, netxurbil_test(NULL, 0, NULL, 0));

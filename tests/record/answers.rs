@@ -5,6 +5,13 @@ use crate::kinds::kind;
 pub const IDS: usize = 8;
 /// The most pieces that a chain has.
 pub const PIECES: usize = 7;
+/// The bytes of a test's line: those that each has, the normal where there are points, a point. A point's last four are
+/// its age. The longest has two points.
+const HEAD: usize = 13;
+const NORMAL: usize = 8;
+const POINT: usize = 16;
+const AGE: usize = 12;
+pub const LONGEST_TEST: usize = test_bytes(2);
 
 pub fn lines(text: &[u8]) -> Vec<&[u8]> {
     let mut lines: Vec<&[u8]> = text.split(|c| *c == b'\n').collect();
@@ -19,8 +26,26 @@ pub fn byte(line: &[u8], i: usize) -> usize {
     digits.and_then(|two| usize::from_str_radix(two, 16).ok()).unwrap_or(0)
 }
 
+pub fn word(line: &[u8], at: usize) -> u32 {
+    (at..at + 4).fold(0, |bits, i| bits << 8 | byte(line, i) as u32)
+}
+
 pub fn float(line: &[u8], at: usize) -> f32 {
-    f32::from_bits((at..at + 4).fold(0, |bits, i| bits << 8 | byte(line, i) as u32))
+    f32::from_bits(word(line, at))
+}
+
+/// The bytes of a test's line with so many points.
+pub const fn test_bytes(points: usize) -> usize {
+    if points == 0 {
+        HEAD
+    } else {
+        HEAD + NORMAL + POINT * points
+    }
+}
+
+/// Where the age of a point is in a test's line.
+pub const fn age_at(point: usize) -> usize {
+    HEAD + NORMAL + POINT * point + AGE
 }
 
 /// A line of a heat and its answer.
@@ -62,10 +87,12 @@ pub fn answered<'a>(input: &'a [u8], output: &'a [u8]) -> Vec<Answered<'a>> {
     lines(input).into_iter().map(one).collect()
 }
 
-/// Whether an output has just the lines that the heat asks for: those of a test begin as the test does, no others.
+/// Whether an output has just the lines that the heat asks for: those of a test begin as the test does and are as long
+/// as their points ask, no others.
 pub fn whole(heat: &[Answered], output: &[u8]) -> bool {
     let count: usize = heat.iter().map(|answer| answer.lines.len()).sum();
-    let fits = |answer: &Answered, line: &[u8]| byte(line, 0) != 5 || line.starts_with(answer.frame);
+    let of_test = |frame: &[u8], line: &[u8]| line.starts_with(frame) && line.len() == 2 * test_bytes(byte(line, 3));
+    let fits = |answer: &Answered, line: &[u8]| byte(line, 0) != 5 || of_test(answer.frame, line);
     count == lines(output).len()
         && heat.iter().all(|answer| !answer.lines.is_empty() && answer.lines.iter().all(|line| fits(answer, line)))
 }

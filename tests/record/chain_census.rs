@@ -1,6 +1,6 @@
 //! What the heats of a run had of chains, counted from inputs and the right outputs: frames 07 by their numbers, their
 //! damage and their refusals, tests by the pieces that touch.
-use crate::answers::{byte, float, Answered, IDS, PIECES};
+use crate::answers::{byte, float, word, Answered, IDS, PIECES};
 use crate::census::Stands;
 use crate::ranges::SIZE;
 use crate::support::Tally;
@@ -59,8 +59,7 @@ impl Chains {
             1 => {}
             _ => tally.met("several pieces touching"),
         }
-        let counts = |line: &[u8]| (9..13).map(|i| byte(line, i)).collect::<Vec<usize>>();
-        if answer.lines.iter().any(|line| counts(line) != counts(answer.lines[0])) {
+        if answer.lines.iter().any(|line| word(line, 9) != word(answer.lines[0], 9)) {
             tally.met("pieces of different counts");
         }
         *before = now;

@@ -1,5 +1,6 @@
-//! Our export beside the second programs': good and damaged frames, outputs of 0 to 64 bytes. Both slices end or begin
-//! at pages that cannot be read or written.
+//! Our export beside the second programs': good and damaged frames, outputs from none to some bytes more than it needs.
+//! Both slices end or begin at pages that cannot be read or written.
+use crate::answers::{age_at, test_bytes, LONGEST_TEST};
 use crate::heats::export_frames;
 use crate::robots::{body_of, heading_frame, shape_frame, turn_number, Kind};
 use crate::second;
@@ -12,6 +13,10 @@ extern "C" {
 }
 
 const PAGE: usize = 4096;
+/// So many bytes more than it needs.
+const MORE: u64 = 20;
+/// The first that is no number of bytes: a refusal is added to it.
+const REFUSED: u32 = 256;
 
 /// A page between two that end the program when they are touched.
 struct Guarded(*mut u8);
@@ -71,6 +76,10 @@ const DAMAGES: [&str; 11] = [
 /// Where the slices are: at the beginning or the end of their pages.
 const AT: [&str; 4] = ["input after a guard", "input before a guard", "output after a guard", "output before a guard"];
 
+/// The sizes of outputs by what is returned.
+const EDGES: [&str; 4] =
+    ["an output of just its bytes", "an output a byte short", "9, with room for the answer", "9 before 10"];
+
 /// The bytes of an input and what is done to them.
 fn input(random: &mut Random) -> (Vec<u8>, &'static str) {
     let mut frames = export_frames(random);
@@ -126,13 +135,34 @@ pub fn bytes_of(hex: &str) -> Vec<u8> {
     (0..hex.len() / 2).map(|i| u8::from_str_radix(&hex[2 * i..2 * i + 2], 16).expect("digits")).collect()
 }
 
+/// What a fresh program says: points are one touch, and new, so each has the age 0; and so many bytes as they take.
+fn fresh(line: &[u8], length: usize) -> bool {
+    let points = line[3] as usize;
+    let new = (0..points).all(|i| line[age_at(i)..age_at(i) + 4] == [0; 4]);
+    length == test_bytes(points) && line[9..13] == [0, 0, 0, (points > 0) as u8] && new
+}
+
+/// Counts an output whose size is at the edge of what it has to be, or below it where another refusal comes, or none.
+fn edges(bytes: &[u8], room: usize, tally: &mut Tally) {
+    let (enough, _, _) = second::export(bytes, &[0; LONGEST_TEST]);
+    let (two_points, short) = (enough as usize == LONGEST_TEST, room < LONGEST_TEST);
+    let met = [
+        two_points && room == LONGEST_TEST,
+        two_points && room + 1 == LONGEST_TEST,
+        short && enough < REFUSED && enough as usize <= room,
+        short && enough == REFUSED + 10,
+    ];
+    EDGES.iter().zip(met).filter(|(_, met)| *met).for_each(|(name, _)| tally.met(name));
+}
+
 pub fn compare(cases: u64, seed: u64) -> bool {
     let mut random = Random::new(seed);
     let mut tally = Tally::new("export");
     let (mut frames_page, mut out_page) = (Guarded::new(), Guarded::new());
     for i in 0..cases {
         let (bytes, damage) = if i == 0 { (bytes_of(BAD_CENTROID), "bad centroid") } else { input(&mut random) };
-        let room = if random.below(3) > 0 { 45 + random.below(20) as usize } else { random.below(65) as usize };
+        let any = random.below(LONGEST_TEST as u64 + MORE) as usize;
+        let room = if random.below(3) > 0 { LONGEST_TEST + random.below(MORE) as usize } else { any };
         let frames_at = frames_page.place(bytes.len(), random.once_in(2));
         let out_at = out_page.place(room, random.once_in(2));
         frames_page.page()[frames_at..frames_at + bytes.len()].copy_from_slice(&bytes);
@@ -143,8 +173,7 @@ pub fn compare(cases: u64, seed: u64) -> bool {
         let (wanted, left, agree) = second::export(&bytes, &vec![filler; room]);
         let page = out_page.page();
         let kept = page[..out_at].iter().chain(&page[out_at + room..]).all(|b| *b == filler);
-        // in a fresh program, points are one touch
-        let ruled = wanted >= 256 || left[9..13] == [0, 0, 0, (left[3] > 0) as u8];
+        let ruled = wanted >= REFUSED || fresh(&left, wanted as usize);
         let right = agree && ruled && number == wanted && page[out_at..out_at + room] == left[..] && kept;
         let same = frames_page.page()[frames_at..frames_at + bytes.len()] == bytes[..];
         tally.case(right && same, || {
@@ -154,20 +183,22 @@ pub fn compare(cases: u64, seed: u64) -> bool {
         tally.met(damage);
         tally.met(AT[(frames_at > 0) as usize]);
         tally.met(AT[2 + (out_at > 0) as usize]);
-        if (33..256).contains(&wanted) {
+        if (test_bytes(1) as u32..REFUSED).contains(&wanted) {
             tally.met(&format!("kind {}", left[4]));
         }
         tally.met(&match wanted {
-            256.. => format!("refusal {}", wanted - 256),
+            REFUSED.. => format!("refusal {}", wanted - REFUSED),
             length => format!("{length} bytes"),
         });
+        edges(&bytes, room, &mut tally);
     }
     if frames_page.guarded() && out_page.guarded() {
         tally.met("guard pages");
     }
     let others = ["guard pages", "kind 1", "kind 2"];
-    let mut wanted: Vec<String> = DAMAGES.iter().chain(&AT).chain(&others).map(|what| what.to_string()).collect();
+    let mut wanted: Vec<String> =
+        DAMAGES.iter().chain(&AT).chain(&EDGES).chain(&others).map(|what| what.to_string()).collect();
     wanted.extend([1, 2, 3, 4, 5, 6, 9, 10].iter().map(|refusal| format!("refusal {refusal}")));
-    wanted.extend([13, 33, 45].iter().map(|length| format!("{length} bytes")));
+    wanted.extend((0..3).map(|points| format!("{} bytes", test_bytes(points))));
     tally.report(&wanted)
 }

@@ -2,7 +2,7 @@
 //! test that finds points where its last test found none, or where there was no last test, and at no other; each piece
 //! of a chain has a count of its own. A refused test is no last test, and a new shape under either id leaves none.
 //! Counts what a run had of it.
-use crate::answers::{byte, Answered, IDS, PIECES};
+use crate::answers::{byte, word, Answered, IDS, PIECES};
 use crate::support::Tally;
 
 const ADD: usize = 1;
@@ -39,7 +39,7 @@ impl Pair {
 }
 
 fn count(answer: &[u8]) -> u32 {
-    (9..13).fold(0, |count, i| count << 8 | byte(answer, i) as u32)
+    word(answer, 9)
 }
 
 /// A case for each line of an accepted test of a heat; what a random one has of the rule is counted.

@@ -17,7 +17,7 @@ const LONGEST_CHAIN: usize = 83;
 const HEAD: usize = 13;
 const NORMAL: usize = 8;
 const POINT: usize = 16;
-const LONGEST_TEST: usize = HEAD + NORMAL + B2_MAX_MANIFOLD_POINTS * POINT;
+pub const LONGEST_TEST: usize = HEAD + NORMAL + B2_MAX_MANIFOLD_POINTS * POINT;
 
 /// The lines, or the number of a refusal.
 type Answer = Result<Vec<Line>, u8>;
