@@ -5,6 +5,7 @@ use crate::heats::Heat;
 use crate::kinds::{any, unknown_id, weighted};
 use crate::robots::{body_of, floats, hex, point, shape_frame, Body, Kind};
 use crate::steps::almost_empty;
+use crate::support::Random;
 
 impl Heat<'_> {
     /// A wall so short that its squared length is 0 or has no finite reciprocal, and a circle over its middle.
@@ -24,11 +25,18 @@ impl Heat<'_> {
         self.frame(&floats(&[3, 0, 0], &[v1[0], v1[1], v1[0] + side[0], v1[1] + side[1]]));
         self.frame(&floats(&[1, 1], &[v1[0] + from[0], v1[1] + from[1] + far, radius]));
         self.frame(&[5, 0, 1]);
-        // a contact before and after a test that may be refused: half a metre off the circle is at one of the wall's ends
-        for _ in 0..self.random.below(6) {
-            let mut tiny = |most: u64| (self.random.below(2 * most + 1) as f32 - most as f32) * step;
-            let beside = [tiny(4), tiny(4)];
-            let at = self.random.of(&[beside, [0.0, 0.0], [0.0, 0.5]]);
+        // contacts before and after a test that may be refused: half a metre off the circle is at a wall's end
+        let (there, off) = ([0.0, 0.0], [0.0, 0.5]);
+        let mut walk: Vec<[f32; 2]> = vec![off, off, there, off];
+        if !refused || self.random.once_in(3) {
+            let any = |random: &mut Random| {
+                let mut tiny = || (random.below(9) as f32 - 4.0) * step;
+                let beside = [tiny(), tiny()];
+                random.of(&[beside, there, off])
+            };
+            walk = (0..self.random.below(6)).map(|_| any(self.random)).collect();
+        }
+        for at in walk {
             self.frame(&floats(&[4, 1], &[at[0], at[1], 0.0, 1.0]));
             self.frame(&[5, 0, 1]);
         }

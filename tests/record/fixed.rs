@@ -105,10 +105,52 @@ const FIXED: &[(&str, &[u8])] = &[
           010100000000000000003f000000\n0401bdcccccd3f07ae14000000003f800000\n\n050001\n\n050001\n\n\n050001\n\n\
           04013f8000003f000000000000003f800000\n050001\n\n050001\n\n0401bdcccccd3f07ae14000000003f800000\n\n050001\n",
     ),
+    (
+        "a box stands on a corner, comes to lie, stands on the other and is put down again: older and younger points",
+        b"030000c0000000000000004000000000000000\n020104bf800000bf8000003f800000bf8000003f8000003f800000bf8000003f8\
+          00000\n0601000000003f9000000064\n050001\n050001\n050001\n0601000000003f8000000000\n050001\n050001\n\
+          0601000000003f9000000f9c\n050001\n0601000000003f8000000000\n050001\n060100000000404000000000\n050001\n\
+          0601000000003f8000000000\n050001\n050001\n",
+    ),
+    (
+        "a refused test between tests that touch: the age goes on by one",
+        b"03000000000000000000001a0000001a000000\n01011a400000998000003f800000\n\
+          0401000000003f000000000000003f800000\n050001\n050001\n04010000000000000000000000003f800000\n050001\n\
+          050001\n0401000000003f000000000000003f800000\n050001\n050001\n",
+    ),
+    (
+        "ages over steps, placements, the other order and refused shapes; 0 after a new first, a new second, a gap",
+        b"010000000000000000003f800000\n01013fc00000000000003f800000\n050001\n050001\n\n050001\n\n\n050001\n\
+          04000000000000000000000000003f800000\n050001\n060100000000000000000400\n\
+          04010000000000000000000000003f800000\n050001\n050100\n050100\n050001\n01000000000000000000bf800000\n\
+          050001\n010108\n050001\n050000\n050001\n010000000000000000003f800000\n050001\n050100\n050001\n\
+          01013fc00000000000003f800000\n050001\n050100\n050001\n050001\n04014110000000000000000000003f800000\n\
+          050001\n04010000000000000000000000003f800000\n050001\n050001\n",
+    ),
+    (
+        "a box along a chain, over its joint and back: each piece has its own ages",
+        b"070003404000000000000040000000000000000000000000000000c000000000000000c040000000000000\n\
+          020104bf000000bf0000003f000000bf0000003f0000003f000000bf0000003f000000\n\
+          04013f8000003f000000000000003f800000\n050001\n050001\n04013e8000003f000000000000003f800000\n050001\n\
+          050001\n0401bf8000003f000000000000003f800000\n050001\n0401be8000003f000000000000003f800000\n050001\n\
+          050001\n04013f8000003f000000000000003f800000\n050001\n",
+    ),
+    (
+        "a wall leans on the first face of a box and reaches over its edge: two points of one id are of one age",
+        b"020104bf800000bf8000003f800000bf8000003f8000003f800000bf8000003f800000\n\
+          030000000000000000000000000000c0400000\n04003f800000bf0000003d759cd13f7f8a12\n050001\n\
+          04003f800000bf0000003ca3d43e3f7ff2e5\n050001\n04003f800000bf0000003ca3d43e3f7ff2e5\n050001\n\
+          04003f800000bf0000003d759cd13f7f8a12\n050001\n04003f800000bf0000003ca3d43e3f7ff2e5\n050001\n\
+          04003f800000bf000000000000003f800000\n050001\n04003f800000bf0000003ca3d43e3f7ff2e5\n050001\n",
+    ),
 ];
 
-/// More steps than 16 bits count, and more characters than the program reads at once.
+/// More steps and tests than 16 bits count, and more characters than the program reads at once.
 const MANY: usize = 70_000;
+/// A box on a wall that stands on a corner, is tested, and then lies.
+const COMES_TO_LIE: &[u8] = b"030000c0000000000000004000000000000000\n\
+    020104bf800000bf8000003f800000bf8000003f8000003f800000bf8000003f800000\n0601000000003f9000000064\n\
+    050001\n050001\n050001\n0601000000003f8000000000\n";
 
 /// All of them, with those that are long.
 pub fn fixed() -> Vec<(&'static str, Vec<u8>)> {
@@ -119,6 +161,7 @@ pub fn fixed() -> Vec<(&'static str, Vec<u8>)> {
         ("many line feeds", vec![b'\n'; MANY]),
         ("many steps between two tests: one touch", [&touching[..], &[b'\n'; MANY], b"050001\n\n050001"].concat()),
         ("steps after overlong lines", [overlong(b'0', b"\n\n"), overlong(b'\r', b"\n\n\n")].concat()),
+        ("many tests of a box that came to lie: two ages", [COMES_TO_LIE, &b"050001\n".repeat(MANY)].concat()),
         ("an overlong line without its line feed after a step", [&b"\n"[..], &[b'0'; 400]].concat()),
     ];
     FIXED.iter().map(|(name, text)| (*name, text.to_vec())).chain(long).collect()

@@ -35,7 +35,7 @@ impl Heat<'_> {
     }
 
     /// A new shape under an id. What the program makes of it is not asked: where it is refused, an old shape stays.
-    fn new_shape(&mut self) {
+    pub fn new_shape(&mut self) {
         // one id stays empty for a while
         let id = if self.random.once_in(40) { self.id() } else { self.random.below(IDS as u64 - 1) as usize };
         let body = body(self.random, self.scale);
@@ -95,7 +95,7 @@ impl Heat<'_> {
     }
 
     /// Puts b on a: a place on the one at a place on the other, or off it by a gap.
-    fn meet(&mut self, a: usize, b: usize) {
+    pub fn meet(&mut self, a: usize, b: usize) {
         let (Some(body_a), Some(mut body_b)) = (self.bodies[a].clone(), self.bodies[b].clone()) else { return };
         let random = &mut *self.random;
         let ((on_a, away), (on_b, _)) = (feature(random, &body_a), feature(random, &body_b));
@@ -127,7 +127,7 @@ impl Heat<'_> {
     }
 
     /// Two bodies, mostly in an order that is tested.
-    fn pair(&mut self) -> Option<(usize, usize)> {
+    pub fn pair(&mut self) -> Option<(usize, usize)> {
         for _ in 0..40 {
             let (a, b) = (self.id(), self.id());
             if let (Some(body_a), Some(body_b)) = (&self.bodies[a], &self.bodies[b]) {
@@ -185,7 +185,7 @@ impl Heat<'_> {
 }
 
 /// What a heat does next: how often, whether a calm heat does it too, and what.
-const ACTIONS: [(usize, bool, fn(&mut Heat)); 9] = [
+const ACTIONS: [(usize, bool, fn(&mut Heat)); 11] = [
     (2, true, |heat| heat.new_shape()),
     (6, false, |heat| heat.refused()),
     (4, false, |heat| heat.damaged()),
@@ -193,6 +193,8 @@ const ACTIONS: [(usize, bool, fn(&mut Heat)); 9] = [
     (1, false, |heat| heat.tiny_wall()),
     (17, true, |heat| heat.scene()),
     (1, true, |heat| heat.bounces()),
+    (1, true, |heat| heat.rest()),
+    (1, true, |heat| heat.lean()),
     (3, true, |heat| heat.slide()),
     (2, true, |heat| heat.end_step()),
 ];

@@ -2,7 +2,7 @@
 //! bytes against bytes. Built with `--cfg papers` where the Rust is at hand and `--cfg box2d` where Box2D is.
 //! usage: record heats PROGRAM HEATS LENGTH SEED   compares PROGRAM on HEATS heats of about LENGTH lines, fed in pieces
 //!                                                 and holds the touches to the rulebook, chains to single walls,
-//!                                                 steps to the empty lines
+//!                                                 steps to the empty lines, ages to the points that go on
 //!        record export CASES SEED                 compares the export
 //!        record limits CASES SEED                 searches for what docs/LIMITS.md says does not happen
 //!        record store FOLDER HEATS LENGTH SEED    writes heats and their answers for tests/stored, which both share
@@ -10,6 +10,7 @@
 //!        record exports                           their export on lines ROOM FRAMES: what it returns and writes
 //!        record heat LENGTH SEED                  prints a heat
 #![allow(unknown_lints, unexpected_cfgs)]
+mod ages;
 mod answers;
 mod as_walls;
 mod census;
@@ -47,6 +48,7 @@ use support::{Random, Tally};
 fn compare_heats(program: &str, heats: u64, length: usize, seed: u64) -> bool {
     let (mut tally, mut touches) = (Tally::new("heats"), Tally::new("touches by the rulebook"));
     let (mut walls, mut steps) = (Tally::new("chains beside walls"), Tally::new("steps"));
+    let mut ages = Tally::new("ages");
     let all_fixed = fixed();
     for i in 0..all_fixed.len() as u64 + heats {
         let mut random = Random::new(seed.wrapping_mul(1 << 32).wrapping_add(i));
@@ -73,13 +75,16 @@ fn compare_heats(program: &str, heats: u64, length: usize, seed: u64) -> bool {
                 steps::census(&input, &answered, &mut steps);
             }
         }
+        let printed = answers::answered(&input, &ours);
+        ages::follow(&printed, name, fixed.is_none(), &mut ages);
         steps::follow(program, (&input, &ours), &mut random, name, &mut steps);
         as_walls::compare(program, (&input, &ours), &mut random, name, &mut walls);
     }
     let ruled = touches.report(&rulebook::WANTED.map(String::from));
     let equal = walls.report(&as_walls::wanted());
     let stepped = steps.report(&steps::wanted());
-    tally.report(&census::wanted()) && ruled && equal && stepped
+    let aged = ages.report(&ages::WANTED.map(String::from));
+    tally.report(&census::wanted()) && ruled && equal && stepped && aged
 }
 
 /// The fixed heats and random ones, the last of them a hundred times as long, each with its answers.
