@@ -1,7 +1,7 @@
--- Booleans as tests: two tests that hold of the same are one, a disjunction, the two ways of `cond`, and the two
--- cases of a Boolean; and of two naturals the one is below the other or is not. Assumes nothing.
+-- Booleans as tests: two tests that hold of the same are one, a conjunction, a disjunction, the two ways of `cond`, and
+-- the two cases of a Boolean; and of two naturals the one is below the other or is not. Assumes nothing.
 use mathlib.Core.Path.{_≡_, refl, sym, ap, subst, _∙_}
-use mathlib.Core.Bool.{Bool, true, false, cond, _||_}
+use mathlib.Core.Bool.{Bool, true, false, cond, _&&_, _||_, false≢true}
 use mathlib.Core.Logic.{_⊎_, inl, inr}
 use Prim.Native.Nat.{ℕ, _≤_, _<_}
 use native.Mathlib.Decide.{decLt}
@@ -14,6 +14,11 @@ bool-iff true true f g = refl
 bool-iff false false f g = refl
 bool-iff true false f g = absurd (f tt)
 bool-iff false true f g = absurd (g tt)
+
+pub both : (s t : Bool) → s && t ≡ true → (s ≡ true) × (t ≡ true)
+both true true e = (refl, refl)
+both true false e = absurd (false≢true e)
+both false t e = absurd (false≢true e)
 
 pub or-left : (a b : Bool) → T a → T (a || b)
 or-left true b h = tt

@@ -45,6 +45,7 @@ fn point_in(p: Point) -> B2manifoldPoint {
                 type_b: p.type_b,
             },
         },
+        age: 0,
     }
 }
 

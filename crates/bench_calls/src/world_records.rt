@@ -80,6 +80,7 @@ fn point_of(local_point: B2vec2) -> B2manifoldPoint {
                 type_b: 0,
             },
         },
+        age: 0,
     }
 }
 

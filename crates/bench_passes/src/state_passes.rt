@@ -30,6 +30,7 @@ fn point_of(index_a: u8, index_b: u8, type_a: u8, type_b: u8) -> B2manifoldPoint
                 type_b,
             },
         },
+        age: 0,
     }
 }
 

@@ -8,6 +8,7 @@ use mathlib.Core.Logic.{_⊎_, inl, inr, ⊎-elim}
 use lib.Dec.{eqb}
 use lib.ListN.{length}
 use borrow.Author.Tests.{eqb-true}
+use Rattle.algebra.proofs.Booleans.{both}
 use Rattle.lines.specs.Fields.{byte-at}
 use Rattle.lines.specs.Hex.{frame-of, line-of}
 use Rattle.record_definitions.specs.declared.server.Server.{Server}
@@ -22,7 +23,6 @@ use Rattle.record_definitions.specs.Server.{fresh-server, after-line, Reply, Fr
 use Rattle.record_definitions.specs.Touches.{printed-lines, touches}
 use Rattle.record_definitions.specs.Reading.{joined}
 use Rattle.record_definitions.proofs.Replies.{said-framed}
-use Rattle.record_definitions.proofs.Changes.{both}
 use Rattle.record_definitions.proofs.Theorem.{reached-worlds-sound}
 use Rattle.record_ranges.proofs.Theorem.{reached-worlds-capped}
 use Rattle.chains.specs.ChainAsWalls.{wall-line, MakesPiece, piece-of-answer, piece-alone, piece-reply}

@@ -38,6 +38,7 @@ use Rattle.contact_definitions.specs.WorldManifold.{world-of-face, points-in-ra
 use Rattle.contact_definitions.specs.WorldManifold.{b2-world-manifold-initialize}
 use Rattle.record_definitions.specs.World.{blank-body, circle-body, outline-body, placed, fresh-pair, fresh-world}
 use Rattle.record_definitions.specs.World.{piece-of, forget-below}
+use Rattle.record_definitions.specs.Ages.{age-after, next-age, ages-of, with-ages}
 use Rattle.record_definitions.specs.Touch.{meet-circle, meet-outline, meet, skin, world-points, touches-after}
 use Rattle.record_definitions.specs.Touch.{states-of, touch-of, tested-as, tested, piece-tested, pieces-tested}
 use Rattle.record_definitions.specs.Touch.{first-refusal}
@@ -62,36 +63,36 @@ abbrev unmoved-1 : String
 unmoved-1 = "04010000000000000000000000003f800000"
 
 pub record ExportCases : Type 0 where
-  -- 45 bytes for two points, 33 for one, 13 for none; the byte past the longest answer stays
-  pub two-points : Exports (triangle-0 ∷ unmoved-0 ∷ triangle-1 ∷ unmoved-1 ∷ []) 46 45
-      "050001020100000101000000013f3504f33f3504f3000000003f800000bca3d6fb3e7ffffe3e7ffffebf3a23aa"
-  pub one-point : Exports (triangle-0 ∷ unmoved-0 ∷ triangle-1 ∷ "04013f00000000000000000000003f800000" ∷ []) 45 33
-      "050001010100000100000000013f3504f33f3504f33f2000003dffffffbebf4262"
-  pub no-point : Exports (triangle-0 ∷ unmoved-0 ∷ triangle-1 ∷ "04014110000000000000000000003f800000" ∷ []) 46 13
+  -- 53 bytes for two points, 37 for one, 13 for none; the byte past the longest answer stays
+  pub two-points : Exports (triangle-0 ∷ unmoved-0 ∷ triangle-1 ∷ unmoved-1 ∷ []) 54 53
+      "050001020100000101000000013f3504f33f3504f3000000003f800000bca3d6fb000000003e7ffffe3e7ffffebf3a23aa00000000"
+  pub one-point : Exports (triangle-0 ∷ unmoved-0 ∷ triangle-1 ∷ "04013f00000000000000000000003f800000" ∷ []) 53 37
+      "050001010100000100000000013f3504f33f3504f33f2000003dffffffbebf426200000000"
+  pub no-point : Exports (triangle-0 ∷ unmoved-0 ∷ triangle-1 ∷ "04014110000000000000000000003f800000" ∷ []) 54 13
       "05000100000000000000000000"
-  -- an output of 44 bytes is refused with 9, also for 13, and before 10
+  -- an output of 52 bytes is refused with 9, also for 13, and before 10
   pub output-too-short : Exports (triangle-0 ∷ unmoved-0 ∷ triangle-1 ∷ "04014110000000000000000000003f800000" ∷ [])
-      44 265 ""
-  pub short-before-malformed : Exports [] 44 265 ""
+      52 265 ""
+  pub short-before-malformed : Exports [] 52 265 ""
   -- 10 for no frames, a byte missing or too many, an outline of nine points, another id of an outline or a placement
-  pub nothing-given : Exports [] 46 266 ""
+  pub nothing-given : Exports [] 54 266 ""
   pub nine-points : Exports ("020009" ∷ "000000000000000000000000000000000000000000000000000000000000000000000000" ∷
       "000000000000000000000000000000000000000000000000000000000000000000000000" ∷ unmoved-0 ∷ triangle-1 ∷ unmoved-1 ∷
-      []) 46 266 ""
-  pub byte-missing : Exports (triangle-0 ∷ unmoved-0 ∷ triangle-1 ∷ "04010000000000000000000000003f8000" ∷ []) 46 266 ""
+      []) 54 266 ""
+  pub byte-missing : Exports (triangle-0 ∷ unmoved-0 ∷ triangle-1 ∷ "04010000000000000000000000003f8000" ∷ []) 54 266 ""
   pub byte-too-many : Exports (triangle-0 ∷ unmoved-0 ∷ triangle-1 ∷ "04010000000000000000000000003f80000000" ∷ [])
-      46 266 ""
+      54 266 ""
   pub other-outline : Exports (triangle-0 ∷ unmoved-0 ∷ "02020300000000000000003f80000000000000000000003f800000" ∷
-      unmoved-1 ∷ []) 46 266 ""
-  pub other-placement : Exports (triangle-0 ∷ unmoved-1 ∷ triangle-1 ∷ unmoved-1 ∷ []) 46 266 ""
+      unmoved-1 ∷ []) 54 266 ""
+  pub other-placement : Exports (triangle-0 ∷ unmoved-1 ∷ triangle-1 ∷ unmoved-1 ∷ []) 54 266 ""
   -- the first refusal met is returned: 1 of the first outline though the second too, 6 of a placement before it
   pub first-refusal : Exports ("02000200000000000000003f80000000000000" ∷ unmoved-0 ∷ "020100" ∷ unmoved-1 ∷ [])
-      46 257 ""
+      54 257 ""
   pub placement-refused : Exports (triangle-0 ∷ "040049f4240000000000000000003f800000" ∷
-      "02010200000000000000003f80000000000000" ∷ unmoved-1 ∷ []) 46 262 ""
+      "02010200000000000000003f80000000000000" ∷ unmoved-1 ∷ []) 54 262 ""
   -- but 10 of the whole input comes before any frame runs
   pub malformed-before-refused : Exports ("02000200000000000000003f80000000000000" ∷ unmoved-0 ∷ triangle-1 ∷
-      "04010000000000000000000000003f8000" ∷ []) 46 266 ""
+      "04010000000000000000000000003f8000" ∷ []) 54 266 ""
 
 pub export-cases : ExportCases
 unfolding neg add sub mul div le lt eq ofBits toBits root-digits whole-root root-by-steps sqrt b2-sqrt b2-add b2-sub
@@ -100,14 +101,14 @@ unfolding neg add sub mul div le lt eq ofBits toBits root-digits whole-root root
     contact-point-in-range vector-at rotation-at placement-at unhex circle-in-range farther with-local-point with-count
     with-one-point counted-points same-id id-among ids-of ids-in point-state states-of-ids points-in-range
     manifold-in-range b2-world-manifold-initialize blank-body circle-body placed fresh-pair fresh-world forget-below
-    meet-circle meet skin world-points touches-after states-of touch-of tested-as tested frame-length well-formed
-    frame-refusal circle-change place-change listed test-refusal test-change change-of-kind change head-bytes
-    point-bytes touch-bytes touch-lines change-in changed after-frame said-of-frame too-near welded comes-before start
-    closer next row edges long-enough fan b2-min outline-of-corners outline-of-welded b2-polygon-shape-set
-    polygon-in-range normal-in-range points-at outline-body outline-change meet-outline b2-cross-vec-by-scalar b2-cross
-    b2-mul-t-rot b2-mul-t-rot-by-vec2 b2-mul-t-transform-by-vec2 b2-mul-t-transform face-separation
-    b2-find-max-separation axis-of polygons-axis incident-place incident-end b2-find-incident-edge local-tangent
-    face-middle face-along outline-face within-skins outline-point outline-manifold polygons-manifold
+    meet-circle meet skin world-points touches-after states-of age-after next-age ages-of with-ages touch-of tested-as
+    tested frame-length well-formed frame-refusal circle-change place-change listed test-refusal test-change
+    change-of-kind change head-bytes point-bytes touch-bytes touch-lines change-in changed after-frame said-of-frame
+    too-near welded comes-before start closer next row edges long-enough fan b2-min outline-of-corners outline-of-welded
+    b2-polygon-shape-set polygon-in-range normal-in-range points-at outline-body outline-change meet-outline
+    b2-cross-vec-by-scalar b2-cross b2-mul-t-rot b2-mul-t-rot-by-vec2 b2-mul-t-transform-by-vec2 b2-mul-t-transform
+    face-separation b2-find-max-separation axis-of polygons-axis incident-place incident-end b2-find-incident-edge
+    local-tangent face-middle face-along outline-face within-skins outline-point outline-manifold polygons-manifold
     b2-collide-polygons circle-separation circle-at-corner circle-at-face circle-at-best polygon-circle-manifold
     b2-collide-polygon-and-circle clip-distance crossing clipped-by clipped clip-in-range b2-clip-segment-to-line
     clipped-to-sides only points-from with-points manifold-of-ends some-below least first-greatest first-least

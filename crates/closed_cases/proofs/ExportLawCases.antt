@@ -10,12 +10,12 @@ use lib.Dec.{ltb}
 use lib.ListN.{take, replicate}
 use borrow.Author.Tests.{ltb-true}
 use Rattle.algebra.specs.Lists.{all-of}
+use Rattle.algebra.proofs.Booleans.{both}
 use Rattle.lines.specs.Hex.{unhex, hex, line-of}
 use Rattle.record_definitions.specs.Frame.{frame-length}
 use Rattle.record_definitions.specs.Export.{in-order}
 use Rattle.record_definitions.specs.ExportLaws.{accepted-lines, FirstRefused, program-output}
 use Rattle.record_definitions.proofs.Heats.{Runs, bytes-of}
-use Rattle.record_definitions.proofs.Changes.{both}
 use Rattle.record_definitions.proofs.ExportTheorem.{export-prints}
 use Rattle.closed_cases.proofs.ExportCases.{export-cases}
 
@@ -33,7 +33,7 @@ pub record ExportLawCases : Type 0 where
       ("04000000000000000000000000003f800000", "00") ∷
       ("02010300000000000000003f80000000000000000000003f800000", "00") ∷
       ("04010000000000000000000000003f800000", "00") ∷
-      ("050001", "050001020100000101000000013f3504f33f3504f3000000003f800000bca3d6fb3e7ffffe3e7ffffebf3a23aa") ∷
+      ("050001", "050001020100000101000000013f3504f33f3504f3000000003f800000bca3d6fb000000003e7ffffe3e7ffffebf3a23aa00000000") ∷
       [])
   -- the first placement is out of range, and the second outline has two points: 6 is the first refusal
   pub placement-first : FirstRefused 6 (program-output (bytes-of (
@@ -50,9 +50,9 @@ export-law-cases =
     let two = cases .two-points in
     let six = cases .placement-refused in
     record {
-      two-points = export-prints _ (replicate 46 7) (omega arith) refl (all-bytes _ refl) .written
+      two-points = export-prints _ (replicate 54 7) (omega arith) refl (all-bytes _ refl) .written
           (omega (arith, two .returns))
           ∙ ap (λ (b : List ℕ). accepted-lines 4 ++ line-of b) (ap₂ take (two .returns) (two .leaves));
-      placement-first = export-prints _ (replicate 46 7) (omega arith) refl (all-bytes _ refl) .refused 6
+      placement-first = export-prints _ (replicate 54 7) (omega arith) refl (all-bytes _ refl) .refused 6
           (six .returns);
     }

@@ -39,6 +39,7 @@ use Rattle.contact_definitions.specs.WorldManifold.{world-of-face, points-in-ra
 use Rattle.contact_definitions.specs.WorldManifold.{b2-world-manifold-initialize}
 use Rattle.record_definitions.specs.World.{blank-body, circle-body, outline-body, placed, fresh-pair, fresh-world}
 use Rattle.record_definitions.specs.World.{piece-of, forget-below}
+use Rattle.record_definitions.specs.Ages.{age-after, next-age, ages-of, with-ages}
 use Rattle.record_definitions.specs.Touch.{meet-circle, meet-outline, meet, skin, world-points, touches-after}
 use Rattle.record_definitions.specs.Touch.{states-of, touch-of, tested-as, tested, piece-tested, pieces-tested}
 use Rattle.record_definitions.specs.Touch.{first-refusal}
@@ -58,9 +59,9 @@ pub record OutlineHeats : Type 0 where
       ("04000000000000000000000000003f800000", "00") ∷
       ("020104bf800000bf8000003f800000bf8000003f8000003f800000bf8000003f800000", "00") ∷
       ("04013fc0000000000000000000003f800000", "00") ∷
-      ("050001", "050001020100000101000000013f800000000000003f4000003f800000bf051eb83f400000bf800000bf051eb8") ∷
+      ("050001", "050001020100000101000000013f800000000000003f4000003f800000bf051eb8000000003f400000bf800000bf051eb800000000") ∷
       ("04013fc000003f000000000000003f800000", "00") ∷
-      ("050001", "050001020103020201000000013f800000000000003f400000bf000000bf051eb83f4000003f828f5cbf051eb8") ∷
+      ("050001", "050001020103020201000000013f800000000000003f400000bf000000bf051eb8000000013f4000003f828f5cbf051eb800000000") ∷
       [])
   -- an outline and a circle; the other order is not listed; a refused outline leaves the old one
   pub outline-and-circle : Runs (
@@ -68,10 +69,10 @@ pub record OutlineHeats : Type 0 where
       ("04000000000000000000000000003f800000", "00") ∷
       ("01013f000000be8000003f000000", "00") ∷
       ("04010000000000000000000000003f800000", "00") ∷
-      ("050001", "0500010101000001000000000100000000bf8000003f0000003df5c28fbe851eb8") ∷
+      ("050001", "0500010101000001000000000100000000bf8000003f0000003df5c28fbe851eb800000000") ∷
       ("050100", "ff0d") ∷
       ("02000200000000000000003f80000000000000", "ff01") ∷
-      ("050001", "0500010101020002000000000100000000bf8000003f0000003df5c28fbe851eb8") ∷
+      ("050001", "0500010101020002000000000100000000bf8000003f0000003df5c28fbe851eb800000001") ∷
       [])
   -- the kind that the contact call writes is not printed where clipping leaves no point
   pub clipped-away : Runs (
@@ -90,11 +91,11 @@ pub record OutlineHeats : Type 0 where
       ("06013fc00000000000000200", "00") ∷
       ("050001", "05000100000000000000000000") ∷
       ("06013fc00000000000000600", "00") ∷
-      ("050001", "050001010100000100000000013f800000000000003f657d8700000000be688ea8") ∷
+      ("050001", "050001010100000100000000013f800000000000003f657d8700000000be688ea800000000") ∷
       ("06013fc00000000000000a00", "00") ∷
-      ("050001", "050001010103000100000000013f800000000000003f657d8700000000be688ea8") ∷
+      ("050001", "050001010103000100000000013f800000000000003f657d8700000000be688ea800000000") ∷
       ("06013fc00000000000000e00", "00") ∷
-      ("050001", "050001010103000100000000013f800000000000003f657d8700000000be688ea8") ∷
+      ("050001", "050001010103000100000000013f800000000000003f657d8700000000be688ea800000000") ∷
       [])
   -- refusals 1, 2, 3, 4 and 5 of an outline
   pub outlines-refused : Runs (
@@ -121,19 +122,19 @@ unfolding neg add sub mul div le lt eq ofBits toBits root-digits whole-root root
     circle-in-range farther with-local-point with-count with-one-point counted-points same-id id-among ids-of ids-in
     point-state states-of-ids points-in-range manifold-in-range b2-world-manifold-initialize blank-body circle-body
     placed piece-of fresh-pair fresh-world forget-below meet-circle meet skin world-points touches-after states-of
-    touch-of tested-as tested piece-tested pieces-tested first-refusal frame-length well-formed frame-refusal
-    circle-change place-change turn-change listed test-refusal test-change change-of-kind change head-bytes point-bytes
-    touch-bytes touch-lines change-in changed after-frame said-of-frame lines-from printed-lines touches too-near welded
-    comes-before start closer next row edges long-enough fan b2-min outline-of-corners outline-of-welded
-    b2-polygon-shape-set polygon-in-range normal-in-range points-at outline-body outline-change meet-outline
-    b2-cross-vec-by-scalar b2-cross b2-mul-t-rot b2-mul-t-rot-by-vec2 b2-mul-t-transform-by-vec2 b2-mul-t-transform
-    face-separation b2-find-max-separation axis-of polygons-axis incident-place incident-end b2-find-incident-edge
-    local-tangent face-middle face-along outline-face within-skins outline-point outline-manifold polygons-manifold
-    b2-collide-polygons circle-separation circle-at-corner circle-at-face circle-at-best polygon-circle-manifold
-    b2-collide-polygon-and-circle clip-distance crossing clipped-by clipped clip-in-range b2-clip-segment-to-line
-    clipped-to-sides only points-from with-points manifold-of-ends some-below least first-greatest first-least
-    swapped-id with-kind on-face on-other plane-separation plane-middle carried-points world-of-face
-    contact-number-in-range
+    age-after next-age ages-of with-ages touch-of tested-as tested piece-tested pieces-tested first-refusal frame-length
+    well-formed frame-refusal circle-change place-change turn-change listed test-refusal test-change change-of-kind
+    change head-bytes point-bytes touch-bytes touch-lines change-in changed after-frame said-of-frame lines-from
+    printed-lines touches too-near welded comes-before start closer next row edges long-enough fan b2-min
+    outline-of-corners outline-of-welded b2-polygon-shape-set polygon-in-range normal-in-range points-at outline-body
+    outline-change meet-outline b2-cross-vec-by-scalar b2-cross b2-mul-t-rot b2-mul-t-rot-by-vec2
+    b2-mul-t-transform-by-vec2 b2-mul-t-transform face-separation b2-find-max-separation axis-of polygons-axis
+    incident-place incident-end b2-find-incident-edge local-tangent face-middle face-along outline-face within-skins
+    outline-point outline-manifold polygons-manifold b2-collide-polygons circle-separation circle-at-corner
+    circle-at-face circle-at-best polygon-circle-manifold b2-collide-polygon-and-circle clip-distance crossing
+    clipped-by clipped clip-in-range b2-clip-segment-to-line clipped-to-sides only points-from with-points
+    manifold-of-ends some-below least first-greatest first-least swapped-id with-kind on-face on-other plane-separation
+    plane-middle carried-points world-of-face contact-number-in-range
 outline-heats = record {
   outlines-slide = refl;
   outline-and-circle = refl;

@@ -42,6 +42,7 @@ use Rattle.contact_definitions.specs.EdgeReference.{outline-edge, point-in-fram
 use Rattle.contact_definitions.specs.EdgeReference.{point-as-it-is, placed-face, face-manifold}
 use Rattle.record_definitions.specs.World.{blank-body, circle-body, outline-body, wall-body, placed, fresh-pair}
 use Rattle.record_definitions.specs.World.{fresh-world, piece-of, forget-below}
+use Rattle.record_definitions.specs.Ages.{age-after, next-age, ages-of, with-ages}
 use Rattle.record_definitions.specs.Touch.{meet-circle, meet-outline, meet, skin, world-points, touches-after}
 use Rattle.record_definitions.specs.Touch.{states-of, touch-of, tested-as, tested, piece-tested, pieces-tested}
 use Rattle.record_definitions.specs.Touch.{first-refusal}
@@ -60,7 +61,7 @@ pub record WallHeats : Type 0 where
       ("04000000000000000000000000003f800000", "00") ∷
       ("0101000000003f0000003f800000", "00") ∷
       ("04010000000000000000000000003f800000", "00") ∷
-      ("050001", "05000101010000010000000001800000003f80000000000000be7ae148bf028f5c") ∷
+      ("050001", "05000101010000010000000001800000003f80000000000000be7ae148bf028f5c00000000") ∷
       ("030001c000000000000000bf800000000000003f800000000000004000000000000000", "00") ∷
       ("04000000000000000000000000003f800000", "00") ∷
       ("050001", "05000100000000000000000000") ∷
@@ -72,7 +73,7 @@ pub record WallHeats : Type 0 where
       ("04000000000000000000000000003f800000", "00") ∷
       ("0101000000003f0000003f800000", "00") ∷
       ("04010000000000000000000000003f800000", "00") ∷
-      ("050001", "05000101010000010000000001000000003f80000000000000be7ae148bf028f5c") ∷
+      ("050001", "05000101010000010000000001000000003f80000000000000be7ae148bf028f5c00000000") ∷
       [])
   -- a wall and an outline; the other order, and two walls, are not listed
   pub wall-and-outline : Runs (
@@ -80,7 +81,7 @@ pub record WallHeats : Type 0 where
       ("04000000000000000000000000003f800000", "00") ∷
       ("02010300000000000000003f80000000000000000000003f800000", "00") ∷
       ("04010000000000000000000000003f800000", "00") ∷
-      ("050001", "05000102010000010100000001800000003f8000000000000000000000bca3d70a3f80000000000000bca3d70a") ∷
+      ("050001", "05000102010000010100000001800000003f8000000000000000000000bca3d70a000000003f80000000000000bca3d70a00000000") ∷
       ("050100", "ff0d") ∷
       ("03010000000000000000003f80000000000000", "00") ∷
       ("04010000000000000000000000003f800000", "00") ∷
@@ -107,15 +108,15 @@ pub record WallHeats : Type 0 where
       ("04000000000000000000000000003f800000", "00") ∷
       ("020104bf800000bf8000003f800000bf8000003f8000003f800000bf8000003f800000", "00") ∷
       ("0401000000003fb000003f19999a3f4ccccd", "00") ∷
-      ("050001", "05000101010000010000000001800000003f800000be4cccd0bc4ccd40bd385224") ∷
+      ("050001", "05000101010000010000000001800000003f800000be4cccd0bc4ccd40bd38522400000000") ∷
       ("0401000000003fb00000bf19999a3f4ccccd", "00") ∷
-      ("050001", "05000101010300010000000001800000003f8000003e4cccd0bc4ccd40bd385224") ∷
+      ("050001", "05000101010300010000000001800000003f8000003e4cccd0bc4ccd40bd38522400000000") ∷
       ("0401000000003f800000000000003f800000", "00") ∷
-      ("050001", "05000102010200010200000001800000003f800000bf80000000000000bca3d70a3f80000000000000bca3d70a") ∷
+      ("050001", "05000102010200010200000001800000003f800000bf80000000000000bca3d70a000000003f80000000000000bca3d70a00000001") ∷
       ("04010000000040000000000000003f800000", "00") ∷
       ("050001", "05000100000303000000000001") ∷
       ("0401000000003f800000000000003f800000", "00") ∷
-      ("050001", "05000102010000010100000002800000003f800000bf80000000000000bca3d70a3f80000000000000bca3d70a") ∷
+      ("050001", "05000102010000010100000002800000003f800000bf80000000000000bca3d70a000000003f80000000000000bca3d70a00000000") ∷
       [])
   -- a test that is refused with 8 is no last test: the circle is at the wall's end, then over its middle, and back
   pub refused-between : Runs (
@@ -123,11 +124,11 @@ pub record WallHeats : Type 0 where
       ("04000000000000000000000000003f800000", "00") ∷
       ("01011a400000998000003f800000", "00") ∷
       ("0401000000003f000000000000003f800000", "00") ∷
-      ("050001", "050001010000000100000000011a0000003f80000019c147aebe7ae148bf028f5c") ∷
+      ("050001", "050001010000000100000000011a0000003f80000019c147aebe7ae148bf028f5c00000000") ∷
       ("04010000000000000000000000003f800000", "00") ∷
       ("050001", "ff08") ∷
       ("0401000000003f000000000000003f800000", "00") ∷
-      ("050001", "050001010002000200000000011a0000003f80000019c147aebe7ae148bf028f5c") ∷
+      ("050001", "050001010002000200000000011a0000003f80000019c147aebe7ae148bf028f5c00000001") ∷
       [])
   -- a squared length whose reciprocal is infinite: a point at any distance
   pub far-circle : Runs (
@@ -135,7 +136,7 @@ pub record WallHeats : Type 0 where
       ("04000000000000000000000000003f800000", "00") ∷
       ("01011c000000447a000000000000", "00") ∷
       ("04010000000000000000000000003f800000", "00") ∷
-      ("050001", "05000101010000010000000001800000001c8000001c000000447a000000000000") ∷
+      ("050001", "05000101010000010000000001800000001c8000001c000000447a00000000000000000000") ∷
       [])
 
 pub wall-heats : WallHeats
@@ -145,21 +146,22 @@ unfolding neg add sub mul div le lt eq ofBits toBits root-digits whole-root root
     contact-point-in-range vector-at rotation-at placement-at unhex frame-of hex circle-in-range farther
     with-local-point with-count with-one-point counted-points same-id id-among ids-of ids-in point-state states-of-ids
     points-in-range manifold-in-range b2-world-manifold-initialize blank-body circle-body placed piece-of fresh-pair
-    fresh-world forget-below meet-circle meet skin world-points touches-after states-of touch-of tested-as tested
-    piece-tested pieces-tested first-refusal frame-length well-formed frame-refusal circle-change place-change listed
-    test-refusal test-change change-of-kind change head-bytes point-bytes touch-bytes touch-lines change-in changed
-    after-frame said-of-frame lines-from printed-lines touches too-near welded comes-before start closer next row edges
-    long-enough fan b2-min outline-of-corners outline-of-welded b2-polygon-shape-set polygon-in-range normal-in-range
-    points-at outline-body outline-change meet-outline b2-cross-vec-by-scalar b2-cross b2-mul-t-rot b2-mul-t-rot-by-vec2
-    b2-mul-t-transform-by-vec2 b2-mul-t-transform b2-set-one-sided b2-set-two-sided edge-in-range wall-body wall-at
-    wall-change circle-at-end circle-at-wall over-before over-after edge-circle-answer b2-collide-edge-and-circle
-    edge-polygon-manifold b2-collide-edge-and-polygon placed-corner placed-normal right-of side-axis
-    b2-compute-edge-separation outline-axis b2-compute-polygon-separation clearly-above primary-axis region-before
-    region-after gauss-region smoothed edge-polygon-axis face-between within-radius most-against outline-end
-    outline-edge point-in-frame wall-manifold wall-edge point-as-it-is placed-face face-manifold clip-distance crossing
-    clipped-by clipped clip-in-range b2-clip-segment-to-line clipped-to-sides only points-from with-points
-    manifold-of-ends some-below least first-greatest first-least swapped-id with-kind on-face on-other plane-separation
-    plane-middle carried-points world-of-face contact-number-in-range circles-normal world-of-circles
+    fresh-world forget-below meet-circle meet skin world-points touches-after states-of age-after next-age ages-of
+    with-ages touch-of tested-as tested piece-tested pieces-tested first-refusal frame-length well-formed frame-refusal
+    circle-change place-change listed test-refusal test-change change-of-kind change head-bytes point-bytes touch-bytes
+    touch-lines change-in changed after-frame said-of-frame lines-from printed-lines touches too-near welded
+    comes-before start closer next row edges long-enough fan b2-min outline-of-corners outline-of-welded
+    b2-polygon-shape-set polygon-in-range normal-in-range points-at outline-body outline-change meet-outline
+    b2-cross-vec-by-scalar b2-cross b2-mul-t-rot b2-mul-t-rot-by-vec2 b2-mul-t-transform-by-vec2 b2-mul-t-transform
+    b2-set-one-sided b2-set-two-sided edge-in-range wall-body wall-at wall-change circle-at-end circle-at-wall
+    over-before over-after edge-circle-answer b2-collide-edge-and-circle edge-polygon-manifold
+    b2-collide-edge-and-polygon placed-corner placed-normal right-of side-axis b2-compute-edge-separation outline-axis
+    b2-compute-polygon-separation clearly-above primary-axis region-before region-after gauss-region smoothed
+    edge-polygon-axis face-between within-radius most-against outline-end outline-edge point-in-frame wall-manifold
+    wall-edge point-as-it-is placed-face face-manifold clip-distance crossing clipped-by clipped clip-in-range
+    b2-clip-segment-to-line clipped-to-sides only points-from with-points manifold-of-ends some-below least
+    first-greatest first-least swapped-id with-kind on-face on-other plane-separation plane-middle carried-points
+    world-of-face contact-number-in-range circles-normal world-of-circles
 wall-heats = record {
   wall-and-circle = refl;
   one-sided-wall = refl;

@@ -59,6 +59,7 @@ pub fn made_anew(m: B2manifold, manifold_type: B2manifoldType, point_count: usiz
         normal_impulse: p0.normal_impulse,
         tangent_impulse: p0.tangent_impulse,
         id,
+        age: p0.age,
     };
     B2manifold {
         points: [q0, p1],
@@ -122,6 +123,7 @@ pub fn circle_point(
         normal_impulse: p.normal_impulse,
         tangent_impulse: p.tangent_impulse,
         id,
+        age: p.age,
     };
     B2manifold {
         points: [p0, p1],
@@ -166,6 +168,7 @@ pub fn point_of(old: B2manifoldPoint, local_point: B2vec2, id: B2contactId) -> B
         normal_impulse: old.normal_impulse,
         tangent_impulse: old.tangent_impulse,
         id,
+        age: old.age,
     }
 }
 

@@ -49,13 +49,14 @@ use Rattle.floats.proofs.BitPatterns.{float}
 use Rattle.contact_definitions.proofs.Given.{circle, moved, unmoved}
 use Rattle.contact_definitions.proofs.ClipCases.{end-at}
 
--- a point with a new local point and id; the impulses are those of the old manifold's point at its place
+-- a point with a new local point and id; the impulses and the age are those of the old manifold's point at its place
 abbrev point-in : B2manifold → ℕ → B2vec2 → B2contactId → B2manifoldPoint
 point-in old place v id = record {
   «local_point» = v;
   «normal_impulse» = manifold-point old place .«normal_impulse»;
   «tangent_impulse» = manifold-point old place .«tangent_impulse»;
   id = id;
+  age = manifold-point old place .age;
 }
 
 -- points in the first places, and what lies past them as it was

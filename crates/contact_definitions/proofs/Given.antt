@@ -94,13 +94,15 @@ thick-wall radius v1 v2 = record {
 abbrev pub two-sided : B2vec2 → B2vec2 → B2edgeShape
 two-sided v1 v2 = thick-wall b2-polygon-radius v1 v2
 
--- ---- manifolds: a kind, a count, normal, point, and two points. The impulses are 3, 4 and 11, 12, given and kept
+-- ---- manifolds: a kind, a count, normal, point, and two points. The impulses are 3, 4 and 11, 12, the ages 5 and 13,
+-- given and kept
 abbrev pub first : B2vec2 → B2contactId → B2manifoldPoint
 first v id = record {
   «local_point» = v;
   «normal_impulse» = +3;
   «tangent_impulse» = +4;
   id = id;
+  age = 5;
 }
 
 abbrev pub second : B2vec2 → B2contactId → B2manifoldPoint
@@ -109,6 +111,7 @@ second v id = record {
   «normal_impulse» = +11;
   «tangent_impulse» = +12;
   id = id;
+  age = 13;
 }
 
 abbrev pub after : B2manifoldType → ℕ → B2vec2 → B2vec2 → B2manifoldPoint → B2manifoldPoint → B2manifold

@@ -8,6 +8,7 @@ pub mod CircleCases
 pub mod EdgeCircleCases
 pub mod ClipCases
 pub mod WorldCases
+pub mod Ids
 pub mod StateCases
 pub mod TieCases
 pub mod RefusalCases
@@ -16,6 +17,7 @@ pub mod WorldPoints
 pub mod Counts
 pub mod CircleCounts
 pub mod FaceCounts
-pub mod TwoPlaces
+pub mod Unwritten
+pub mod UnwrittenCalls
 pub mod Theorem
 pub mod WorldRefusals

@@ -1,6 +1,7 @@
--- The headline laws of contacts, of every input that a call does not refuse, for every old manifold: at most two points
--- are counted; where an outline pair or a wall and an outline report a point, the kind is face A or face B; and a clip
--- never leaves three ends. Bodies only cite. Assumes nothing.
+-- The headline laws of contacts, for every old manifold. Of every input that a call does not refuse: at most two points
+-- are counted; where an outline pair or a wall and an outline report a point, the kind is face A or face B. Of every
+-- input: impulses and ages of the points stay; and a clip never leaves three ends. Bodies only cite. Assumes nothing.
+use mathlib.Core.Path.{_≡_, refl}
 use mathlib.Core.List.{List}
 use Prim.Native.Nat.{ℕ, _≤_}
 use lib.ListN.{length}
@@ -28,6 +29,9 @@ use Rattle.contact_definitions.specs.declared.b2_collision.ClipAnswer.{C
 use Rattle.contact_definitions.specs.Clip.{clipped, clip-in-range}
 use Rattle.contact_definitions.proofs.CircleCounts.{circles-few, polygon-circle-few, edge-circle-few}
 use Rattle.contact_definitions.proofs.FaceCounts.{polygons-on-face, edge-polygon-on-face}
+use Rattle.contact_definitions.specs.Unwritten.{AsGiven, CallsLeave}
+use Rattle.contact_definitions.proofs.UnwrittenCalls.{circles-keep, polygon-and-circle-keep, polygons-keep}
+use Rattle.contact_definitions.proofs.UnwrittenCalls.{edge-and-circle-keep, edge-and-polygon-keep}
 
 -- ---- at most two points are counted
 module _ (old : B2manifold) (xfA xfB : B2Transform) where
@@ -50,6 +54,18 @@ module _ (old : B2manifold) (xfA xfB : B2Transform) where
   pub edge-and-polygon-count-and-kind : (edgeA : B2edgeShape) (polyB : B2polygonShape)
       → Accepted OnFace (b2-collide-edge-and-polygon old edgeA xfA polyB xfB)
   edge-and-polygon-count-and-kind edgeA polyB = edge-polygon-on-face old edgeA xfA polyB xfB
+
+-- ---- the impulses and the age of each point stay
+pub calls-leave : (old : B2manifold) → length (old .points) ≡ 2 → (xfA xfB : B2Transform) → CallsLeave old xfA xfB
+calls-leave old two xfA xfB =
+    let given : AsGiven old old = record { two = two; kept = refl } in
+    record {
+      circles = circles-keep old given xfA xfB;
+      polygon-and-circle = polygon-and-circle-keep old given xfA xfB;
+      polygons = polygons-keep old given xfA xfB;
+      edge-and-circle = edge-and-circle-keep old given xfA xfB;
+      edge-and-polygon = edge-and-polygon-keep old given xfA xfB;
+    }
 
 -- ---- a clip never leaves three ends: a refused one counts none
 pub clip-count : (old ends : List B2clipVertex) (normal : B2vec2) (offset : Float) (index : ℕ)

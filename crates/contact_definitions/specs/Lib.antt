@@ -10,3 +10,4 @@ pub mod B2CollidePolygon
 pub mod EdgeAxis
 pub mod EdgeReference
 pub mod B2CollideEdge
+pub mod Unwritten

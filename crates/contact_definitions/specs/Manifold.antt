@@ -1,5 +1,5 @@
 -- Manifolds: ids, kinds, defaults, and which fields a contact call writes. Fields that it does not write keep their
--- bits, impulses too. Definitions only.
+-- bits, impulses and ages (document 02, request 06) too. Definitions only.
 use mathlib.Core.Bool.{Bool, not, cond, _&&_, _||_}
 use mathlib.Core.List.{List, [], _∷_}
 use Prim.Native.Nat.{ℕ, _%_}
@@ -55,6 +55,7 @@ default-point = record {
   «normal_impulse» = zero32;
   «tangent_impulse» = zero32;
   id = default-id;
+  age = 0;
 }
 
 -- the point at a place
@@ -65,13 +66,14 @@ manifold-point m i = getD (m .points) i default-point
 unfoldable pub counted-points : B2manifold → List B2manifoldPoint
 counted-points m = take (m .«point_count») (m .points)
 
--- a new local point and id; the impulses are kept
+-- a new local point and id; the impulses and the age are kept
 unfoldable pub with-local-point : B2manifoldPoint → B2vec2 → B2contactId → B2manifoldPoint
 with-local-point p v id = record {
   «local_point» = v;
   «normal_impulse» = p .«normal_impulse»;
   «tangent_impulse» = p .«tangent_impulse»;
   id = id;
+  age = p .age;
 }
 
 -- ---- manifolds

@@ -19,11 +19,13 @@ pub struct B2contactId {
     pub cf: B2contactFeature,
 }
 
+// The age is document 02's, request 06: at how many tests the point has persisted. No contact call sets it.
 pub struct B2manifoldPoint {
     pub local_point: B2vec2,
     pub normal_impulse: f32,
     pub tangent_impulse: f32,
     pub id: B2contactId,
+    pub age: u32,
 }
 
 pub enum B2manifoldType {

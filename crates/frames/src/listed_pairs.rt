@@ -43,6 +43,7 @@ fn default_manifold() -> B2manifold
         normal_impulse: 0.0,
         tangent_impulse: 0.0,
         id: world::default_id(),
+        age: 0,
     };
     let points = [point; 2];
     B2manifold {

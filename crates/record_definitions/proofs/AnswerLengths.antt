@@ -1,4 +1,4 @@
--- The bytes of an answer: 1, 2, 13, 33 or 45; the characters of its lines; and where a test's answer has its number of
+-- The bytes of an answer: 1, 2, 13, 37 or 53; the characters of its lines; and where a test's answer has its number of
 -- points and its touches. Assumes nothing.
 use Prim.Native.Nat.{ℕ, _*_, _≤_}
 use mathlib.Core.Path.{_≡_, refl}
@@ -25,11 +25,11 @@ length-of true one x y z k l m x-size y-size z-size = x-size
 length-of false true x y z k l m x-size y-size z-size = y-size
 length-of false false x y z k l m x-size y-size z-size = z-size
 
-pub touch-size : (t : Touch) → length (touch-bytes t) ≡ cond (eqb (t .count) 0) 13 (cond (eqb (t .count) 1) 33 45)
+pub touch-size : (t : Touch) → length (touch-bytes t) ≡ cond (eqb (t .count) 0) 13 (cond (eqb (t .count) 1) 37 53)
 unfolding touch-bytes head-bytes point-bytes
-touch-size t = length-of (eqb (t .count) 0) (eqb (t .count) 1) _ _ _ 13 33 45 refl refl refl
+touch-size t = length-of (eqb (t .count) 0) (eqb (t .count) 1) _ _ _ 13 37 53 refl refl refl
 
-size-within : (none one : Bool) → cond none 13 (cond one 33 45) ≤ longest-answer
+size-within : (none one : Bool) → cond none 13 (cond one 37 53) ≤ longest-answer
 size-within true one = omega arith
 size-within false true = omega arith
 size-within false false = omega arith

@@ -29,6 +29,7 @@ use Rattle.contact_definitions.specs.WorldManifold.{world-of-face, points-in-ra
 use Rattle.contact_definitions.specs.WorldManifold.{b2-world-manifold-initialize, circles-normal, world-of-circles}
 use Rattle.record_definitions.specs.World.{blank-body, circle-body, wall-body, placed, fresh-pair}
 use Rattle.record_definitions.specs.World.{fresh-world, chain-body, piece-wall, piece-of, forget-below}
+use Rattle.record_definitions.specs.Ages.{age-after, next-age, ages-of, with-ages}
 use Rattle.record_definitions.specs.Touch.{meet-circle, meet, skin, world-points, touches-after}
 use Rattle.record_definitions.specs.Touch.{states-of, touch-of, tested-as, tested, piece-tested, pieces-tested}
 use Rattle.record_definitions.specs.Touch.{first-refusal}
@@ -79,10 +80,10 @@ pub record ChainCases : Type 0 where
   pub two-pieces : Runs (
       ("070003408000000000000040000000000000000000000000000000c0000000bf800000c0800000c0000000", "00") ∷
       ("01013f8000003f6666663f800000", "00") ∷
-      ("050001", "05000101010000010000000001000000003f8000003f800000bd3851f0bde147b0\n05000100000000000000000000") ∷
+      ("050001", "05000101010000010000000001000000003f8000003f800000bd3851f0bde147b000000000\n05000100000000000000000000") ∷
       ("0401bf9000003d4ccccd000000003f800000", "00") ∷
-      ("050001", "05000101000300010000000001be0595df3f7dcff43b07fc8ebc812fe9bd54387e\n05000101000000010000000001be0595df3f7dcff43b07fc8ebc812fe9bd54387e") ∷
-      ("050001", "05000101000200020000000001be0595df3f7dcff43b07fc8ebc812fe9bd54387e\n05000101000200020000000001be0595df3f7dcff43b07fc8ebc812fe9bd54387e") ∷
+      ("050001", "05000101000300010000000001be0595df3f7dcff43b07fc8ebc812fe9bd54387e00000000\n05000101000000010000000001be0595df3f7dcff43b07fc8ebc812fe9bd54387e00000000") ∷
+      ("050001", "05000101000200020000000001be0595df3f7dcff43b07fc8ebc812fe9bd54387e00000001\n05000101000200020000000001be0595df3f7dcff43b07fc8ebc812fe9bd54387e00000001") ∷
       [])
 
 pub chain-cases : ChainCases
@@ -92,12 +93,12 @@ unfolding neg add sub mul div le lt eq ofBits toBits root-digits whole-root root
     contact-point-in-range vector-at rotation-at placement-at unhex frame-of hex circle-in-range farther
     with-local-point with-count with-one-point counted-points same-id id-among ids-of ids-in point-state states-of-ids
     points-in-range manifold-in-range b2-world-manifold-initialize blank-body circle-body placed fresh-pair fresh-world
-    forget-below meet-circle meet skin world-points touches-after states-of touch-of tested-as tested frame-length
-    well-formed frame-refusal circle-change place-change listed test-refusal test-change change-of-kind change
-    head-bytes point-bytes touch-bytes change-in changed after-frame said-of-frame lines-from printed-lines touches
-    points-at b2-mul-t-rot-by-vec2 b2-mul-t-transform-by-vec2 edge-in-range wall-body right-of circle-at-end
-    circle-at-wall over-before over-after edge-circle-answer b2-collide-edge-and-circle some-below with-kind on-face
-    on-other plane-separation plane-middle carried-points world-of-face contact-number-in-range piece-of piece-tested
-    pieces-tested first-refusal touch-lines chain-at long-piece chain-refusal chain-change chain-body piece-wall
-    circles-normal world-of-circles
+    forget-below meet-circle meet skin world-points touches-after states-of age-after next-age ages-of with-ages
+    touch-of tested-as tested frame-length well-formed frame-refusal circle-change place-change listed test-refusal
+    test-change change-of-kind change head-bytes point-bytes touch-bytes change-in changed after-frame said-of-frame
+    lines-from printed-lines touches points-at b2-mul-t-rot-by-vec2 b2-mul-t-transform-by-vec2 edge-in-range wall-body
+    right-of circle-at-end circle-at-wall over-before over-after edge-circle-answer b2-collide-edge-and-circle
+    some-below with-kind on-face on-other plane-separation plane-middle carried-points world-of-face
+    contact-number-in-range piece-of piece-tested pieces-tested first-refusal touch-lines chain-at long-piece
+    chain-refusal chain-change chain-body piece-wall circles-normal world-of-circles
 chain-cases = record { pieces = refl; chains-refused = refl; two-pieces = refl }

@@ -2,7 +2,7 @@
 -- answers leaves the body, says a result for each piece and keeps for each what its own test leaves. Assumes nothing.
 use Prim.Native.Nat.{ℕ, _≤_}
 use mathlib.Core.Path.{_≡_, refl, sym, _∙_, ap}
-use mathlib.Core.Bool.{Bool, true, false, cond, _&&_, false≢true}
+use mathlib.Core.Bool.{Bool, true, false, cond}
 use mathlib.Core.List.{List}
 use mathlib.Core.Logic.{_⊎_, inl, inr}
 use native.Mathlib.Omega.{arith}
@@ -42,11 +42,6 @@ pub by-choice : {A : Type 0} (P : A → Type 0) (test : Bool) (x y : A) → (tes
     → P (cond test x y)
 by-choice P true x y h k = h refl
 by-choice P false x y h k = k refl
-
-pub both : (s t : Bool) → s && t ≡ true → (s ≡ true) × (t ≡ true)
-both true true e = (refl, refl)
-both true false e = absurd (false≢true e)
-both false t e = absurd (false≢true e)
 
 -- a change that answers with no test's result
 unfoldable pub Untested : Change → Type 0

@@ -23,6 +23,7 @@ use Rattle.contact_definitions.specs.WorldManifold.{circles-normal, world-of-ci
 use Rattle.contact_definitions.specs.WorldManifold.{manifold-in-range, b2-world-manifold-initialize}
 use Rattle.record_definitions.specs.World.{blank-body, circle-body, outline-body, placed, fresh-pair, fresh-world}
 use Rattle.record_definitions.specs.World.{piece-of, forget-below}
+use Rattle.record_definitions.specs.Ages.{age-after, next-age, ages-of, with-ages}
 use Rattle.record_definitions.specs.Touch.{meet-circle, meet, skin, world-points, touches-after, states-of}
 use Rattle.record_definitions.specs.Touch.{touch-of, tested-as, tested, piece-tested, pieces-tested}
 use Rattle.record_definitions.specs.Touch.{first-refusal}
@@ -39,7 +40,7 @@ pub record LineCases : Type 0 where
   pub document-case : Runs (
       ("010000000000000000003f800000", "00") ∷
       ("01013fc00000000000003f800000", "00") ∷
-      ("050001", "050001010000000100000000013f800000000000003f40000000000000bf000000") ∷
+      ("050001", "050001010000000100000000013f800000000000003f40000000000000bf00000000000000") ∷
       [])
   -- 10 of lines: another character, an odd number
   pub malformed-lines : Runs (
@@ -94,7 +95,7 @@ pub record LineCases : Type 0 where
       ("04014a00000000000000000000003f800000", "ff06") ∷
       ("04010000000000000000400000003f800000", "ff06") ∷
       ("040100000000000000000000000040000000", "ff06") ∷
-      ("050001", "050001010000000100000000013f800000000000003f40000000000000bf000000") ∷
+      ("050001", "050001010000000100000000013f800000000000003f40000000000000bf00000000000000") ∷
       [])
   -- a contact that rests is not counted again; one that is gone leaves the state remove once, and is counted when it is
   -- back; b a is another pair than a b
@@ -103,14 +104,14 @@ pub record LineCases : Type 0 where
       ("04000000000000000000000000003f800000", "00") ∷
       ("01013fc00000000000003f800000", "00") ∷
       ("04010000000000000000000000003f800000", "00") ∷
-      ("050001", "050001010000000100000000013f800000000000003f40000000000000bf000000") ∷
-      ("050001", "050001010002000200000000013f800000000000003f40000000000000bf000000") ∷
+      ("050001", "050001010000000100000000013f800000000000003f40000000000000bf00000000000000") ∷
+      ("050001", "050001010002000200000000013f800000000000003f40000000000000bf00000000000001") ∷
       ("04014040000000000000000000003f800000", "00") ∷
       ("050001", "05000100000300000000000001") ∷
       ("050001", "05000100000000000000000001") ∷
       ("04010000000000000000000000003f800000", "00") ∷
-      ("050001", "050001010000000100000000023f800000000000003f40000000000000bf000000") ∷
-      ("050100", "05010001000000010000000001bf800000000000003f40000000000000bf000000") ∷
+      ("050001", "050001010000000100000000023f800000000000003f40000000000000bf00000000000000") ∷
+      ("050100", "05010001000000010000000001bf800000000000003f40000000000000bf00000000000000") ∷
       [])
   -- a refused shape forgets nothing; a new one forgets its pairs in both orders, and no others
   pub shapes-forget : Runs (
@@ -120,17 +121,17 @@ pub record LineCases : Type 0 where
       ("04010000000000000000000000003f800000", "00") ∷
       ("0102000000003f8000003f800000", "00") ∷
       ("04020000000000000000000000003f800000", "00") ∷
-      ("050001", "050001010000000100000000013f800000000000003f40000000000000bf000000") ∷
-      ("050100", "05010001000000010000000001bf800000000000003f40000000000000bf000000") ∷
-      ("050002", "05000201000000010000000001000000003f800000000000003f000000bf800000") ∷
+      ("050001", "050001010000000100000000013f800000000000003f40000000000000bf00000000000000") ∷
+      ("050100", "05010001000000010000000001bf800000000000003f40000000000000bf00000000000000") ∷
+      ("050002", "05000201000000010000000001000000003f800000000000003f000000bf80000000000000") ∷
       ("01010000000000000000bf800000", "ff02") ∷
-      ("050001", "050001010002000200000000013f800000000000003f40000000000000bf000000") ∷
+      ("050001", "050001010002000200000000013f800000000000003f40000000000000bf00000000000001") ∷
       ("04014110000000000000000000003f800000", "00") ∷
       ("01013fc00000000000003f800000", "00") ∷
       ("04010000000000000000000000003f800000", "00") ∷
-      ("050001", "050001010000000100000000013f800000000000003f40000000000000bf000000") ∷
-      ("050100", "05010001000000010000000001bf800000000000003f40000000000000bf000000") ∷
-      ("050002", "05000201000200020000000001000000003f800000000000003f000000bf800000") ∷
+      ("050001", "050001010000000100000000013f800000000000003f40000000000000bf00000000000000") ∷
+      ("050100", "05010001000000010000000001bf800000000000003f40000000000000bf00000000000000") ∷
+      ("050002", "05000201000200020000000001000000003f800000000000003f000000bf80000000000001") ∷
       [])
   -- a new shape stands at the origin, unturned, wherever the old one was
   pub new-shape-at-origin : Runs (
@@ -139,7 +140,7 @@ pub record LineCases : Type 0 where
       ("01013fc00000000000003f800000", "00") ∷
       ("040141100000000000003f80000000000000", "00") ∷
       ("01013fc00000000000003f800000", "00") ∷
-      ("050001", "050001010000000100000000013f800000000000003f40000000000000bf000000") ∷
+      ("050001", "050001010000000100000000013f800000000000003f40000000000000bf00000000000000") ∷
       [])
   -- nothing is printed of nothing, and an empty line is a line: it ends a step
   pub no-input : touches [] ≡ []
@@ -156,14 +157,14 @@ pub record LineCases : Type 0 where
 pub line-cases : LineCases
 unfolding neg add sub mul div le lt eq ofBits toBits root-digits whole-root root-by-steps sqrt b2-sqrt b2-add b2-sub
     b2-neg b2-scale b2-dot b2-length-squared b2-length b2-distance-vec2-squared b2-normalize b2-mul-rot-by-vec2
-    b2-mul-transform-by-vec2 point-in-range radius-in-range rotation-in-range transform-in-range
-    local-normal-in-range contact-point-in-range vector-at rotation-at placement-at unhex frame-of hex
-    circle-in-range farther with-local-point with-count with-one-point counted-points same-id id-among ids-of ids-in
-    point-state states-of-ids points-in-range manifold-in-range b2-world-manifold-initialize blank-body circle-body
-    placed fresh-pair fresh-world forget-below meet-circle meet skin world-points touches-after states-of touch-of
-    tested-as tested frame-length well-formed frame-refusal circle-change place-change listed test-refusal test-change
-    change-of-kind change head-bytes point-bytes touch-bytes change-in changed after-frame said-of-frame lines-from
-    printed-lines touches circles-manifold b2-collide-circles circles-normal world-of-circles outline-change
+    b2-mul-transform-by-vec2 point-in-range radius-in-range rotation-in-range transform-in-range local-normal-in-range
+    contact-point-in-range vector-at rotation-at placement-at unhex frame-of hex circle-in-range farther
+    with-local-point with-count with-one-point counted-points same-id id-among ids-of ids-in point-state states-of-ids
+    points-in-range manifold-in-range b2-world-manifold-initialize blank-body circle-body placed fresh-pair fresh-world
+    forget-below meet-circle meet skin world-points touches-after states-of age-after next-age ages-of with-ages
+    touch-of tested-as tested frame-length well-formed frame-refusal circle-change place-change listed test-refusal
+    test-change change-of-kind change head-bytes point-bytes touch-bytes change-in changed after-frame said-of-frame
+    lines-from printed-lines touches circles-manifold b2-collide-circles circles-normal world-of-circles outline-change
     outline-body b2-polygon-shape-set outline-of-welded points-at too-near welded piece-of piece-tested pieces-tested
     first-refusal touch-lines
 line-cases = record {

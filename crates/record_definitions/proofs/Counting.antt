@@ -1,5 +1,5 @@
--- What a test that answers prints and keeps: the states and ids of its contact, the count of touches, and the number of
--- points, which is at most two. Assumes nothing.
+-- What a test that answers prints and keeps: the states, ids and ages of its contact, the count of touches, and the
+-- number of points, which is at most two. Assumes nothing.
 use Prim.Native.Nat.{ℕ, _≤_}
 use mathlib.Core.Path.{_≡_, refl}
 use mathlib.Core.Bool.{Bool, true, false}
@@ -19,6 +19,7 @@ use Rattle.record_definitions.specs.declared.world.Kept.{Kept}
 use Rattle.record_definitions.specs.World.{circle-kind, outline-kind}
 use Rattle.record_definitions.specs.Touch.{meet-circle, meet-outline, meet, world-points, refusal-of}
 use Rattle.record_definitions.specs.Touch.{touches-after, states-of, touch-of, tested-as, tested}
+use Rattle.record_definitions.specs.Ages.{ages-of, with-ages}
 
 -- ---- at most two points
 on-face-few : (answer : ManifoldAnswer) → Accepted OnFace answer → Accepted Few answer
@@ -71,15 +72,24 @@ module _ (a b : Body) where
     pub count-printed : tested ida idb a b kept .refusal ≡ accepted
         → (tested ida idb a b kept .touch .count ≡ meet a b .manifold .«point_count»)
         × (meet a b .manifold .«point_count» ≤ 2)
-    unfolding tested tested-as touch-of
+    unfolding tested tested-as touch-of with-ages
     count-printed none =
         let few = met-few (contact-taken none) .at-most-two in
         (omega (arith, few), few)
+
+    pub ages-printed : (tested ida idb a b kept .touch .first .age ≡ ages-of kept (meet a b .manifold) .first)
+        × (tested ida idb a b kept .touch .second .age ≡ ages-of kept (meet a b .manifold) .second)
+    unfolding tested tested-as touch-of with-ages
+    ages-printed = (refl, refl)
 
     -- ---- what is kept
     pub ids-kept : tested ida idb a b kept .kept .ids ≡ ids-of (meet a b .manifold)
     unfolding tested tested-as
     ids-kept = refl
+
+    pub ages-kept : tested ida idb a b kept .kept .ages ≡ ages-of kept (meet a b .manifold)
+    unfolding tested tested-as
+    ages-kept = refl
 
     pub touches-kept : tested ida idb a b kept .kept .touches ≡ tested ida idb a b kept .touch .touches
     unfolding tested tested-as touch-of

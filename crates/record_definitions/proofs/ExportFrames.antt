@@ -10,6 +10,7 @@ use lib.Dec.{eqb}
 use lib.ListN.{length, take, drop, length-take, length-drop}
 use lib.Seq.{getD-take, getD-drop}
 use borrow.Author.Tests.{eq-eqb, ne-eqb, eqb-true}
+use Rattle.algebra.proofs.Booleans.{both}
 use Rattle.lines.specs.Fields.{byte-at}
 use Rattle.lines.specs.Hex.{largest-frame}
 use Rattle.record_definitions.specs.Frame.{frame-length, well-formed}
@@ -17,7 +18,6 @@ use Rattle.record_definitions.specs.Export.{test-frame, FourFrames, firs
 use Rattle.record_definitions.specs.Export.{second-placement, begin-all, in-order, between}
 use Rattle.record_definitions.specs.ExportLaws.{export-frames}
 use Rattle.record_definitions.proofs.Exported.{length-at-most, four-frames, first-size, second-size}
-use Rattle.record_definitions.proofs.Changes.{both}
 use Rattle.record_definitions.proofs.ExportLines.{Sendable, AllSendable, in-front, in-rest}
 
 -- ---- a part of the input

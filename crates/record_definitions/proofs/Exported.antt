@@ -10,6 +10,7 @@ use lib.Dec.{eqb, leb}
 use lib.ListN.{length, take, drop}
 use lib.Seq.{getD-take, getD-drop}
 use borrow.Author.Tests.{eq-eqb, ne-eqb, lt-ltb, le-ltb, eqb-true, eqb-false, leb-true, not-true}
+use Rattle.algebra.proofs.Booleans.{both}
 use Rattle.lines.specs.Buffers.{Put}
 use Rattle.lines.specs.Fields.{byte-at}
 use Rattle.lines.specs.Hex.{largest-frame}
@@ -22,7 +23,6 @@ use Rattle.record_definitions.specs.Answer.{said-alone, said-bytes, long
 use Rattle.record_definitions.specs.Export.{refusal-in, last-said, test-frame, FourFrames, first-placement}
 use Rattle.record_definitions.specs.Export.{second-outline, second-placement, begins, begin-all, in-order}
 use Rattle.record_definitions.specs.Export.{export-said, refusal-base, export-number, export-output}
-use Rattle.record_definitions.proofs.Changes.{both}
 
 -- ---- the length of an outline's frame: none, or 3 to 67
 Size : ℕ → Type 0

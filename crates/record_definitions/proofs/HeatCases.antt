@@ -29,6 +29,7 @@ use Rattle.record_definitions.specs.declared.world.World.{World}
 use Rattle.record_definitions.specs.declared.touch.Touch.{Touch}
 use Rattle.record_definitions.specs.World.{blank-body, circle-body, placed, fresh-pair, fresh-world}
 use Rattle.record_definitions.specs.World.{forget-below, piece-of}
+use Rattle.record_definitions.specs.Ages.{age-after, next-age, ages-of, with-ages}
 use Rattle.record_definitions.specs.Touch.{meet-circle, meet, skin, world-points, touches-after, states-of}
 use Rattle.record_definitions.specs.Touch.{touch-of, tested-as, tested, piece-tested, pieces-tested}
 use Rattle.record_definitions.specs.Touch.{first-refusal}
@@ -39,6 +40,7 @@ use Rattle.record_definitions.specs.OneFrame.{change-in, changed, after-
 use Rattle.record_definitions.specs.Server.{reached}
 use Rattle.record_definitions.specs.Heat.{contact-in, contacts-after, contacts-of, touches-begun}
 use Rattle.record_definitions.specs.Heat.{NextTest}
+use Rattle.record_definitions.specs.AgeLaws.{tests-in-a-row}
 use Rattle.record_definitions.specs.Export.{test-frame}
 use Rattle.record_definitions.proofs.HeatLaw.{heat-law}
 
@@ -88,6 +90,9 @@ pub record HeatCases : Type 0 where
   pub count-stays : printed 5 .touches ≡ 1
   -- and of the one after the two were apart: a touch begins
   pub touch-again : printed 10 .touches ≡ 2
+  -- the age of its point: new, resting, again new after it was gone, and after a new shape
+  pub ages : map (λ (n : ℕ). printed n .first .age) (4 ∷ 5 ∷ 10 ∷ 14 ∷ []) ≡ 0 ∷ 1 ∷ 0 ∷ 0 ∷ []
+  pub age-grows : printed 5 .first .age ≡ 1
 
 pub heat-cases : HeatCases
 unfolding neg add sub mul div le lt eq ofBits toBits root-digits whole-root root-by-steps sqrt b2-sqrt b2-add b2-sub
@@ -97,10 +102,10 @@ unfolding neg add sub mul div le lt eq ofBits toBits root-digits whole-root root
     circle-in-range farther with-local-point with-count with-one-point counted-points same-id id-among counted-ids
     ids-of ids-in point-state states-of-ids points-in-range manifold-in-range b2-world-manifold-initialize blank-body
     circle-body placed piece-of fresh-pair fresh-world forget-below meet-circle meet skin world-points touches-after
-    states-of touch-of tested-as tested piece-tested pieces-tested first-refusal frame-length well-formed frame-refusal
-    circle-change place-change turn-change listed test-refusal test-change change-of-kind change change-in changed
-    after-frame said-of-frame circles-manifold b2-collide-circles circles-normal world-of-circles contacts-after
-    touches-begun
+    states-of age-after next-age ages-of with-ages touch-of tested-as tested piece-tested pieces-tested first-refusal
+    frame-length well-formed frame-refusal circle-change place-change turn-change listed test-refusal test-change
+    change-of-kind change change-in changed after-frame said-of-frame circles-manifold b2-collide-circles circles-normal
+    world-of-circles contacts-after touches-begun tests-in-a-row
 heat-cases =
     let law = heat-law 0 1 0 (omega arith) (omega arith) (lines 5) in
     let next = law .next-test (text "050001") _ _ refl refl refl refl (omega arith) in
@@ -113,4 +118,6 @@ heat-cases =
       point-rests = next .first-rests (omega arith) refl;
       count-stays = next .rulebook .goes-on (omega arith);
       touch-again = later .rulebook .begins refl (omega arith);
+      ages = refl;
+      age-grows = next .first-age .in-a-row;
     }

@@ -4,11 +4,8 @@
 use Prim.Native.Nat.{ℕ, _≤_, _<_}
 use mathlib.Core.Path.{_≡_, refl, sym, _∙_, ap}
 use mathlib.Core.List.{List, [], _∷_}
-use native.Mathlib.Omega.{arith}
 use Rattle.lines.specs.Hex.{frame-of}
 use Rattle.contact_definitions.specs.declared.b2_collision.B2manifold.{B2manifold}
-use Rattle.contact_definitions.specs.PointStates.{ids-of}
-use Rattle.record_definitions.specs.declared.world.Kept.{Kept}
 use Rattle.record_definitions.specs.declared.world.Pair.{Pair}
 use Rattle.record_definitions.specs.declared.server.Server.{Server}
 use Rattle.record_definitions.specs.declared.touch.Touch.{Touch}
@@ -20,7 +17,7 @@ use Rattle.record_definitions.specs.Answer.{result-of}
 use Rattle.record_definitions.specs.Frame.{largest-id}
 use Rattle.record_definitions.specs.OneFrame.{said-of-frame}
 use Rattle.record_definitions.specs.Server.{fresh-server, after-line, Framed, reply-to, after-lines, reached}
-use Rattle.record_definitions.specs.Heat.{with-line, contacts-after, contacts-of, contact-in, touches-begun}
+use Rattle.record_definitions.specs.Heat.{with-line, contacts-after, contacts-of, contact-in}
 use Rattle.record_definitions.specs.Heat.{NextTest}
 use Rattle.record_definitions.specs.Heat.{HeatLaw}
 use Rattle.record_definitions.proofs.Replies.{said-framed}
@@ -28,7 +25,7 @@ use Rattle.record_definitions.proofs.FreshPairs.{get-same}
 use Rattle.record_definitions.proofs.SoundKept.{fresh-sound}
 use Rattle.record_definitions.proofs.TestTheorem.{ids-printed}
 use Rattle.record_definitions.proofs.Sound.{kept-of-fresh}
-use Rattle.record_definitions.proofs.HeatTests.{Remembers, test-printed}
+use Rattle.record_definitions.proofs.HeatTests.{Remembers, nothing-remembered, test-printed}
 use Rattle.record_definitions.proofs.HeatSteps.{frame-remembered}
 
 module _ (a b i : ℕ) (a-small : a ≤ largest-id) (b-small : b ≤ largest-id) where
@@ -50,13 +47,7 @@ module _ (a b i : ℕ) (a-small : a ≤ largest-id) (b-small : b ≤ largest-id)
   fresh-at = ap (λ (pair : Pair). kept-of pair i) (get-same fresh-pair 64 (pair-place a b)) ∙ kept-of-fresh i
 
   pub fresh-remembered : Remembers a b i fresh-world []
-  unfolding ids-of touches-begun
-  fresh-remembered = record {
-    sound = fresh-sound;
-    whole = record { two = refl; few = omega arith };
-    ids = ap (λ (kept : Kept). kept .ids) fresh-at;
-    touches = ap (λ (kept : Kept). kept .touches) fresh-at;
-  }
+  fresh-remembered = nothing-remembered a b i fresh-world fresh-sound fresh-at
 
   -- a test that answers, whatever line it is
   next-printed : (s : Server) (contacts : List B2manifold) → Remembers a b i (s .world) contacts → (line : List ℕ)
@@ -77,5 +68,6 @@ module _ (a b i : ℕ) (a-small : a ≤ largest-id) (b-small : b ≤ largest-id)
       record {
         remembered = heat .ids;
         counted = heat .touches;
+        aged = heat .ages;
         next-test = next-printed (reached lines) (contacts-of a b i lines) heat;
       }

@@ -10,11 +10,10 @@ use native.Mathlib.Omega.{arith}
 use lib.Dec.{eqb}
 use lib.ListN.{getD}
 use borrow.Author.Tests.{eqb-true, eqb-false, eq-eqb, ltb-true, ltb-false}
-use Rattle.algebra.proofs.Booleans.{by-test, or-holds, or-fails}
+use Rattle.algebra.proofs.Booleans.{both, by-test, or-holds, or-fails}
 use Rattle.lines.specs.Fields.{byte-at}
 use Rattle.shape_definitions.specs.Refusal.{accepted}
 use Rattle.contact_definitions.specs.declared.b2_collision.B2manifold.{B2manifold}
-use Rattle.contact_definitions.specs.PointStates.{ids-of}
 use Rattle.contact_definitions.proofs.Counts.{either}
 use Rattle.record_definitions.specs.declared.world.Body.{Body}
 use Rattle.record_definitions.specs.declared.world.Kept.{Kept}
@@ -24,17 +23,17 @@ use Rattle.record_definitions.specs.declared.touch.Touch.{Touch}
 use Rattle.record_definitions.specs.declared.frame.Answer.{Answer}
 use Rattle.record_definitions.specs.declared.frame.Answer.the-variants.{Accepted, Refused, Tested}
 use Rattle.record_definitions.specs.declared.frame.Change.{Change}
-use Rattle.record_definitions.specs.World.{fresh-kept, fresh-pair, body-at, pair-at, pair-place, pieces-of}
+use Rattle.record_definitions.specs.World.{fresh-pair, body-at, pair-at, pair-place, pieces-of}
 use Rattle.record_definitions.specs.World.{kept-of}
+use Rattle.record_definitions.specs.Ages.{next-age}
 use Rattle.record_definitions.specs.Touch.{piece-tested, first-refusal}
 use Rattle.record_definitions.specs.Frame.{largest-id, test-refusal, all-tests, test-change, change-of-kind}
 use Rattle.record_definitions.specs.OneFrame.{first-place, second-place, change-in, after-frame, said-of-frame}
 use Rattle.record_definitions.specs.Export.{answer-refusal}
 use Rattle.record_definitions.specs.Heat.{defines-shape, with-answer, piece-there, contact-in}
-use Rattle.record_definitions.specs.Heat.{touches-begun}
-use Rattle.record_definitions.proofs.HeatTests.{Remembers, test-remembered}
+use Rattle.record_definitions.proofs.HeatTests.{Remembers, nothing-remembered, test-remembered}
 use Rattle.record_definitions.proofs.Refusing.{after-refused}
-use Rattle.record_definitions.proofs.Changes.{NewShape, Placing, by-choice, is-of-kind, both}
+use Rattle.record_definitions.proofs.Changes.{NewShape, Placing, by-choice, is-of-kind}
 use Rattle.record_definitions.proofs.SoundKept.{frame-keeps-sound}
 use Rattle.record_definitions.proofs.Theorem.{new-shape-forgets, new-shape-keeps-others, placing-changes-no-pair}
 use Rattle.record_definitions.proofs.TestTheorem.{test-changes-no-other-pair, ids-printed, other-pieces-kept}
@@ -126,6 +125,7 @@ module _ (a b i : ℕ) (a-small : a ≤ largest-id) (b-small : b ≤ largest-id)
     whole = before .whole;
     ids = ap (λ (kept : Kept). kept .ids) same ∙ before .ids;
     touches = ap (λ (kept : Kept). kept .touches) same ∙ before .touches;
+    ages = λ id. ap (λ (kept : Kept). next-age kept id) same ∙ before .ages id;
   }
 
   unchanged : pair-at (after-frame w frame) a b ≡ pair-at w a b → After contacts
@@ -133,16 +133,9 @@ module _ (a b i : ℕ) (a-small : a ≤ largest-id) (b-small : b ≤ largest-id)
 
   -- a new shape of either id
   forgotten : pair-at (after-frame w frame) a b ≡ fresh-pair → After []
-  unfolding ids-of touches-begun
   forgotten fresh =
-      let kept-is : kept-of (pair-at (after-frame w frame) a b) i ≡ fresh-kept =
-      ap (λ (pair : Pair). kept-of pair i) fresh ∙ kept-of-fresh i in
-      record {
-        sound = frame-keeps-sound w frame (before .sound);
-        whole = record { two = refl; few = omega arith };
-        ids = ap (λ (kept : Kept). kept .ids) kept-is;
-        touches = ap (λ (kept : Kept). kept .touches) kept-is;
-      }
+      nothing-remembered a b i (after-frame w frame) (frame-keeps-sound w frame (before .sound))
+      (ap (λ (pair : Pair). kept-of pair i) fresh ∙ kept-of-fresh i)
 
   module _ (taken : said-of-frame w frame .answer ≡ Accepted) where
     either-id : NewShape (byte-at frame 0) → (eqb (byte-at frame 1) a ≡ true) ⊎ (eqb (byte-at frame 1) b ≡ true)

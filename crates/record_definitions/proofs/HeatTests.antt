@@ -1,10 +1,11 @@
 -- A test of a pair that answers, of a piece of the first body, after tests that met some contacts (`Remembers`): its
--- states and its count are those of these contacts and its own, by the rulebook, and the pair then remembers its own.
+-- states, its ages and its count are those of these contacts and its own, and the pair then remembers its own.
 -- Assumes nothing.
 use Prim.Native.Nat.{ℕ, _≤_, _<_}
 use mathlib.Core.Path.{_≡_, refl, sym, _∙_, ap, ap₂, subst}
 use mathlib.Core.Bool.{true}
-use mathlib.Core.List.{List, _∷_}
+use mathlib.Core.List.{List, [], _∷_}
+use native.Mathlib.Omega.{arith}
 use lib.ListN.{length}
 use Rattle.lines.specs.Fields.{byte-at}
 use Rattle.shape_definitions.specs.Refusal.{accepted}
@@ -20,11 +21,13 @@ use Rattle.record_definitions.specs.declared.world.Kept.{Kept}
 use Rattle.record_definitions.specs.declared.world.World.{World}
 use Rattle.record_definitions.specs.declared.touch.Touch.{Touch}
 use Rattle.record_definitions.specs.declared.frame.Answer.the-variants.{Tested}
-use Rattle.record_definitions.specs.World.{pieces-of, piece-of, kept-of, body-at, pair-at}
+use Rattle.record_definitions.specs.World.{fresh-kept, pieces-of, piece-of, kept-of, body-at, pair-at}
+use Rattle.record_definitions.specs.Ages.{age-after, next-age, ages-of}
 use Rattle.record_definitions.specs.Touch.{touches-after, states-of, tested, piece-tested}
 use Rattle.record_definitions.specs.Answer.{result-of}
 use Rattle.record_definitions.specs.OneFrame.{change-in, after-frame, said-of-frame}
 use Rattle.record_definitions.specs.Rulebook.{Rulebook}
+use Rattle.record_definitions.specs.AgeLaws.{tests-in-a-row, age-by}
 use Rattle.record_definitions.specs.Heat.{contact-in, last-contact, touches-begun, touches-of, NextTest}
 use Rattle.record_definitions.proofs.Changes.{WasTested}
 use Rattle.record_definitions.proofs.Pairs.{test-seen}
@@ -32,7 +35,8 @@ use Rattle.record_definitions.proofs.PieceTests.{each-accepted}
 use Rattle.record_definitions.proofs.States.{count-of, ids-of-points, states-are-box2ds, first-state}
 use Rattle.record_definitions.proofs.States.{second-state}
 use Rattle.record_definitions.proofs.Counting.{states-printed, touches-printed, contact-taken, met-few}
-use Rattle.record_definitions.proofs.Counting.{ids-kept, touches-kept}
+use Rattle.record_definitions.proofs.Counting.{ids-kept, touches-kept, ages-printed, ages-kept}
+use Rattle.record_definitions.proofs.Pressed.{pressed, row-goes-on}
 use Rattle.record_definitions.proofs.Rulebook.{counted-by-rulebook, held-begun}
 use Rattle.record_definitions.proofs.MetPlaces.{met-two}
 use Rattle.record_definitions.proofs.Sound.{Sound}
@@ -49,6 +53,19 @@ pub record Remembers (a b i : ℕ) (w : World) (contacts : List B2manifold) : Ty
   pub whole : Whole (last-contact contacts)
   pub ids : kept-of (pair-at w a b) i .ids ≡ ids-of (last-contact contacts)
   pub touches : kept-of (pair-at w a b) i .touches ≡ touches-of contacts
+  pub ages : (id : B2contactId) → next-age (kept-of (pair-at w a b) i) id ≡ age-by id contacts
+
+-- a fresh pair remembers none
+pub nothing-remembered : (a b i : ℕ) (w : World) → Sound w → kept-of (pair-at w a b) i ≡ fresh-kept
+    → Remembers a b i w []
+unfolding ids-of touches-begun next-age ids-in age-after tests-in-a-row
+nothing-remembered a b i w sound fresh = record {
+  sound = sound;
+  whole = record { two = refl; few = omega arith };
+  ids = ap (λ (kept : Kept). kept .ids) fresh;
+  touches = ap (λ (kept : Kept). kept .touches) fresh;
+  ages = λ id. ap (λ (kept : Kept). next-age kept id) fresh;
+}
 
 -- ---- the test, of a piece that the first body has
 module _ (a b i : ℕ) (w : World) (contacts : List B2manifold) (before : Remembers a b i w contacts) (frame : List ℕ)
@@ -82,7 +99,7 @@ module _ (a b i : ℕ) (w : World) (contacts : List B2manifold) (before : Rememb
   whole =
       let contact = contact-taken piece (body-at w b) a b kept taken in
       record {
-        two = met-two piece (body-at w b) contact .two;
+        two = met-two piece (body-at w b);
         few = met-few piece (body-at w b) contact .at-most-two;
       }
 
@@ -121,6 +138,9 @@ module _ (a b i : ℕ) (w : World) (contacts : List B2manifold) (before : Rememb
     ids = ap (λ (k : Kept). k .ids) kept-after ∙ ids-kept piece (body-at w b) a b kept;
     touches = ap (λ (k : Kept). k .touches) kept-after ∙ touches-kept piece (body-at w b) a b kept
         ∙ ap (λ (s : Touch). s .touches) (sym shown) ∙ touches-are;
+    ages = λ id. ap (λ (k : Kept). next-age k id) kept-after
+        ∙ row-goes-on kept (tested a b piece (body-at w b) kept .kept) contacts (before .ages) met
+        (ids-kept piece (body-at w b) a b kept) (ages-kept piece (body-at w b) a b kept) (ids-counted met whole) id;
   }
 
   -- a point's state, from its id
@@ -144,6 +164,19 @@ module _ (a b i : ℕ) (w : World) (contacts : List B2manifold) (before : Rememb
       ap (λ (s : PointStates). s .new1) from-ids
       ∙ second-state old (ids-of met) (met .«point_count») (count-of met (whole .few)) some ∙ rw rests refl
 
+  -- a point's age, from its id
+  first-aged : result .first .age ≡ age-by (manifold-point met 0 .id) contacts
+  unfolding ages-of
+  first-aged =
+      ap (λ (s : Touch). s .first .age) shown ∙ ages-printed piece (body-at w b) a b kept .0
+      ∙ before .ages (manifold-point met 0 .id)
+
+  second-aged : result .second .age ≡ age-by (manifold-point met 1 .id) contacts
+  unfolding ages-of
+  second-aged =
+      ap (λ (s : Touch). s .second .age) shown ∙ ages-printed piece (body-at w b) a b kept .1
+      ∙ before .ages (manifold-point met 1 .id)
+
   -- and prints it
   pub test-printed : NextTest contacts met result
   test-printed = record {
@@ -157,4 +190,6 @@ module _ (a b i : ℕ) (w : World) (contacts : List B2manifold) (before : Rememb
     count = touches-are;
     rulebook = subst (Rulebook (last-contact contacts .«point_count») (met .«point_count») (touches-of contacts))
         (sym counted) (counted-by-rulebook (touches-of contacts) _ _);
+    first-age = pressed (manifold-point met 0 .id) contacts (result .first .age) first-aged;
+    second-age = pressed (manifold-point met 1 .id) contacts (result .second .age) second-aged;
   }

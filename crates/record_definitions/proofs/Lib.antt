@@ -12,6 +12,8 @@ pub mod Changes
 pub mod PieceTests
 pub mod Pairs
 pub mod States
+pub mod Ages
+pub mod Pressed
 pub mod Counting
 pub mod Rulebook
 pub mod AnswerLengths
@@ -26,6 +28,7 @@ pub mod SoundFrames
 pub mod Again
 pub mod Theorem
 pub mod TestTheorem
+pub mod AgeTheorem
 pub mod HeatTests
 pub mod HeatSteps
 pub mod HeatLaw
@@ -44,6 +47,7 @@ pub mod Heats
 pub mod TurnFrames
 pub mod TurnCases
 pub mod TableCases
+pub mod AgeCases
 pub mod Controls
 pub mod ChainCases
 pub mod StepCases

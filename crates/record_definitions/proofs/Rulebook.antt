@@ -7,10 +7,9 @@ use mathlib.Core.Bool.{Bool, true, false, cond, and-false}
 use native.Mathlib.Omega.{arith}
 use lib.Dec.{eqb, ltb}
 use borrow.Author.Tests.{eq-eqb, ne-eqb, lt-ltb, le-ltb, eqb-true, ltb-true}
-use Rattle.algebra.proofs.Booleans.{by-test}
+use Rattle.algebra.proofs.Booleans.{both, by-test}
 use Rattle.record_definitions.specs.Touch.{touch-begins, largest-count, touches-after}
 use Rattle.record_definitions.specs.Rulebook.{Rulebook}
-use Rattle.record_definitions.proofs.Changes.{both}
 
 had-points : (before now : ℕ) → 0 < before → touch-begins before now ≡ false
 had-points before now some = simp (ne-eqb before 0 (λ none. omega arith))

@@ -11,6 +11,7 @@ use lib.Dec.{eqb}
 use lib.Ieee.{le, neg, ofBits}
 use lib.ListN.{length, getD}
 use borrow.Author.Tests.{eqb-true}
+use Rattle.algebra.proofs.Booleans.{both}
 use Rattle.floats.specs.declared.b2_math.B2Transform.{B2Transform}
 use Rattle.floats.specs.declared.b2_math.B2vec2.{B2vec2}
 use Rattle.floats.specs.Ranges.{point-in-range, radius-in-range, rotation-in-range, transform-in-range}
@@ -40,7 +41,7 @@ use Rattle.contact_definitions.specs.declared.b2_collision.B2manifold.{B2manifo
 use Rattle.contact_definitions.specs.Manifold.{default-manifold}
 use Rattle.contact_definitions.specs.PointStates.{ids-of}
 use Rattle.record_definitions.specs.Touch.{largest-count}
-use Rattle.record_definitions.proofs.Changes.{by-choice, both}
+use Rattle.record_definitions.proofs.Changes.{by-choice}
 use Rattle.record_definitions.proofs.FreshPairs.{get-same}
 
 -- ---- an outline that the builder made of some points

@@ -9,7 +9,7 @@ use lib.Dec.{eqb, ltb}
 use lib.ListN.{length, getD, replicate, List·getD-append}
 use borrow.Author.Tests.{eqb-true, eqb-false, ltb-false, not-false}
 use Rattle.algebra.specs.Lists.{all-of}
-use Rattle.algebra.proofs.Booleans.{or-fails, by-test}
+use Rattle.algebra.proofs.Booleans.{both, or-fails, by-test}
 use Rattle.algebra.proofs.Buffer.{length-over}
 use Rattle.floats.specs.declared.b2_math.B2vec2.{B2vec2}
 use Rattle.floats.specs.Ranges.{point-in-range}
@@ -22,7 +22,6 @@ use Rattle.lines.proofs.Points.{length-points}
 use Rattle.shape_definitions.specs.Refusal.{accepted}
 use Rattle.record_definitions.specs.World.{piece-wall}
 use Rattle.record_definitions.specs.Frame.{long-piece, chain-points, chain-at, chain-refusal}
-use Rattle.record_definitions.proofs.Changes.{both}
 use Rattle.record_definitions.proofs.Sound.{SoundChain, skin-in-range}
 
 -- ---- chains that are accepted: each piece is in range, and long enough

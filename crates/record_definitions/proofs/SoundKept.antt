@@ -131,7 +131,7 @@ module _ (a b : Body) (pair : Pair) (bytes : List ℕ) (a-sound : SoundBody a) (
       let met = contact-taken piece b ida idb kept taken in
       record {
         last = meet piece b .manifold;
-        two-places = met-two piece b met .two;
+        two-places = met-two piece b;
         few = met-few piece b met .at-most-two;
         ids-are = refl;
         held = held (kept .touches) _ _ kept-held;

@@ -24,6 +24,7 @@ use Rattle.contact_definitions.specs.WorldManifold.{circles-normal, world-of-ci
 use Rattle.contact_definitions.specs.WorldManifold.{manifold-in-range, b2-world-manifold-initialize}
 use Rattle.record_definitions.specs.World.{blank-body, circle-body, outline-body, placed, fresh-pair, fresh-world}
 use Rattle.record_definitions.specs.World.{piece-of, forget-below}
+use Rattle.record_definitions.specs.Ages.{age-after, next-age, ages-of, with-ages}
 use Rattle.record_definitions.specs.Touch.{meet-circle, meet, skin, world-points, touches-after, states-of}
 use Rattle.record_definitions.specs.Touch.{touch-of, tested-as, tested, piece-tested, pieces-tested}
 use Rattle.record_definitions.specs.Touch.{first-refusal}
@@ -50,14 +51,14 @@ pub record StepCases : Type 0 where
       ("04000000000000000000000000003f800000", "00") ∷
       ("01013fc00000000000003f800000", "00") ∷
       ("04010000000000000000000000003f800000", "00") ∷
-      ("050001", "050001010000000100000000013f800000000000003f40000000000000bf000000") ∷
+      ("050001", "050001010000000100000000013f800000000000003f40000000000000bf00000000000000") ∷
       ("", "0a00000002") ∷
       ("", "0a00000003") ∷
-      ("050001", "050001010002000200000000013f800000000000003f40000000000000bf000000") ∷
+      ("050001", "050001010002000200000000013f800000000000003f40000000000000bf00000000000001") ∷
       ("0", "ff0a") ∷
       (" ", "ff0a") ∷
       ("", "0a00000004") ∷
-      ("050001", "050001010002000200000000013f800000000000003f40000000000000bf000000") ∷
+      ("050001", "050001010002000200000000013f800000000000003f40000000000000bf00000000000002") ∷
       [])
   -- nor does a carriage return, nor a line of 166 characters or more, none of which is kept as an empty one
   pub carriage-return : touches (text "\r\n\n") ≡ text "ff0a\n0a00000001\n"
@@ -78,17 +79,16 @@ pub record StepCases : Type 0 where
 pub step-cases : StepCases
 unfolding neg add sub mul div le lt eq ofBits toBits root-digits whole-root root-by-steps sqrt b2-sqrt b2-add b2-sub
     b2-neg b2-scale b2-dot b2-length-squared b2-length b2-distance-vec2-squared b2-normalize b2-mul-rot-by-vec2
-    b2-mul-transform-by-vec2 point-in-range radius-in-range rotation-in-range transform-in-range
-    local-normal-in-range contact-point-in-range vector-at rotation-at placement-at unhex frame-of hex
-    circle-in-range farther with-local-point with-count with-one-point counted-points same-id id-among ids-of ids-in
-    point-state states-of-ids points-in-range manifold-in-range b2-world-manifold-initialize blank-body circle-body
-    placed fresh-pair fresh-world forget-below meet-circle meet skin world-points touches-after states-of touch-of
-    tested-as tested frame-length well-formed frame-refusal circle-change place-change listed test-refusal test-change
-    change-of-kind change head-bytes point-bytes touch-bytes change-in changed after-frame said-of-frame lines-from
-    printed-lines touches circles-manifold b2-collide-circles circles-normal world-of-circles outline-change
+    b2-mul-transform-by-vec2 point-in-range radius-in-range rotation-in-range transform-in-range local-normal-in-range
+    contact-point-in-range vector-at rotation-at placement-at unhex frame-of hex circle-in-range farther
+    with-local-point with-count with-one-point counted-points same-id id-among ids-of ids-in point-state states-of-ids
+    points-in-range manifold-in-range b2-world-manifold-initialize blank-body circle-body placed fresh-pair fresh-world
+    forget-below meet-circle meet skin world-points touches-after states-of age-after next-age ages-of with-ages
+    touch-of tested-as tested frame-length well-formed frame-refusal circle-change place-change listed test-refusal
+    test-change change-of-kind change head-bytes point-bytes touch-bytes change-in changed after-frame said-of-frame
+    lines-from printed-lines touches circles-manifold b2-collide-circles circles-normal world-of-circles outline-change
     outline-body b2-polygon-shape-set outline-of-welded points-at too-near welded piece-of piece-tested pieces-tested
-    first-refusal touch-lines after-character after printed-character printed
-    fed-pieces
+    first-refusal touch-lines after-character after printed-character printed fed-pieces
 step-cases = record {
   steps-end = refl;
   carriage-return = refl;

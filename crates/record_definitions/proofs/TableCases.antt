@@ -14,9 +14,10 @@ use Rattle.contact_definitions.specs.Manifold.{contact-id, default-id, default-
 use Rattle.contact_definitions.specs.PointStates.{same-id, id-among, ids-of, ids-in, point-state, states-of-ids}
 use Rattle.contact_definitions.specs.WorldManifold.{default-world-manifold}
 use Rattle.contact_definitions.proofs.StateCases.{counting}
-use Rattle.record_definitions.specs.declared.touch.Touch.{Touch}
+use Rattle.record_definitions.specs.declared.touch.TestAnswer.{TestAnswer}
 use Rattle.record_definitions.specs.World.{no-body, circle-kind, outline-kind, wall-kind, chain-kind}
 use Rattle.record_definitions.specs.World.{pair-place}
+use Rattle.record_definitions.specs.Ages.{age-after, next-age, ages-of, with-ages}
 use Rattle.record_definitions.specs.Touch.{states-of, largest-count, touches-after, shown-kind, touch-of}
 use Rattle.record_definitions.specs.Touch.{tested-as}
 use Rattle.record_definitions.specs.Frame.{frame-length, listed}
@@ -24,14 +25,14 @@ use Rattle.record_definitions.specs.Answer.{longest-answer, longest-line
 use Rattle.record_definitions.specs.Reading.{kept-length}
 
 -- one point, of an outline's corner on a wall's face
-abbrev one-point : ℕ → B2manifold
+abbrev pub one-point : ℕ → B2manifold
 one-point corner = counting 1 (contact-id 0 corner 1 0) default-id
 
--- a test that meets this contact, of a pair that kept that one and four touches: what it prints
-abbrev tested-after : B2manifold → B2manifold → Touch
+-- a test that meets this contact, of a pair that kept that one with ages 3 and 7 and four touches
+abbrev pub tested-after : B2manifold → B2manifold → TestAnswer
 tested-after kept contact =
-    tested-as 0 1 (record { ids = ids-of kept; touches = 4 }) (record { manifold = contact; refusal = accepted })
-    (record { world = default-world-manifold; refusal = accepted }) .touch
+    tested-as 0 1 (record { ids = ids-of kept; ages = record { first = 3; second = 7 }; touches = 4 })
+    (record { manifold = contact; refusal = accepted }) (record { world = default-world-manifold; refusal = accepted })
 
 pub record TableCases : Type 0 where
   -- by the kind, 0 to 8, where the third byte is 0
@@ -58,20 +59,20 @@ pub record TableCases : Type 0 where
   pub counted-from-one : map (touches-after 4 1) (0 ∷ 1 ∷ 2 ∷ []) ≡ 4 ∷ 4 ∷ 4 ∷ []
   pub counted-from-two : map (touches-after 4 2) (0 ∷ 1 ∷ 2 ∷ []) ≡ 4 ∷ 4 ∷ 4 ∷ []
   -- a roll from corner 3 to corner 0: the old point is removed and the new one added, and no touch begins
-  pub roll-states : tested-after (one-point 3) (one-point 0) .states
+  pub roll-states : tested-after (one-point 3) (one-point 0) .touch .states
       ≡ record { old0 = B2RemoveState; old1 = B2NullState; new0 = B2AddState; new1 = B2NullState }
-  pub roll-touches : tested-after (one-point 3) (one-point 0) .touches ≡ 4
+  pub roll-touches : tested-after (one-point 3) (one-point 0) .touch .touches ≡ 4
   -- the same point where there was none
-  pub begun-touches : tested-after default-manifold (one-point 0) .touches ≡ 5
+  pub begun-touches : tested-after default-manifold (one-point 0) .touch .touches ≡ 5
   -- the count holds at 2^32 - 1
   pub largest : largest-count ≡ 0xffff_ffff
   pub last-counted : touches-after (largest-count - 1) 0 1 ≡ largest-count
   pub held : touches-after largest-count 0 2 ≡ largest-count
-  pub sizes : longest-answer ∷ longest-line ∷ longest-said ∷ kept-length ∷ [] ≡ 45 ∷ 91 ∷ 637 ∷ 167 ∷ []
+  pub sizes : longest-answer ∷ longest-line ∷ longest-said ∷ kept-length ∷ [] ≡ 53 ∷ 107 ∷ 749 ∷ 167 ∷ []
 
 pub table-cases : TableCases
 unfolding frame-length listed with-kind with-count same-id id-among ids-of ids-in point-state states-of-ids
-    touches-after states-of touch-of tested-as
+    touches-after states-of age-after next-age ages-of with-ages touch-of tested-as
 table-cases = record {
   lengths = refl;
   outline-lengths = refl;

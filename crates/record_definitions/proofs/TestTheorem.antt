@@ -208,7 +208,7 @@ module _ (w : World) (frame : List ℕ) (t : Touch) (is : said-of-frame w frame 
         let met = contact-taken piece (body-at w b) a b before not-refused in
         let kept = sound .each-pair (pair-place a b) .piece i in
         states-are-box2ds given (kept .last) contact (kept .two-places)
-        (met-two piece (body-at w b) met .two) (kept .few)
+        (met-two piece (body-at w b)) (kept .few)
         (met-few piece (body-at w b) met .at-most-two)
         ∙ ap (λ (states : PointStates). record { states = states; refusal = accepted })
         (rw (← kept .ids-are) (sym states-so))

@@ -77,9 +77,9 @@ pub placing-changes-no-pair : (w : World) (frame : List ℕ) → Placing (byte-a
     → after-frame w frame .pairs ≡ w .pairs
 placing-changes-no-pair w frame placing = placement-keeps-pairs w frame placing
 
--- ---- an answer's bytes: 1, 2, or by the number of points 13, 33 or 45; never more than the longest answer, and its
+-- ---- an answer's bytes: 1, 2, or by the number of points 13, 37 or 53; never more than the longest answer, and its
 -- lines never more than seven such
-pub result-bytes : (t : Touch) → length (touch-bytes t) ≡ cond (eqb (t .count) 0) 13 (cond (eqb (t .count) 1) 33 45)
+pub result-bytes : (t : Touch) → length (touch-bytes t) ≡ cond (eqb (t .count) 0) 13 (cond (eqb (t .count) 1) 37 53)
 result-bytes t = touch-size t
 
 pub answers-fit : (said : Said) → length (said .more) ≤ most-further

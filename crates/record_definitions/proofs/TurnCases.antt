@@ -26,6 +26,7 @@ use Rattle.record_definitions.specs.declared.world.World.{World}
 use Rattle.record_definitions.specs.declared.frame.Answer.the-variants.{Accepted, Refused}
 use Rattle.record_definitions.specs.World.{blank-body, circle-body, placed, fresh-pair, fresh-world, forget-below}
 use Rattle.record_definitions.specs.World.{piece-of}
+use Rattle.record_definitions.specs.Ages.{age-after, next-age, ages-of, with-ages}
 use Rattle.record_definitions.specs.Touch.{meet-circle, meet, skin, world-points, touches-after, states-of}
 use Rattle.record_definitions.specs.Touch.{touch-of, tested-as, tested, piece-tested, pieces-tested}
 use Rattle.record_definitions.specs.Touch.{first-refusal}
@@ -55,13 +56,13 @@ pub record TurnCases : Type 0 where
       ("04000000000000000000000000003f800000", "00") ∷
       ("01013fc00000000000003f800000", "00") ∷
       ("060100000000000000000155", "00") ∷
-      ("050001", "050001010000000100000000013f5dc4973effc5f33f2653713ebfd476bf000001") ∷
+      ("050001", "050001010000000100000000013f5dc4973effc5f33f2653713ebfd476bf00000100000000") ∷
       ("060100000000000000000555", "00") ∷
-      ("050001", "05000101000200020000000001beffc5f33f5dc497bebfd4763f265371bf000001") ∷
+      ("050001", "05000101000200020000000001beffc5f33f5dc497bebfd4763f265371bf00000100000001") ∷
       ("060100000000000000000955", "00") ∷
-      ("050001", "05000101000200020000000001bf5dc497beffc5f3bf265371bebfd476bf000001") ∷
+      ("050001", "05000101000200020000000001bf5dc497beffc5f3bf265371bebfd476bf00000100000002") ∷
       ("060100000000000000000d55", "00") ∷
-      ("050001", "050001010002000200000000013effc5f3bf5dc4973ebfd476bf265371bf000001") ∷
+      ("050001", "050001010002000200000000013effc5f3bf5dc4973ebfd476bf265371bf00000100000003") ∷
       [])
   -- the quarter turns, about a position of (1, 2)
   pub quarter-turns : Runs (
@@ -69,13 +70,13 @@ pub record TurnCases : Type 0 where
       ("04000000000000000000000000003f800000", "00") ∷
       ("01013fc00000000000003f800000", "00") ∷
       ("06013f800000400000000000", "00") ∷
-      ("050001", "050001010000000100000000013f800000000000003fe0000040000000bf000000") ∷
+      ("050001", "050001010000000100000000013f800000000000003fe0000040000000bf00000000000000") ∷
       ("06013f800000400000000400", "00") ∷
-      ("050001", "05000101000200020000000001000000003f8000003f80000040300000bf000000") ∷
+      ("050001", "05000101000200020000000001000000003f8000003f80000040300000bf00000000000001") ∷
       ("06013f800000400000000800", "00") ∷
-      ("050001", "05000101000200020000000001bf800000000000003e80000040000000bf000000") ∷
+      ("050001", "05000101000200020000000001bf800000000000003e80000040000000bf00000000000002") ∷
       ("06013f800000400000000c00", "00") ∷
-      ("050001", "0500010100020002000000000100000000bf8000003f8000003fa00000bf000000") ∷
+      ("050001", "0500010100020002000000000100000000bf8000003f8000003fa00000bf00000000000003") ∷
       [])
   -- 10: a byte too few, a byte too many, another kind. 11 before 12, 12 before 14, 14 before 6. 14 from 4,096 on, the
   -- highest byte first: of 0xff0f and of 0x0010 the bytes the other way round are 4,095 and 4,096
@@ -114,10 +115,10 @@ unfolding neg add sub mul div le lt eq ofBits toBits root-digits whole-root root
     circle-in-range farther with-local-point with-count with-one-point counted-points same-id id-among ids-of ids-in
     point-state states-of-ids points-in-range manifold-in-range b2-world-manifold-initialize blank-body circle-body
     placed piece-of fresh-pair fresh-world forget-below meet-circle meet skin world-points touches-after states-of
-    touch-of tested-as tested piece-tested pieces-tested first-refusal frame-length well-formed frame-refusal
-    circle-change place-change turn-change listed test-refusal test-change change-of-kind change head-bytes point-bytes
-    touch-bytes touch-lines change-in changed after-frame said-of-frame lines-from printed-lines touches
-    circles-manifold b2-collide-circles circles-normal world-of-circles
+    age-after next-age ages-of with-ages touch-of tested-as tested piece-tested pieces-tested first-refusal frame-length
+    well-formed frame-refusal circle-change place-change turn-change listed test-refusal test-change change-of-kind
+    change head-bytes point-bytes touch-bytes touch-lines change-in changed after-frame said-of-frame lines-from
+    printed-lines touches circles-manifold b2-collide-circles circles-normal world-of-circles
 turn-cases = record {
   each-quarter = refl;
   quarter-turns = refl;

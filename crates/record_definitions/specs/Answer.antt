@@ -1,5 +1,5 @@
--- Document 01, "The touch record": answers as bytes, and as lines. `00`; `ff` and the refusal; or the test's result, of
--- a chain (document 02, request 03) that of each piece. Definitions only.
+-- Document 01, "The touch record": answers as bytes, and as lines. `00`; `ff` and the refusal; or the test's result,
+-- with the age of each point (document 02, request 06), of a chain (request 03) that of each piece. Definitions only.
 use Prim.Native.Nat.{ℕ, _+_, _*_, _-_}
 use mathlib.Core.Bool.{cond}
 use mathlib.Core.List.{List, [], _∷_, _++_}
@@ -30,9 +30,9 @@ states-bytes s = state-number (s .old0) ∷ state-number (s .old1) ∷ state-num
 unfoldable pub head-bytes : Touch → List ℕ
 head-bytes t = names-bytes t ++ states-bytes (t .states) ++ number-bytes (t .touches)
 
--- with points, then the normal, and each point's x, y and separation
+-- with points, then the normal, and each point's x, y, separation and age
 unfoldable pub point-bytes : TouchPoint → List ℕ
-point-bytes p = vector-bytes (p .p) ++ float-bytes (p .separation)
+point-bytes p = vector-bytes (p .p) ++ float-bytes (p .separation) ++ number-bytes (p .age)
 
 unfoldable pub touch-bytes : Touch → List ℕ
 touch-bytes t =
@@ -48,14 +48,14 @@ answer-bytes (Tested t) = touch-bytes t
 
 -- the bytes of the longest answer, two points, and the characters of its line
 abbrev pub longest-answer : ℕ
-longest-answer = 45
+longest-answer = 53
 
 abbrev pub longest-line : ℕ
 longest-line = 2 * longest-answer + 1
 
 -- ---- what is said: the answer alone, or the results of the pieces of a chain
 abbrev pub blank-point : TouchPoint
-blank-point = record { p = origin; separation = zero32 }
+blank-point = record { p = origin; separation = zero32; age = 0 }
 
 abbrev pub blank-touch : Touch
 blank-touch = record {

@@ -17,10 +17,10 @@ use Rattle.record_definitions.specs.Export.{in-order, between, refusal-b
 
 -- ---- which numbers: the bytes of a test line without, with one and with two points, or a refusal
 abbrev pub test-size : ℕ → ℕ
-test-size points = cond (eqb points 0) 13 (cond (eqb points 1) 33 45)
+test-size points = cond (eqb points 0) 13 (cond (eqb points 1) 37 53)
 
 abbrev pub export-numbers : List ℕ
-export-numbers = 13 ∷ 33 ∷ 45 ∷ map (_+_ refusal-base) (1 ∷ 2 ∷ 3 ∷ 4 ∷ 5 ∷ 6 ∷ 9 ∷ 10 ∷ [])
+export-numbers = 13 ∷ 37 ∷ 53 ∷ map (_+_ refusal-base) (1 ∷ 2 ∷ 3 ∷ 4 ∷ 5 ∷ 6 ∷ 9 ∷ 10 ∷ [])
 
 pub record ExportReturns (input out : List ℕ) : Type 0 where
   -- one of these and no other

@@ -1,6 +1,6 @@
--- Document 01, "The touch record", and document 02, requests 02, 03 and 05, over a whole heat: what an ordered pair of
--- ids remembers, counts and prints, of a chain each piece by itself, hangs on the contacts of its accepted tests since
--- the last accepted new shape under either id, and on nothing else, empty lines among it. So "a resting contact
+-- Document 01, "The touch record", and document 02, requests 02, 03, 05 and 06, over a whole heat: what an ordered pair
+-- of ids remembers, counts and prints, of a chain each piece by itself, hangs on the contacts of its accepted tests
+-- since the last accepted new shape under either id, and on nothing else, empty lines among it. So "a resting contact
 -- recorded as a fresh push" is ruled out over a heat, not a step. Definitions only.
 use Prim.Native.Nat.{ℕ, suc, _<_, min}
 use mathlib.Core.Path.{_≡_}
@@ -10,6 +10,7 @@ use lib.Dec.{eqb, ltb}
 use Rattle.lines.specs.Fields.{byte-at}
 use Rattle.lines.specs.Hex.{frame-of}
 use Rattle.shape_definitions.specs.Refusal.{accepted}
+use Rattle.contact_definitions.specs.declared.b2_collision.B2contactId.{B2contactId}
 use Rattle.contact_definitions.specs.declared.b2_collision.B2manifold.{B2manifold}
 use Rattle.contact_definitions.specs.declared.b2_collision.B2pointState.the-variants.{B2PersistState}
 use Rattle.contact_definitions.specs.declared.b2_collision.PointStates.{PointStates}
@@ -23,8 +24,10 @@ use Rattle.record_definitions.specs.declared.frame.Said.{Said}
 use Rattle.record_definitions.specs.declared.server.Server.{Server}
 use Rattle.record_definitions.specs.World.{circle-kind, outline-kind, wall-kind, chain-kind, pieces-of}
 use Rattle.record_definitions.specs.World.{piece-of, kept-of, body-at, pair-at}
+use Rattle.record_definitions.specs.Ages.{next-age}
 use Rattle.record_definitions.specs.Touch.{meet, touch-begins, largest-count}
 use Rattle.record_definitions.specs.Rulebook.{Rulebook}
+use Rattle.record_definitions.specs.AgeLaws.{age-by, PressedFor}
 use Rattle.record_definitions.specs.Answer.{result-of}
 use Rattle.record_definitions.specs.Server.{fresh-server, after-line, Reply, Framed, Stepped, reply-to}
 use Rattle.record_definitions.specs.Server.{reached}
@@ -104,12 +107,19 @@ pub record NextTest (earlier : List B2manifold) (contact : B2manifold) (t : Touc
   -- and it begins one by the rulebook: only where the test before found no point, so a resting point is no fresh push
   pub rulebook : Rulebook (last-contact earlier .«point_count») (contact .«point_count») (touches-of earlier)
       (t .touches)
+  -- the age of a point is the number of tests in a row, up to the one before, that had a point of its id; past the
+  -- points that are counted none is printed
+  pub first-age : PressedFor (manifold-point contact 0 .id) earlier (t .first .age)
+  pub second-age : PressedFor (manifold-point contact 1 .id) earlier (t .second .age)
 
 -- ---- the law of a heat, for an ordered pair of ids, a piece of the first and any lines from a fresh start
 pub record HeatLaw (a b i : ℕ) (lines : List (List ℕ)) : Type 0 where
-  -- of the piece the pair remembers the last of these contacts, and the touches begun
+  -- of the piece the pair remembers the last of these contacts, the touches begun, and the age that a point of any id
+  -- will have at the next test
   pub remembered : kept-of (pair-at (reached lines .world) a b) i .ids ≡ ids-of (last-contact (contacts-of a b i lines))
   pub counted : kept-of (pair-at (reached lines .world) a b) i .touches ≡ touches-of (contacts-of a b i lines)
+  pub aged : (id : B2contactId)
+      → next-age (kept-of (pair-at (reached lines .world) a b) i) id ≡ age-by id (contacts-of a b i lines)
   -- and so it prints, whatever line comes next, where the first body has the piece
   pub next-test : (line : List ℕ) (said : Said) (t : Touch) → reply-to (reached lines) line ≡ Framed said
       → said .answer ≡ Tested t → t .a ≡ a → t .b ≡ b → i < pieces-of (body-at (reached lines .world) a)

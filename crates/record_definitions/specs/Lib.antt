@@ -1,6 +1,8 @@
 pub mod World
+pub mod Ages
 pub mod Touch
 pub mod Rulebook
+pub mod AgeLaws
 pub mod Answer
 pub mod Frame
 pub mod OneFrame

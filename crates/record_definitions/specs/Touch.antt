@@ -1,6 +1,6 @@
--- Document 01, "The touch record", with document 02's requests 02 and 03: a test of two bodies, a chain piece by piece.
--- The contact call from a default manifold, the world points, the point states against the last contact that was kept,
--- and the touches: one more where there was no point and now is one. Definitions only.
+-- Document 01, "The touch record", with document 02's requests 02, 03 and 06: a test of two bodies, a chain piece by
+-- piece. The contact call from a default manifold, the world points, the point states and the ages against the last
+-- contact that was kept, and the touches: one more where there was no point and now is one. Definitions only.
 use Prim.Native.Nat.{ℕ, zero, suc, _+_, _-_, _^_, min}
 use mathlib.Core.Bool.{Bool, cond, _&&_}
 use mathlib.Core.List.{List, [], _∷_}
@@ -15,7 +15,7 @@ use Rattle.contact_definitions.specs.declared.b2_collision.B2worldManifold.{B2w
 use Rattle.contact_definitions.specs.declared.b2_collision.ManifoldAnswer.{ManifoldAnswer}
 use Rattle.contact_definitions.specs.declared.b2_collision.PointStates.{PointStates}
 use Rattle.contact_definitions.specs.declared.b2_collision.WorldAnswer.{WorldAnswer}
-use Rattle.contact_definitions.specs.Manifold.{as-byte, default-manifold, kind-number}
+use Rattle.contact_definitions.specs.Manifold.{as-byte, default-manifold, kind-number, manifold-point}
 use Rattle.contact_definitions.specs.B2CollideCircle.{b2-collide-circles, b2-collide-polygon-and-circle}
 use Rattle.contact_definitions.specs.B2CollidePolygon.{b2-collide-polygons}
 use Rattle.contact_definitions.specs.B2CollideEdge.{b2-collide-edge-and-circle, b2-collide-edge-and-polygon}
@@ -28,6 +28,7 @@ use Rattle.record_definitions.specs.declared.touch.TestAnswer.{TestAnswe
 use Rattle.record_definitions.specs.declared.touch.Touch.{Touch}
 use Rattle.record_definitions.specs.declared.touch.TouchPoint.{TouchPoint}
 use Rattle.record_definitions.specs.World.{circle-kind, outline-kind, piece-of, kept-of}
+use Rattle.record_definitions.specs.Ages.{ages-of, with-ages}
 
 -- ---- the contact of a listed pair, from a default manifold
 unfoldable pub meet-circle : Body → Body → ManifoldAnswer
@@ -79,8 +80,12 @@ touches-after touches before now = cond (touch-begins before now) (min (touches 
 abbrev pub shown-kind : B2manifold → ℕ
 shown-kind m = cond (eqb (m .«point_count») 0) 0 (kind-number (m .«manifold_type»))
 
-abbrev pub point-of : B2worldManifold → ℕ → TouchPoint
-point-of w i = record { p = point-at (w .points) i; separation = getD (w .separations) i zero32 }
+abbrev pub point-of : B2manifold → B2worldManifold → ℕ → TouchPoint
+point-of m w i = record {
+  p = point-at (w .points) i;
+  separation = getD (w .separations) i zero32;
+  age = manifold-point m i .age;
+}
 
 unfoldable pub touch-of : ℕ → ℕ → B2manifold → PointStates → ℕ → B2worldManifold → Touch
 touch-of ida idb m states touches w = record {
@@ -91,8 +96,8 @@ touch-of ida idb m states touches w = record {
   states = states;
   touches = touches;
   normal = w .normal;
-  first = point-of w 0;
-  second = point-of w 1;
+  first = point-of m w 0;
+  second = point-of m w 1;
 }
 
 -- ---- the test of a listed pair
@@ -100,11 +105,12 @@ unfoldable pub tested-as : ℕ → ℕ → Kept → ManifoldAnswer → WorldAnsw
 tested-as ida idb kept met world =
     let m = met .manifold in
     let states = states-of kept m in
+    let ages = ages-of kept m in
     let touches = touches-after (kept .touches) (kept .ids .count) (m .«point_count») in
     record {
       refusal = refusal-of met world;
-      touch = touch-of ida idb m states touches (world .world);
-      kept = record { ids = ids-of m; touches = touches };
+      touch = touch-of ida idb (with-ages m ages) states touches (world .world);
+      kept = record { ids = ids-of m; ages = ages; touches = touches };
     }
 
 unfoldable pub tested : ℕ → ℕ → Body → Body → Kept → TestAnswer

@@ -1,6 +1,6 @@
 -- Document 01, "The touch record": the state. Eight bodies, ids 00 to 07, and for each ordered pair of them what its
--- last accepted test left: the ids of its contact points, and its touches; of a chain (document 02, request 03) so for
--- each piece. Definitions only.
+-- last accepted test left: the ids of its contact points, their ages (document 02, request 06), and its touches; of a
+-- chain (request 03) so for each piece. Definitions only.
 use Prim.Native.Nat.{ℕ, zero, suc, _+_, _*_, _-_, min}
 use mathlib.Core.Bool.{true, false, cond}
 use mathlib.Core.List.{List}
@@ -129,7 +129,11 @@ piece-of body i =
 
 -- ---- before any input: no test yet is a contact without points, and no touches
 abbrev pub fresh-kept : Kept
-fresh-kept = record { ids = record { count = 0; first = default-id; second = default-id }; touches = 0 }
+fresh-kept = record {
+  ids = record { count = 0; first = default-id; second = default-id };
+  ages = record { first = 0; second = 0 };
+  touches = 0;
+}
 
 unfoldable pub fresh-pair : Pair
 fresh-pair = record { pieces = replicate most-pieces fresh-kept }

@@ -39,9 +39,16 @@ pub struct Body {
     pub chain: Chain,
 }
 
-// What is kept of a test: the ids of the contact's points, and the touches.
+// The ages of a contact's points; those past the count are none.
+pub struct Ages {
+    pub first: u32,
+    pub second: u32,
+}
+
+// What is kept of a test: the ids of the contact's points and their ages, and the touches.
 pub struct Kept {
     pub ids: CountedIds,
+    pub ages: Ages,
     pub touches: u32,
 }
 

@@ -8,6 +8,7 @@ use lib.Dec.{T, eqb}
 use lib.Ieee.{Float, binary32}
 use lib.Ieee.Bits.{is-true, ofBits-fits}
 use native.Mathlib.Omega.{arith}
+use Rattle.algebra.proofs.Booleans.{both}
 use Rattle.rounding.specs.Literals.{one32}
 use Rattle.rounding.specs.Value.{metre}
 use Rattle.rounding.proofs.Value.{mag-abs}
@@ -32,7 +33,7 @@ use Rattle.record_definitions.specs.World.{wall-body, placed, blank-chain, piec
 use Rattle.record_definitions.specs.Touch.{skin}
 use Rattle.record_definitions.specs.Frame.{circle-at, wall-at, turn-at}
 use Rattle.record_definitions.specs.Frame.{turned-placement}
-use Rattle.record_definitions.proofs.Changes.{by-choice, both}
+use Rattle.record_definitions.proofs.Changes.{by-choice}
 use Rattle.record_ranges.proofs.Caps.{Cap}
 use Rattle.record_ranges.proofs.Vectors.{Caps, Turns}
 use Rattle.record_ranges.proofs.Shapes.{zero-cap, one-cap, origin-caps, CircleCaps, WallCaps, OutlineCaps}

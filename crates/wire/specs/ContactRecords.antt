@@ -38,13 +38,14 @@ id-at request i =
     contact-id (byte-at request (4 * i)) (byte-at request (4 * i + 1)) (byte-at request (4 * i + 2))
     (byte-at request (4 * i + 3))
 
--- ---- manifolds
+-- ---- manifolds: the age of a point is none of the Rust's fields and has no word, so it is 0
 unfoldable pub manifold-point-at : List ℕ → ℕ → B2manifoldPoint
 manifold-point-at request i = record {
   «local_point» = vector-at request i;
   «normal_impulse» = float-at request (i + 2);
   «tangent_impulse» = float-at request (i + 3);
   id = id-at request (i + 4);
+  age = 0;
 }
 
 -- the kind of document 01's number

@@ -57,7 +57,7 @@ fn id(input: &[u8], i: usize) -> B2contactId
     }
 }
 
-// ---- manifolds
+// ---- manifolds: the age of a point is none of the Rust's fields and has no word, so it is 0
 fn manifold_point(input: &[u8], i: usize) -> B2manifoldPoint
     requires { ⌜ 4 * i + 20 ≤ length (now input) ⌝ }
     ensures { λ r. ⌜ r ≡ manifold-point-at (now (input .entry)) i ⌝ }
@@ -71,6 +71,7 @@ fn manifold_point(input: &[u8], i: usize) -> B2manifoldPoint
         normal_impulse,
         tangent_impulse,
         id,
+        age: 0,
     }
 }
 
