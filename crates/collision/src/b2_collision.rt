@@ -18,7 +18,8 @@ use floats::b2_math::B2vec2;
 use floats::ranges;
 use shape_definitions::refusal;
 
-fn same_id(a: B2contactId, b: B2contactId) -> bool
+// Whether two ids are one: all four numbers.
+pub fn same_id(a: B2contactId, b: B2contactId) -> bool
     ensures { λ r. ⌜ r ≡ same-id a b ⌝ }
 {
     let index_a = a.cf.index_a == b.cf.index_a;

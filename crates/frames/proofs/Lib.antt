@@ -1,3 +1,4 @@
+pub mod NextAges
 pub mod BodyFrames
 pub mod TestFrames
 pub mod FrameLengths

@@ -20,6 +20,7 @@ pub fn blank_touch() -> Touch
     let point = TouchPoint {
         p: origin,
         separation: 0.0,
+        age: 0,
     };
     Touch {
         a: 0,

@@ -9,7 +9,9 @@ pub mod world;
 pub mod body_frames;
 pub mod chain_frame;
 
-// Frame 05: which pairs are tested, the contact of such a pair, the result, and that of each piece of a chain.
+// Frame 05: which pairs are tested, the contact of such a pair, the ages of its points, the result, and that of each
+// piece of a chain.
+pub mod ages;
 pub mod chain_test;
 pub mod listed_pairs;
 pub mod test_frame;

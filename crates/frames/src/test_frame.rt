@@ -1,4 +1,4 @@
-// Frame 05 of a body that is no chain: contact, world points, point states and touches.
+// Frame 05 of a body that is no chain: contact, world points, point states, ages and touches.
 ghost use mathlib.Core.Path.{_≡_};
 ghost use mathlib.Core.Bool.{cond};
 ghost use lib.Dec.{eqb};
@@ -8,6 +8,7 @@ ghost use Rattle.record_definitions.specs.World.{chain-kind};
 ghost use Rattle.record_definitions.specs.Touch as results;
 ghost use Rattle.record_definitions.specs.Frame as definitions;
 ghost use Rattle.frames.specs.Made.{of-test};
+use crate::ages;
 use crate::changes::TestMade;
 use crate::listed_pairs;
 use crate::test_result;
@@ -88,12 +89,17 @@ pub fn tested(ida: u8, idb: u8, a: Body, b: Body, kept: Kept) -> TestAnswer
     let old = kept.ids;
     let new = b2_collision::counted_ids(m);
     let states = b2_collision::states_of_ids(old, new);
+    let ages = ages::ages_of(kept, new);
     let touches = test_result::touches_after(kept.touches, old.count, m.point_count);
     let w = points.world;
     TestAnswer {
         refusal: first_refusal(met.refusal, points.refusal),
-        touch: test_result::touch_of(ida, idb, m, states, touches, w),
-        kept: Kept { ids: new, touches },
+        touch: test_result::touch_of(ida, idb, ages::with_ages(m, ages), states, touches, w),
+        kept: Kept {
+            ids: new,
+            ages,
+            touches,
+        },
     }
 }
 

@@ -68,6 +68,8 @@ pub fn touch_of(
     let separations = w.separations;
     let p = points[0];
     let q = points[1];
+    let first = m.points[0];
+    let second = m.points[1];
     Touch {
         a: ida,
         b: idb,
@@ -79,10 +81,12 @@ pub fn touch_of(
         first: TouchPoint {
             p,
             separation: separations[0],
+            age: first.age,
         },
         second: TouchPoint {
             p: q,
             separation: separations[1],
+            age: second.age,
         },
     }
 }

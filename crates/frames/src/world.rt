@@ -10,6 +10,7 @@ use floats::b2_common::B2_POLYGON_RADIUS;
 use floats::b2_math::B2Rot;
 use floats::b2_math::B2Transform;
 use floats::b2_math::B2vec2;
+use record_definitions::world::Ages;
 use record_definitions::world::Body;
 use record_definitions::world::CHAIN;
 use record_definitions::world::CIRCLE;
@@ -178,6 +179,10 @@ pub fn fresh_kept() -> Kept
             count: 0,
             first: none,
             second: none,
+        },
+        ages: Ages {
+            first: 0,
+            second: 0,
         },
         touches: 0,
     }

@@ -25,9 +25,12 @@ const HEAD: usize = 13;
 
 const NORMAL: usize = HEAD + 8;
 
-const FIRST_POINT: usize = NORMAL + 12;
+// A point: its place, its separation and its age.
+const POINT: usize = 16;
 
-pub const LONGEST_ANSWER: usize = FIRST_POINT + 12;
+const FIRST_POINT: usize = NORMAL + POINT;
+
+pub const LONGEST_ANSWER: usize = FIRST_POINT + POINT;
 
 // The characters of the longest line: its digits and the line feed.
 const LONGEST_LINE: usize = 2 * LONGEST_ANSWER + 1;
@@ -86,13 +89,14 @@ fn put_head(out: &mut [u8], t: Touch)
     fields::put_number(&mut out[9..], t.touches);
 }
 
-// Its place, then its separation.
+// Its place, then its separation, then its age.
 fn put_point(out: &mut [u8], p: TouchPoint)
-    requires { ⌜ 12 ≤ length (now out) ⌝ }
+    requires { ⌜ 16 ≤ length (now out) ⌝ }
     ensures { λ _. ⌜ now (out .exit) ≡ over (point-bytes p) (now (out .entry)) ⌝ }
 {
     fields::put_vector(out, p.p);
     fields::put_float(&mut out[8..], p.separation);
+    fields::put_number(&mut out[12..], p.age);
 }
 
 // How many bytes the result has.

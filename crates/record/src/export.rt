@@ -134,7 +134,7 @@ fn export_said(frames: &[u8]) -> Said
     )
 }
 
-// 13, 33 or 45, the bytes written to the front of the output; or 256 and a refusal, and the output as it was.
+// 13, 37 or 53, the bytes written to the front of the output; or 256 and a refusal, and the output as it was.
 #[no_mangle]
 pub extern "C" fn netxurbil_test(frames: &[u8], out: &mut [u8]) -> u32
     ensures { λ r. ⌜ (r ≡ Export.export-number (now (frames .entry)) (now (out .entry)))

@@ -49,7 +49,10 @@ module _ (w : World) (frame : List ℕ) (t : Touch) (is : said-of-frame w frame 
     abbrev shown : Touch
     shown = result-of (said-of-frame w frame) i
 
-    ages-shown : (shown .first .age ≡ ages-of old contact .first) × (shown .second .age ≡ ages-of old contact .second)
+    abbrev ages : Ages
+    ages = ages-of old (ids-of contact)
+
+    ages-shown : (shown .first .age ≡ ages .first) × (shown .second .age ≡ ages .second)
     ages-shown =
         let printed = ages-printed piece (body-at w b) a b old in
         let so = tested-by-itself w frame t is i within in
@@ -76,7 +79,7 @@ module _ (w : World) (frame : List ℕ) (t : Touch) (is : said-of-frame w frame 
         → kept-of (pair-at (after-frame w frame) a b) i .ages
         ≡ record { first = shown .first .age; second = shown .second .age }
     test-keeps-ages size =
-        let kept : kept-of (pair-at (after-frame w frame) a b) i .ages ≡ ages-of old contact =
+        let kept : kept-of (pair-at (after-frame w frame) a b) i .ages ≡ ages =
         ap (λ (k : Kept). k .ages) (kept-by-itself w frame t is i within size)
         ∙ ages-kept piece (body-at w b) a b old in
         rw (kept, ages-shown .0, ages-shown .1) refl

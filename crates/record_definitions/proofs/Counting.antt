@@ -77,8 +77,8 @@ module _ (a b : Body) where
         let few = met-few (contact-taken none) .at-most-two in
         (omega (arith, few), few)
 
-    pub ages-printed : (tested ida idb a b kept .touch .first .age ≡ ages-of kept (meet a b .manifold) .first)
-        × (tested ida idb a b kept .touch .second .age ≡ ages-of kept (meet a b .manifold) .second)
+    pub ages-printed : (tested ida idb a b kept .touch .first .age ≡ ages-of kept (ids-of (meet a b .manifold)) .first)
+        × (tested ida idb a b kept .touch .second .age ≡ ages-of kept (ids-of (meet a b .manifold)) .second)
     unfolding tested tested-as touch-of with-ages
     ages-printed = (refl, refl)
 
@@ -87,7 +87,7 @@ module _ (a b : Body) where
     unfolding tested tested-as
     ids-kept = refl
 
-    pub ages-kept : tested ida idb a b kept .kept .ages ≡ ages-of kept (meet a b .manifold)
+    pub ages-kept : tested ida idb a b kept .kept .ages ≡ ages-of kept (ids-of (meet a b .manifold))
     unfolding tested tested-as
     ages-kept = refl
 

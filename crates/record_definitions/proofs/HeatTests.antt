@@ -166,13 +166,13 @@ module _ (a b i : ℕ) (w : World) (contacts : List B2manifold) (before : Rememb
 
   -- a point's age, from its id
   first-aged : result .first .age ≡ age-by (manifold-point met 0 .id) contacts
-  unfolding ages-of
+  unfolding ages-of ids-of
   first-aged =
       ap (λ (s : Touch). s .first .age) shown ∙ ages-printed piece (body-at w b) a b kept .0
       ∙ before .ages (manifold-point met 0 .id)
 
   second-aged : result .second .age ≡ age-by (manifold-point met 1 .id) contacts
-  unfolding ages-of
+  unfolding ages-of ids-of
   second-aged =
       ap (λ (s : Touch). s .second .age) shown ∙ ages-printed piece (body-at w b) a b kept .1
       ∙ before .ages (manifold-point met 1 .id)

@@ -78,10 +78,10 @@ held-row false row limit = omega arith
 
 pub row-goes-on : (old new : Kept) (earlier : List B2manifold)
     → ((id : B2contactId) → next-age old id ≡ age-by id earlier)
-    → (contact : B2manifold) → new .ids ≡ ids-of contact → new .ages ≡ ages-of old contact
+    → (contact : B2manifold) → new .ids ≡ ids-of contact → new .ages ≡ ages-of old (ids-of contact)
     → ids-in (ids-of contact) ≡ counted-ids contact → (id : B2contactId)
     → next-age new id ≡ age-by id (contact ∷ earlier)
-unfolding next-age ages-of ids-of tests-in-a-row
+unfolding next-age ages-of tests-in-a-row
 row-goes-on old new earlier before contact ids-are ages-are counted id =
     ap₂ (λ (ids : CountedIds) (ages : Ages). age-after id (ids-in ids) (ages-in ages)) ids-are ages-are
     ∙ by-place (next-age old) id (ids-of contact) ∙ one-more (next-age old) id (ids-in (ids-of contact))

@@ -7,6 +7,7 @@ use mathlib.Core.List.{List, [], _∷_}
 use Rattle.contact_definitions.specs.declared.b2_collision.B2contactId.{B2contactId}
 use Rattle.contact_definitions.specs.declared.b2_collision.B2manifold.{B2manifold}
 use Rattle.contact_definitions.specs.declared.b2_collision.B2manifoldPoint.{B2manifoldPoint}
+use Rattle.contact_definitions.specs.declared.b2_collision.CountedIds.{CountedIds}
 use Rattle.contact_definitions.specs.Manifold.{manifold-point}
 use Rattle.contact_definitions.specs.PointStates.{same-id, ids-in}
 use Rattle.record_definitions.specs.declared.world.Ages.{Ages}
@@ -27,15 +28,12 @@ age-after id [] ages = 0
 age-after id (old ∷ others) [] = 0
 age-after id (old ∷ others) (age ∷ ages) = cond (same-id old id) (one-older age) (age-after id others ages)
 
--- the age that a point of this id has at the next test, and those of both points of its contact
+-- the age that a point of this id has at the next test, and those of both points of its contact, by their ids
 unfoldable pub next-age : Kept → B2contactId → ℕ
 next-age kept id = age-after id (ids-in (kept .ids)) (ages-in (kept .ages))
 
-unfoldable pub ages-of : Kept → B2manifold → Ages
-ages-of kept m = record {
-  first = next-age kept (manifold-point m 0 .id);
-  second = next-age kept (manifold-point m 1 .id);
-}
+unfoldable pub ages-of : Kept → CountedIds → Ages
+ages-of kept new = record { first = next-age kept (new .first); second = next-age kept (new .second) }
 
 -- ---- they are set in the manifold
 abbrev pub with-age : B2manifoldPoint → ℕ → B2manifoldPoint

@@ -105,7 +105,7 @@ unfoldable pub tested-as : ℕ → ℕ → Kept → ManifoldAnswer → WorldAnsw
 tested-as ida idb kept met world =
     let m = met .manifold in
     let states = states-of kept m in
-    let ages = ages-of kept m in
+    let ages = ages-of kept (ids-of m) in
     let touches = touches-after (kept .touches) (kept .ids .count) (m .«point_count») in
     record {
       refusal = refusal-of met world;

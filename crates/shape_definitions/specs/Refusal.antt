@@ -37,7 +37,7 @@ count-out-of-range = 7
 abbrev pub wall-too-short : ℕ
 wall-too-short = 8
 
--- a clip or world-point number out of range, or an export output under 45 bytes
+-- a clip or world-point number out of range, or an export output under 53 bytes
 abbrev pub contact-out-of-range : ℕ
 contact-out-of-range = 9
 

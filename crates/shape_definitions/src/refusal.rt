@@ -25,7 +25,7 @@ pub const COUNT_OUT_OF_RANGE: u8 = 7;
 // Wall against circle, the circle over the middle, squared length not above 0 (underflow).
 pub const WALL_TOO_SHORT: u8 = 8;
 
-// A clip or world-point number out of range, or an export output under 45 bytes.
+// A clip or world-point number out of range, or an export output under 53 bytes.
 pub const CONTACT_OUT_OF_RANGE: u8 = 9;
 
 // Odd digits, another character, empty or overlong line, unknown kind or flag, wrong length.
