@@ -29,6 +29,7 @@ mod pieces;
 #[allow(dead_code)]
 #[path = "../shared/ranges.rs"]
 mod ranges;
+mod rests;
 mod robots;
 mod rulebook;
 #[cfg(papers)]
