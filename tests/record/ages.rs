@@ -1,7 +1,7 @@
 //! Ages of points, read from the program's input and output alone. A point in state add has age 0; one that persists is
-//! one older than an old point that does, up to the largest, and where two of each persist, both ages go on; a point that
-//! is there alone at n tests in a row has age n - 1; no age is above the tests before it since a new shape. Counts what a
-//! run had of it.
+//! one older than an old point that does, up to the largest, and where two of each persist, both ages go on; a point
+//! that is there alone at n tests in a row has age n - 1; no age is above the tests before it since a new shape. Counts
+//! what a run had of it.
 use crate::answers::{age_at, byte, word, Answered, IDS, PIECES};
 use crate::steps::STEP;
 use crate::support::Tally;
