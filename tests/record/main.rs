@@ -29,6 +29,7 @@ mod pieces;
 #[allow(dead_code)]
 #[path = "../shared/ranges.rs"]
 mod ranges;
+mod rests;
 mod robots;
 mod rulebook;
 #[cfg(papers)]
@@ -64,7 +65,7 @@ fn compare_heats(program: &str, heats: u64, length: usize, seed: u64) -> bool {
         tally.case(agree && whole && ended && ours == wanted, || {
             let first = answers::difference(&input, &wanted, &ours);
             let references = if agree { "" } else { "the references do not agree; " };
-            let lines = if whole { "" } else { "too many lines, or too few; " };
+            let lines = if whole { "" } else { "too many lines, too few, or of another length; " };
             format!("{}: {references}{lines}{}{first}", name(), if ended { "" } else { "the program ended badly; " })
         });
         census::pieces(pieces, input.len(), &mut tally);
