@@ -36,7 +36,7 @@ module _ (t : Touch) where
   unfolding head-bytes
   with-normal-length = refl
 
-  pub with-first-length : length with-first ≡ 33
+  pub with-first-length : length with-first ≡ 37
   unfolding head-bytes point-bytes
   with-first-length = refl
 
@@ -52,7 +52,7 @@ module _ (t : Touch) (old after : List ℕ) where
       record { count = simp (eq-eqb _ _ none) (sym (head-length t)); left = simp (eq-eqb _ _ none) written }
 
   pub one-point-put : (t .count ≡ 0 → ⊥) → t .count ≡ 1 → after ≡ over (with-first t) old
-      → Put (touch-bytes t) old 33 after
+      → Put (touch-bytes t) old 37 after
   unfolding touch-bytes
   one-point-put some one written = record {
     count = simp (ne-eqb _ _ some, eq-eqb _ _ one) (sym (with-first-length t));

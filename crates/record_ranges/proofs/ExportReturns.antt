@@ -1,4 +1,4 @@
--- What the export returns (`export-returns`): 13, 33 or 45, or 256 and one of 1 to 6; 256 and 9 just where the output is
+-- What the export returns (`export-returns`): 13, 37 or 53, or 256 and one of 1 to 6; 256 and 9 just where the output is
 -- too short, 256 and 10 just where it is not and the input is not in order; and the touches that it writes.
 -- Assumes nothing.
 use Prim.Native.Nat.{ℕ, zero, suc, _+_, _≤_, _<_}
@@ -160,7 +160,7 @@ test-listed : (t : Touch) → Listed (length (touch-bytes t))
 test-listed t =
     rw (result-bytes t)
     (either Listed (eqb (t .count) 0) 13 _ (at-place export-numbers 0 (omega arith))
-    (either Listed (eqb (t .count) 1) 33 45 (at-place export-numbers 1 (omega arith))
+    (either Listed (eqb (t .count) 1) 37 53 (at-place export-numbers 1 (omega arith))
     (at-place export-numbers 2 (omega arith))))
 
 -- ---- what is returned where the output has room and the input is in order: neither 9 nor 10

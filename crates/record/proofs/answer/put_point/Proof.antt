@@ -1,7 +1,8 @@
--- The point, then its separation. Assumes nothing.
+-- The point, its separation and its age, each behind the last. Assumes nothing.
 use mathlib.Core.Path.{refl}
+use mathlib.Core.List.{_++_}
 use Rattle.algebra.proofs.Buffer.{over-next}
-use Rattle.lines.specs.Fields.{vector-bytes, float-bytes}
+use Rattle.lines.specs.Fields.{number-bytes, vector-bytes, float-bytes}
 use Rattle.record_definitions.specs.Answer.{point-bytes}
 use borrow.Author.Needs.{needs}
 use Rattle.record.proofs.answer.put_point.Statement.{statement}
@@ -22,19 +23,35 @@ part-put-float-end c = search needs
 put-float-requires : tie.Need-put-float-requires
 put-float-requires c κs = search needs
 
+sub-put-number : tie.Need-sub-put-number
+sub-put-number c = search needs
+
+part-put-number-start : tie.Need-part-put-number-start
+part-put-number-start c = search needs
+
+part-put-number-end : tie.Need-part-put-number-end
+part-put-number-end c = search needs
+
+put-number-requires : tie.Need-put-number-requires
+put-number-requires c κs = search needs
+
 same-length : tie.Need-same-length
 same-length c = search needs
 
 returns : tie.Need-returns
 unfolding point-bytes
 returns c =
-    let put-float′ = c .before .before .put-float in
-    let put-vector′ = c .before .before .before .before .before .before .put-vector in
-    let at-args = c .before .before .before .before .before .before .before .before .before in
-    let args′ = at-args .args in
+    let put-number′ = c .before .before .put-number in
+    let put-float′ = c .before .before .before .before .before .before .put-float in
+    let before-put-vector = c .before .before .before .before .before .before .before .before .before in
+    let put-vector′ = before-put-vector .before .put-vector in
+    let args′ = before-put-vector .before .before .before .before .args in
     let p = args′ .p in
-    over-next (vector-bytes (p .p)) (float-bytes (p .separation)) (args′ .out .now) _ _ 8 refl
-    (put-vector′ .ensures) (put-float′ .ensures)
+    let old = args′ .out .now in
+    let separation = over-next (vector-bytes (p .p)) (float-bytes (p .separation)) old _ _ 8 refl
+    (put-vector′ .ensures) (put-float′ .ensures) in
+    over-next (vector-bytes (p .p) ++ float-bytes (p .separation)) (number-bytes (p .age)) old _ _ 12 refl separation
+    (put-number′ .ensures)
 
 pub put-point-spec : {M : Type 1} → statement M
 put-point-spec =
@@ -45,5 +62,9 @@ put-point-spec =
     part-put-float-start
     part-put-float-end
     put-float-requires
+    sub-put-number
+    part-put-number-start
+    part-put-number-end
+    put-number-requires
     same-length
     returns)

@@ -98,7 +98,7 @@ returns-3 c =
     (put-vector′ .ensures) in
     let first = over-next (with-normal t) (point-bytes (t .first)) old _ _ 21 (with-normal-length t) normal
     (put-point′ .ensures) in
-    let second = over-next (with-first t) (point-bytes (t .second)) old _ _ 33 (with-first-length t) first
+    let second = over-next (with-first t) (point-bytes (t .second)) old _ _ 37 (with-first-length t) first
     (put-point2′ .ensures) in
     (two-points-put t old _ (if1′ .left) (if2′ .left) second, omega arith)
 
