@@ -1,5 +1,5 @@
 -- The bytes of an answer: 1, 2, 13, 37 or 53; the characters of its lines; and where a test's answer has its number of
--- points and its touches. Assumes nothing.
+-- points, its touches and its ages. Assumes nothing.
 use Prim.Native.Nat.{ℕ, _*_, _≤_}
 use mathlib.Core.Path.{_≡_, refl}
 use mathlib.Core.Bool.{Bool, true, false, cond}
@@ -7,6 +7,7 @@ use mathlib.Core.List.{List, [], _∷_, _++_}
 use native.Mathlib.Omega.{arith}
 use lib.Dec.{eqb}
 use lib.ListN.{length, take, drop, length-append, length-take}
+use borrow.Author.Tests.{ne-eqb}
 use Rattle.lines.specs.Fields.{byte-at, number-bytes}
 use Rattle.lines.specs.Hex.{hex, line-feed, line-of}
 use Rattle.lines.proofs.Writing.{length-hex}
@@ -84,3 +85,16 @@ module _ (t : Touch) (rest : List ℕ) where
     where
       Good : List ℕ → Type 0
       Good l = take 4 (drop 9 (l ++ rest)) ≡ number-bytes (t .touches)
+
+  module _ (some : t .count ≡ 0 → ⊥) where
+    pub first-age-bytes : take 4 (drop 33 (touch-bytes t ++ rest)) ≡ number-bytes (t .first .age)
+    unfolding touch-bytes head-bytes point-bytes
+    first-age-bytes = rw (ne-eqb (t .count) 0 some) (either Good (eqb (t .count) 1) _ _ refl refl)
+      where
+        Good : List ℕ → Type 0
+        Good l = take 4 (drop 33 (l ++ rest)) ≡ number-bytes (t .first .age)
+
+    pub second-age-bytes : (t .count ≡ 1 → ⊥)
+        → take 4 (drop 49 (touch-bytes t ++ rest)) ≡ number-bytes (t .second .age)
+    unfolding touch-bytes head-bytes point-bytes
+    second-age-bytes more = rw (ne-eqb (t .count) 0 some, ne-eqb (t .count) 1 more) refl

@@ -1,6 +1,6 @@
 -- The first test of a pair after new shapes: accepted frames before it are no tests, so the pair stays fresh
--- (`accepted-keeps-fresh`), and the test counts one touch where there are points, else none (`first-counted`).
--- Assumes nothing.
+-- (`accepted-keeps-fresh`), and the test counts one touch where there are points, else none, and its points are 0 old
+-- (`first-test`). Assumes nothing.
 use Prim.Native.Nat.{ℕ, _≤_, _<_}
 use mathlib.Core.Path.{_≡_, refl, sym, _∙_, ap, subst}
 use mathlib.Core.Bool.{Bool, true, false, cond, _&&_, _||_}
@@ -45,23 +45,32 @@ one-or-none now counted rulebook =
     (λ none. rw none (rulebook .apart (eqb-true now 0 none)))
     (λ some. rw some (rulebook .begins refl (let not-none = eqb-false now 0 some in omega arith)))
 
+-- what a first test prints
+pub record FirstResult (t : Touch) : Type 0 where
+  pub counted : t .touches ≡ cond (eqb (t .count) 0) 0 1
+  pub first-age : t .first .age ≡ 0
+  pub second-age : t .second .age ≡ 0
+
 -- for each piece that the first body has
-first-count : (w : World) (frame : List ℕ) (t : Touch) → said-of-frame w frame .answer ≡ Tested t → (i : ℕ)
+first-of-piece : (w : World) (frame : List ℕ) (t : Touch) → said-of-frame w frame .answer ≡ Tested t → (i : ℕ)
     → i < pieces-of (body-at w (byte-at frame 1)) → Remembers (byte-at frame 1) (byte-at frame 2) i w []
-    → result-of (said-of-frame w frame) i .touches ≡ cond (eqb (result-of (said-of-frame w frame) i .count) 0) 0 1
+    → FirstResult (result-of (said-of-frame w frame) i)
 unfolding touches-begun
-first-count w frame t is i within fresh =
-    one-or-none _ (result-of (said-of-frame w frame) i .touches)
-    (test-printed (byte-at frame 1) (byte-at frame 2) i w [] fresh frame t is refl refl within .rulebook)
-    ∙ ap (λ (n : ℕ). cond (eqb n 0) 0 1) (sym (points-printed w frame t is i within .0))
+first-of-piece w frame t is i within fresh =
+    let next = test-printed (byte-at frame 1) (byte-at frame 2) i w [] fresh frame t is refl refl within in
+    record {
+      counted = one-or-none _ (result-of (said-of-frame w frame) i .touches) (next .rulebook)
+          ∙ ap (λ (n : ℕ). cond (eqb n 0) 0 1) (sym (points-printed w frame t is i within .0));
+      first-age = omega (arith, next .first-age .at-most);
+      second-age = omega (arith, next .second-age .at-most);
+    }
 
 -- and so for a body that is its own only piece
 first-result : (said : Said) (t : Touch) → said .answer ≡ Tested t → result-of said 0 ≡ t
 first-result said t is = rw is refl
 
-pub first-counted : (w : World) (frame : List ℕ) (t : Touch) → said-of-frame w frame .answer ≡ Tested t
-    → Remembers (byte-at frame 1) (byte-at frame 2) 0 w [] → t .touches ≡ cond (eqb (t .count) 0) 0 1
-first-counted w frame t is fresh =
+pub first-test : (w : World) (frame : List ℕ) (t : Touch) → said-of-frame w frame .answer ≡ Tested t
+    → Remembers (byte-at frame 1) (byte-at frame 2) 0 w [] → FirstResult t
+first-test w frame t is fresh =
     let some = some-piece (body-at w (byte-at frame 1)) (fresh .sound .each (byte-at frame 1)) .0 in
-    subst (λ (u : Touch). u .touches ≡ cond (eqb (u .count) 0) 0 1) (first-result (said-of-frame w frame) t is)
-    (first-count w frame t is 0 some fresh)
+    subst FirstResult (first-result (said-of-frame w frame) t is) (first-of-piece w frame t is 0 some fresh)

@@ -22,16 +22,21 @@ test-size points = cond (eqb points 0) 13 (cond (eqb points 1) 37 53)
 abbrev pub export-numbers : List ℕ
 export-numbers = 13 ∷ 37 ∷ 53 ∷ map (_+_ refusal-base) (1 ∷ 2 ∷ 3 ∷ 4 ∷ 5 ∷ 6 ∷ 9 ∷ 10 ∷ [])
 
+-- an answer that was written, as this output has it, with this number of bytes
+pub record Written (number : ℕ) (output : List ℕ) : Type 0 where
+  -- the number tells how many points there are, which is the fourth byte
+  pub sized : number ≡ test-size (byte-at output 3)
+  -- the touches, behind the states, are one where there are points
+  pub counted : take 4 (drop 9 output) ≡ number-bytes (cond (eqb (byte-at output 3) 0) 0 1)
+  -- each age, behind the point's separation, is 0: nothing is kept between calls
+  pub first-age : 0 < byte-at output 3 → take 4 (drop 33 output) ≡ number-bytes 0
+  pub second-age : 1 < byte-at output 3 → take 4 (drop 49 output) ≡ number-bytes 0
+
 pub record ExportReturns (input out : List ℕ) : Type 0 where
   -- one of these and no other
   pub listed : List·Memᴰ (export-number input out) export-numbers
-  -- where it is no refusal it tells the number of points, which is the fourth byte of the answer
-  pub sized : export-number input out < refusal-base
-      → export-number input out ≡ test-size (byte-at (export-output input out) 3)
-  -- and the touches that it wrote, behind the states, are one where there are points
-  pub counted : export-number input out < refusal-base
-      → take 4 (drop 9 (export-output input out))
-      ≡ number-bytes (cond (eqb (byte-at (export-output input out) 3) 0) 0 1)
+  -- where it is no refusal
+  pub written : export-number input out < refusal-base → Written (export-number input out) (export-output input out)
   -- 9 where the output has not room for the longest test line, and only there
   pub nine : export-number input out ≡ refusal-base + 9 ↔ length out < longest-answer
   -- 10 where it has and the input is not the four frames, and only there

@@ -1,5 +1,5 @@
 -- What the export returns (`export-returns`): 13, 37 or 53, or 256 and one of 1 to 6; 256 and 9 just where the output is
--- too short, 256 and 10 just where it is not and the input is not in order; and the touches that it writes.
+-- too short, 256 and 10 just where it is not and the input is not in order; and the touches and ages that it writes.
 -- Assumes nothing.
 use Prim.Native.Nat.{ℕ, zero, suc, _+_, _≤_, _<_}
 use mathlib.Core.Path.{_≡_, refl, sym, _∙_, ap}
@@ -35,15 +35,15 @@ use Rattle.record_definitions.specs.Touch.{meet-outline, meet, skin, world-poin
 use Rattle.record_definitions.specs.Frame.{listed}
 use Rattle.record_definitions.specs.Answer.{touch-bytes, answer-bytes, longest-answer, said-alone}
 use Rattle.record_definitions.specs.Export.{test-frame, in-order, refusal-base, left-in, export-number, export-output}
-use Rattle.record_definitions.specs.ExportLaws.{test-size, export-numbers, ExportReturns}
-use Rattle.record_definitions.proofs.AnswerLengths.{points-byte, touches-bytes}
+use Rattle.record_definitions.specs.ExportLaws.{test-size, export-numbers, Written, ExportReturns}
+use Rattle.record_definitions.proofs.AnswerLengths.{points-byte, touches-bytes, first-age-bytes, second-age-bytes}
 use Rattle.record_definitions.proofs.Exported.{too-short, out-of-order, was-refused}
 use Rattle.record_definitions.proofs.SoundTests.{NotOfHost, test-fine}
 use Rattle.record_definitions.proofs.Theorem.{result-bytes}
 use Rattle.record_definitions.proofs.AnswerLengths.{said-within}
 use Rattle.record_definitions.proofs.HeatTests.{Remembers}
 use Rattle.record_definitions.proofs.HeatLaw.{fresh-remembered}
-use Rattle.record_definitions.proofs.FirstTests.{accepted-keeps-fresh, first-counted}
+use Rattle.record_definitions.proofs.FirstTests.{accepted-keeps-fresh, FirstResult, first-test}
 use Rattle.record_definitions.proofs.ExportRuns.{answered, turned-down}
 use Rattle.record_definitions.proofs.ExportOutcome.{export-outcome}
 use Rattle.record_definitions.proofs.ExportTheorem.{said-last, Ends, returned-tested, returned-refused}
@@ -121,20 +121,17 @@ test-refused w kept a-is b-is nonzero =
     (test-fine a b (kept .0 .sound .each 0) (kept .0 .sound .each 1) 0 1 none (both-listed a b a-is b-is))
     (test-not-nine a b (kept .1 .each 0) (kept .1 .each 1) 0 1 none) (of-test a b a-is b-is none)
 
--- and the test counts one touch or none
-OneOrNone : Touch → Type 0
-OneOrNone t = t .touches ≡ cond (eqb (t .count) 0) 0 1
-
-outcome : (input : List ℕ) → in-order input ≡ true → Ends OneOrNone OneToSix input
-unfolding OneOrNone OneToSix Kept
+-- and the test is the first of its pair
+outcome : (input : List ℕ) → in-order input ≡ true → Ends FirstResult OneToSix input
+unfolding OneToSix Kept
 outcome input ordered =
-    export-outcome OneOrNone OneToSix Kept (λ w kept. kept .0 .sound)
+    export-outcome FirstResult OneToSix Kept (λ w kept. kept .0 .sound)
     (λ w frame taken kept. (
       accepted-keeps-fresh 0 1 0 (omega arith) (omega arith) w (kept .0) frame taken,
       frame-keeps-capped w frame (kept .1),
     ))
     (fresh-remembered 0 1 0 (omega arith) (omega arith), fresh-capped)
-    (λ w kept t is. first-counted w test-frame t is (kept .0)) (λ n nonzero few. (omega arith, omega arith))
+    (λ w kept t is. first-test w test-frame t is (kept .0)) (λ n nonzero few. (omega arith, omega arith))
     (omega arith, omega arith) test-refused input ordered
 
 -- ---- the list of numbers
@@ -166,8 +163,7 @@ test-listed t =
 -- ---- what is returned where the output has room and the input is in order: neither 9 nor 10
 record Ran (n : ℕ) (output : List ℕ) : Type 0 where
   is-listed : Listed n
-  is-sized : n < refusal-base → n ≡ test-size (byte-at output 3)
-  is-counted : n < refusal-base → take 4 (drop 9 output) ≡ number-bytes (cond (eqb (byte-at output 3) 0) 0 1)
+  is-written : n < refusal-base → Written n output
   below : n ≤ refusal-base + 6
 
 left-by-test : (said : Said) (out : List ℕ) (t : Touch) → said .answer ≡ Tested t
@@ -176,27 +172,34 @@ left-by-test said out t is = rw is refl
 
 ran : (input out : List ℕ) → longest-answer ≤ length out → in-order input ≡ true
     → Ran (export-number input out) (export-output input out)
-unfolding OneOrNone OneToSix
+unfolding OneToSix
 ran input out room ordered = by-outcome (outcome input ordered)
   where
-    by-outcome : Ends OneOrNone OneToSix input → Ran (export-number input out) (export-output input out)
-    by-outcome (answered t is one-or-none printed) =
+    by-outcome : Ends FirstResult OneToSix input → Ran (export-number input out) (export-output input out)
+    by-outcome (answered t is first printed) =
         let said = said-last input in
         let number : export-number input out ≡ length (touch-bytes t) =
         number-is input out room ordered ∙ returned-tested said t is
         ∙ ap (λ (answer : Answer). length (answer-bytes answer)) is in
         let few : length (touch-bytes t) ≤ longest-answer =
         said-within (said-alone (Tested t)) in
-        let left : export-output input out ≡ touch-bytes t ++ drop (length (touch-bytes t)) out =
+        let rest = drop (length (touch-bytes t)) out in
+        let left : export-output input out ≡ touch-bytes t ++ rest =
         output-is input out room ordered ∙ left-by-test said out t is in
         let points : byte-at (export-output input out) 3 ≡ t .count =
-        ap (λ (l : List ℕ). byte-at l 3) left ∙ points-byte t (drop (length (touch-bytes t)) out) in
+        ap (λ (l : List ℕ). byte-at l 3) left ∙ points-byte t rest in
         record {
           is-listed = rw number (test-listed t);
-          is-sized = λ written. number ∙ result-bytes t ∙ ap test-size (sym points);
-          is-counted = λ written. ap (λ (l : List ℕ). take 4 (drop 9 l)) left
-              ∙ touches-bytes t (drop (length (touch-bytes t)) out)
-              ∙ ap number-bytes (one-or-none ∙ ap (λ (n : ℕ). cond (eqb n 0) 0 1) (sym points));
+          is-written = λ no-refusal. record {
+            sized = number ∙ result-bytes t ∙ ap test-size (sym points);
+            counted = ap (λ (l : List ℕ). take 4 (drop 9 l)) left ∙ touches-bytes t rest
+                ∙ ap number-bytes (first .counted ∙ ap (λ (n : ℕ). cond (eqb n 0) 0 1) (sym points));
+            first-age = λ some. ap (λ (l : List ℕ). take 4 (drop 33 l)) left
+                ∙ first-age-bytes t rest (λ none. omega (arith, points)) ∙ ap number-bytes (first .first-age);
+            second-age = λ more. ap (λ (l : List ℕ). take 4 (drop 49 l)) left
+                ∙ second-age-bytes t rest (λ none. omega (arith, points)) (λ one. omega (arith, points))
+                ∙ ap number-bytes (first .second-age);
+          };
           below = omega (arith, number, few);
         }
     by-outcome (turned-down n is nonzero good first) =
@@ -204,8 +207,7 @@ ran input out room ordered = by-outcome (outcome input ordered)
         number-is input out room ordered ∙ returned-refused (said-last input) n is nonzero in
         record {
           is-listed = rw number (refusal-listed n (good .0) (good .1));
-          is-sized = λ written. absurd (omega (arith, number));
-          is-counted = λ written. absurd (omega (arith, number));
+          is-written = λ no-refusal. absurd (omega (arith, number));
           below = omega (arith, number, good .1);
         }
 
@@ -218,8 +220,7 @@ export-returns input out = by-room (less-or-not (length out) longest-answer) (in
         let number : refusal-base + 9 ≡ export-number input out = too-short input out short .0 in
         record {
           listed = rw (← number) (at-place export-numbers 9 (omega arith));
-          sized = λ written. absurd (omega (arith, number));
-          counted = λ written. absurd (omega (arith, number));
+          written = λ no-refusal. absurd (omega (arith, number));
           nine = (λ same. short, λ less. sym number);
           ten = (λ same. absurd (omega arith), λ both. absurd (omega (arith, both .0)));
         }
@@ -228,8 +229,7 @@ export-returns input out = by-room (less-or-not (length out) longest-answer) (in
         was-refused input out room _ (out-of-order input is) 10 refl (λ e. absurd (omega arith)) .0 in
         record {
           listed = rw (← number) (at-place export-numbers 10 (omega arith));
-          sized = λ written. absurd (omega (arith, number));
-          counted = λ written. absurd (omega (arith, number));
+          written = λ no-refusal. absurd (omega (arith, number));
           nine = (λ same. absurd (omega arith), λ less. absurd (omega arith));
           ten = (λ same. (room, is), λ both. sym number);
         }
@@ -237,8 +237,7 @@ export-returns input out = by-room (less-or-not (length out) longest-answer) (in
         let done = ran input out room is in
         record {
           listed = done .is-listed;
-          sized = done .is-sized;
-          counted = done .is-counted;
+          written = done .is-written;
           nine = (λ same. absurd (omega (arith, done .below)), λ less. absurd (omega arith));
           ten = (λ same. absurd (omega (arith, done .below)), λ both. absurd (false≢true (sym (both .1) ∙ is)));
         }
