@@ -17,7 +17,8 @@ use Rattle.contact_definitions.specs.declared.b2_collision.B2manifoldPoint.{B2m
 use Rattle.contact_definitions.specs.Manifold.{default-id, default-point, manifold-point}
 use Rattle.contact_definitions.specs.PointStates.{same-id, ids-in}
 use Rattle.record_definitions.specs.declared.world.Kept.{Kept}
-use Rattle.record_definitions.specs.Ages.{one-older, age-after, next-age}
+use Rattle.record_definitions.specs.World.{one-more}
+use Rattle.record_definitions.specs.Ages.{age-after, next-age}
 
 module _ (kept : Kept) (id : B2contactId) where
   pub no-point : kept .ids .count ≡ 0 → 0 ≡ next-age kept id
@@ -26,7 +27,7 @@ module _ (kept : Kept) (id : B2contactId) where
 
   module _ (some : kept .ids .count ≡ 0 → ⊥) where
     pub as-first : (r : Bool) → r ≡ same-id (kept .ids .first) id → r ≡ true
-        → one-older (kept .ages .first) ≡ next-age kept id
+        → one-more (kept .ages .first) ≡ next-age kept id
     unfolding next-age ids-in age-after
     as-first r r-is same =
         by-test (eqb (kept .ids .count) 1)
@@ -41,7 +42,7 @@ module _ (kept : Kept) (id : B2contactId) where
 
       module _ (more : kept .ids .count ≡ 1 → ⊥) where
         pub as-second : (s : Bool) → s ≡ same-id (kept .ids .second) id → s ≡ true
-            → one-older (kept .ages .second) ≡ next-age kept id
+            → one-more (kept .ages .second) ≡ next-age kept id
         unfolding next-age ids-in age-after
         as-second s s-is same =
             simp (

@@ -1,19 +1,13 @@
 // The ages of a contact's points: found from those of the last contact, by id, and set in the manifold.
 ghost use mathlib.Core.Path.{_≡_};
 ghost use Rattle.record_definitions.specs.Ages as definitions;
+use crate::counts;
 use contact_definitions::b2_collision::B2contactId;
 use contact_definitions::b2_collision::B2manifold;
 use contact_definitions::b2_collision::CountedIds;
 use contacts::b2_collision;
 use record_definitions::world::Ages;
 use record_definitions::world::Kept;
-
-// The largest age holds.
-fn one_older(age: u32) -> u32
-    ensures { λ r. ⌜ r ≡ definitions.one-older age ⌝ }
-{
-    if age == u32::MAX { age } else { age + 1 }
-}
 
 // One more than the age of the first old point that has this id; 0 where none has.
 fn next_age(kept: Kept, id: B2contactId) -> u32
@@ -25,13 +19,13 @@ fn next_age(kept: Kept, id: B2contactId) -> u32
         return 0;
     }
     if b2_collision::same_id(old.first, id) {
-        return one_older(ages.first);
+        return counts::one_more(ages.first);
     }
     if old.count == 1 {
         return 0;
     }
     if b2_collision::same_id(old.second, id) {
-        return one_older(ages.second);
+        return counts::one_more(ages.second);
     }
     0
 }

@@ -1,7 +1,8 @@
 // Frames: what any frame makes of the bodies and the pair that it names, and what is said of it.
 
-// Bodies, their pieces, pairs and the world; and what a frame changes.
+// Bodies, their pieces, pairs and the world; counts; and what a frame changes.
 pub mod changes;
+pub mod counts;
 pub mod pieces;
 pub mod world;
 

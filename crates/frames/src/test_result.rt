@@ -2,15 +2,13 @@
 ghost use mathlib.Core.Path.{_≡_};
 ghost use Rattle.contact_definitions.specs.Manifold.{kind-number};
 ghost use Rattle.record_definitions.specs.Touch as results;
+use crate::counts;
 use contact_definitions::b2_collision::B2manifold;
 use contact_definitions::b2_collision::B2manifoldType;
 use contact_definitions::b2_collision::B2worldManifold;
 use contact_definitions::b2_collision::PointStates;
 use record_definitions::touch::Touch;
 use record_definitions::touch::TouchPoint;
-
-// A touch count holds here.
-const LARGEST_COUNT: u32 = 4294967295;
 
 // By the number of points before and now: one more touch where a pair that had no point gets one.
 pub fn touches_after(touches: u32, before: u8, now: usize) -> u32
@@ -22,10 +20,7 @@ pub fn touches_after(touches: u32, before: u8, now: usize) -> u32
     if now == 0 {
         return touches;
     }
-    if touches == LARGEST_COUNT {
-        return touches;
-    }
-    touches + 1
+    counts::one_more(touches)
 }
 
 // 00 circles, 01 face A, 02 face B.

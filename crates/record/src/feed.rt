@@ -10,6 +10,7 @@ ghost use Rattle.record_definitions.specs.Reading.{kept-length, with-character,
 ghost use Rattle.record.specs.Decoding.{Named};
 use crate::answer;
 use crate::answer::LONGEST_SAID;
+use frames::counts;
 use frames::frame;
 use frames::frame::TEST;
 use frames::world;
@@ -73,7 +74,7 @@ fn decode(line: &[u8], bytes: &mut [u8]) -> Names
 fn next_step(steps: u32) -> u32
     ensures { λ r. ⌜ r ≡ next-step steps ⌝ }
 {
-    if steps == u32::MAX { steps } else { steps + 1 }
+    counts::one_more(steps)
 }
 
 // A count of the characters kept; one past the row says the whole row.

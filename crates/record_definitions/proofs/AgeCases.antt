@@ -10,7 +10,8 @@ use Rattle.contact_definitions.specs.declared.b2_collision.B2manifold.{B2manifo
 use Rattle.contact_definitions.specs.Manifold.{contact-id, default-id, default-manifold}
 use Rattle.contact_definitions.specs.PointStates.{same-id, id-among, ids-of, ids-in, point-state, states-of-ids}
 use Rattle.contact_definitions.proofs.StateCases.{counting}
-use Rattle.record_definitions.specs.Ages.{largest-age, age-after, next-age, ages-of, with-ages}
+use Rattle.record_definitions.specs.World.{largest-count}
+use Rattle.record_definitions.specs.Ages.{age-after, next-age, ages-of, with-ages}
 use Rattle.record_definitions.specs.Touch.{touches-after, states-of, touch-of, tested-as}
 use Rattle.record_definitions.specs.Answer.{point-bytes}
 use Rattle.record_definitions.proofs.TableCases.{one-point, tested-after}
@@ -43,9 +44,8 @@ pub record AgeCases : Type 0 where
   pub other-numbers : map (λ (id : B2contactId). age-after this (id ∷ []) (3 ∷ []))
       (contact-id 1 1 1 0 ∷ contact-id 0 0 1 0 ∷ contact-id 0 1 0 0 ∷ contact-id 0 1 1 1 ∷ []) ≡ 0 ∷ 0 ∷ 0 ∷ 0 ∷ []
   -- the age holds at 2^32 - 1
-  pub largest : largest-age ≡ 0xffff_ffff
-  pub last-but-one : age-after this (this ∷ []) ((largest-age - 1) ∷ []) ≡ largest-age
-  pub held : age-after this (this ∷ []) (largest-age ∷ []) ≡ largest-age
+  pub last-but-one : age-after this (this ∷ []) ((largest-count - 1) ∷ []) ≡ largest-count
+  pub held : age-after this (this ∷ []) (largest-count ∷ []) ≡ largest-count
   -- both persist; they change places; one is new; both share an id; the second was not counted
   pub both-persist : ages-printed (both this other) (both this other) ≡ 4 ∷ 8 ∷ 4 ∷ 8 ∷ []
   pub places-changed : ages-printed (both this other) (both other this) ≡ 8 ∷ 4 ∷ 8 ∷ 4 ∷ []
@@ -69,7 +69,6 @@ age-cases = record {
   first-of-two = refl;
   none-before = refl;
   other-numbers = refl;
-  largest = refl;
   last-but-one = refl;
   held = refl;
   both-persist = refl;

@@ -17,7 +17,8 @@ use Rattle.contact_definitions.specs.PointStates.{state-number, same-id, id-amo
 use Rattle.contact_definitions.proofs.Counts.{either}
 use Rattle.contact_definitions.proofs.Ids.{same-ids-are-one, id-is-itself}
 use Rattle.record_definitions.specs.declared.world.Kept.{Kept}
-use Rattle.record_definitions.specs.Ages.{largest-age, one-older, ages-in, age-after, next-age}
+use Rattle.record_definitions.specs.World.{largest-count, one-more}
+use Rattle.record_definitions.specs.Ages.{ages-in, age-after, next-age}
 use Rattle.record_definitions.specs.AgeLaws.{FirstMatch, PointAge}
 
 -- ---- a point that was not there
@@ -56,7 +57,7 @@ module _ (id : B2contactId) where
 
   -- some age at each place
   matched : (ids : List B2contactId) (ages : List ℕ) → length ids ≤ length ages → id-among id ids ≡ true
-      → (k : ℕ) × FirstMatch id ids k × (age-after id ids ages ≡ one-older (getD ages k 0))
+      → (k : ℕ) × FirstMatch id ids k × (age-after id ids ages ≡ one-more (getD ages k 0))
   unfolding id-among age-after
   matched [] ages fits there = absurd (false≢true there)
   matched (old ∷ others) [] fits there = absurd (omega arith)
@@ -67,7 +68,7 @@ module _ (id : B2contactId) where
       (suc (later .0), match-later old others (later .0) other (later .1), rw other (later .2)))
 
 -- ---- an age is held
-pub age-held : (id : B2contactId) (ids : List B2contactId) (ages : List ℕ) → age-after id ids ages ≤ largest-age
+pub age-held : (id : B2contactId) (ids : List B2contactId) (ages : List ℕ) → age-after id ids ages ≤ largest-count
 unfolding age-after
 age-held id [] ages = omega arith
 age-held id (old ∷ others) [] = omega arith

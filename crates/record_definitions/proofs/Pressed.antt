@@ -17,7 +17,8 @@ use Rattle.contact_definitions.proofs.Counts.{either}
 use Rattle.contact_definitions.proofs.Ids.{same-ids-are-one}
 use Rattle.record_definitions.specs.declared.world.Ages.{Ages}
 use Rattle.record_definitions.specs.declared.world.Kept.{Kept}
-use Rattle.record_definitions.specs.Ages.{largest-age, one-older, ages-in, age-after, next-age, ages-of}
+use Rattle.record_definitions.specs.World.{largest-count, one-more}
+use Rattle.record_definitions.specs.Ages.{ages-in, age-after, next-age, ages-of}
 use Rattle.record_definitions.specs.AgeLaws.{there-at, tests-in-a-row, age-by, PressedFor}
 
 -- ---- the row
@@ -54,13 +55,13 @@ module _ (id : B2contactId) where
 -- ---- one more test
 -- where each old point of an id x has age f x
 module _ (f : B2contactId → ℕ) (id : B2contactId) where
-  one-more : (ids : List B2contactId) → age-after id ids (map f ids) ≡ cond (id-among id ids) (one-older (f id)) 0
+  all-older : (ids : List B2contactId) → age-after id ids (map f ids) ≡ cond (id-among id ids) (one-more (f id)) 0
   unfolding age-after id-among
-  one-more [] = refl
-  one-more (old ∷ others) =
+  all-older [] = refl
+  all-older (old ∷ others) =
       by-test (same-id old id)
       (λ same. rw (same, same-ids-are-one old id same) refl)
-      (λ other. rw other (one-more others))
+      (λ other. rw other (all-older others))
 
   by-place : (ids : CountedIds)
       → age-after id (ids-in ids) (f (ids .first) ∷ f (ids .second) ∷ [])
@@ -84,5 +85,5 @@ pub row-goes-on : (old new : Kept) (earlier : List B2manifold)
 unfolding next-age ages-of tests-in-a-row
 row-goes-on old new earlier before contact ids-are ages-are counted id =
     ap₂ (λ (ids : CountedIds) (ages : Ages). age-after id (ids-in ids) (ages-in ages)) ids-are ages-are
-    ∙ by-place (next-age old) id (ids-of contact) ∙ one-more (next-age old) id (ids-in (ids-of contact))
-    ∙ rw (before id, counted) (held-row (id-among id (counted-ids contact)) (tests-in-a-row id earlier) largest-age)
+    ∙ by-place (next-age old) id (ids-of contact) ∙ all-older (next-age old) id (ids-in (ids-of contact))
+    ∙ rw (before id, counted) (held-row (id-among id (counted-ids contact)) (tests-in-a-row id earlier) largest-count)

@@ -8,7 +8,8 @@ use native.Mathlib.Omega.{arith}
 use lib.Dec.{eqb, ltb}
 use borrow.Author.Tests.{eq-eqb, ne-eqb, lt-ltb, le-ltb, eqb-true, ltb-true}
 use Rattle.algebra.proofs.Booleans.{both, by-test}
-use Rattle.record_definitions.specs.Touch.{touch-begins, largest-count, touches-after}
+use Rattle.record_definitions.specs.World.{largest-count, one-more}
+use Rattle.record_definitions.specs.Touch.{touch-begins, touches-after}
 use Rattle.record_definitions.specs.Rulebook.{Rulebook}
 
 had-points : (before now : ℕ) → 0 < before → touch-begins before now ≡ false
@@ -18,9 +19,9 @@ has-none : (before now : ℕ) → now ≡ 0 → touch-begins before now ≡ fals
 has-none before now none = rw (le-ltb 0 now (omega arith)) (and-false (eqb before 0))
 
 module _ (touches before now : ℕ) where
-  one-more : before ≡ 0 → 0 < now → touches-after touches before now ≡ min (touches + 1) largest-count
+  one-begins : before ≡ 0 → 0 < now → touches-after touches before now ≡ one-more touches
   unfolding touches-after
-  one-more none some = simp (eq-eqb before 0 none, lt-ltb 0 now some)
+  one-begins none some = simp (eq-eqb before 0 none, lt-ltb 0 now some)
 
   no-more : touch-begins before now ≡ false → touches-after touches before now ≡ touches
   unfolding touches-after
@@ -35,7 +36,7 @@ module _ (touches before now : ℕ) where
 
   pub counted-by-rulebook : Rulebook before now touches (touches-after touches before now)
   counted-by-rulebook = record {
-    begins = one-more;
+    begins = one-begins;
     goes-on = λ some. no-more (had-points before now some);
     apart = λ none. no-more (has-none before now none);
     only-there = rises-there;

@@ -40,7 +40,7 @@ use Rattle.record_definitions.specs.Frame.{circle-at, wall-at, long-piec
 use Rattle.contact_definitions.specs.declared.b2_collision.B2manifold.{B2manifold}
 use Rattle.contact_definitions.specs.Manifold.{default-manifold}
 use Rattle.contact_definitions.specs.PointStates.{ids-of}
-use Rattle.record_definitions.specs.Touch.{largest-count}
+use Rattle.record_definitions.specs.World.{largest-count}
 use Rattle.record_definitions.proofs.Changes.{by-choice}
 use Rattle.record_definitions.proofs.FreshPairs.{get-same}
 

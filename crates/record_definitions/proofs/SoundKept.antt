@@ -26,7 +26,7 @@ use Rattle.record_definitions.specs.Frame.{wall-at, wall-change, place-c
 use Rattle.record_definitions.specs.Frame.{frame-length, chain-at, chain-refusal, chain-change, all-tests, keep}
 use Rattle.record_definitions.specs.Frame.{test-change, change-of-kind, change}
 use Rattle.record_definitions.specs.Touch.{tested, piece-tested, first-refusal, meet, tested-as}
-use Rattle.record_definitions.specs.Touch.{largest-count}
+use Rattle.record_definitions.specs.World.{largest-count}
 use Rattle.record_definitions.specs.OneFrame.{first-place, second-place, pairs-after, changed, change-in}
 use Rattle.record_definitions.specs.OneFrame.{after-frame}
 use Rattle.record_definitions.proofs.Placements.{place-cases, turn-cases}

@@ -15,7 +15,7 @@ use Rattle.record_definitions.specs.declared.touch.Touch.{Touch}
 use Rattle.record_definitions.specs.declared.frame.Answer.{Answer}
 use Rattle.record_definitions.specs.declared.frame.Answer.the-variants.{Accepted, Refused, Tested}
 use Rattle.record_definitions.specs.declared.frame.Said.{Said}
-use Rattle.record_definitions.specs.Touch.{largest-count}
+use Rattle.record_definitions.specs.World.{largest-count}
 use Rattle.record_definitions.specs.Answer.{head-bytes, touch-bytes, answer-bytes, said-bytes, touch-lines}
 use Rattle.record_definitions.specs.Answer.{said-line}
 use Rattle.record_definitions.specs.OneFrame.{after-frame, said-of-frame}

@@ -16,9 +16,9 @@ use Rattle.contact_definitions.specs.WorldManifold.{default-world-manifold}
 use Rattle.contact_definitions.proofs.StateCases.{counting}
 use Rattle.record_definitions.specs.declared.touch.TestAnswer.{TestAnswer}
 use Rattle.record_definitions.specs.World.{no-body, circle-kind, outline-kind, wall-kind, chain-kind}
-use Rattle.record_definitions.specs.World.{pair-place}
+use Rattle.record_definitions.specs.World.{largest-count, pair-place}
 use Rattle.record_definitions.specs.Ages.{age-after, next-age, ages-of, with-ages}
-use Rattle.record_definitions.specs.Touch.{states-of, largest-count, touches-after, shown-kind, touch-of}
+use Rattle.record_definitions.specs.Touch.{states-of, touches-after, shown-kind, touch-of}
 use Rattle.record_definitions.specs.Touch.{tested-as}
 use Rattle.record_definitions.specs.Frame.{frame-length, listed}
 use Rattle.record_definitions.specs.Answer.{longest-answer, longest-line, longest-said}

@@ -12,7 +12,8 @@ use Rattle.contact_definitions.specs.declared.b2_collision.B2pointState.the-var
 use Rattle.contact_definitions.specs.Manifold.{default-id, default-manifold}
 use Rattle.contact_definitions.specs.PointStates.{counted-ids, id-among, ids-in}
 use Rattle.record_definitions.specs.declared.world.Kept.{Kept}
-use Rattle.record_definitions.specs.Ages.{largest-age, one-older, ages-in}
+use Rattle.record_definitions.specs.World.{largest-count, one-more}
+use Rattle.record_definitions.specs.Ages.{ages-in}
 
 -- ---- at one test
 -- of some points' ids, in list order, the first that is this one stands at place k
@@ -27,9 +28,9 @@ pub record PointAge (old : Kept) (id : B2contactId) (state : B2pointState) (age 
   pub added : state ≡ B2AddState → age ≡ 0
   -- one that persists is one older than the first old point with its id
   pub persists : state ≡ B2PersistState
-      → (k : ℕ) × FirstMatch id (ids-in (old .ids)) k × (age ≡ one-older (getD (ages-in (old .ages)) k 0))
+      → (k : ℕ) × FirstMatch id (ids-in (old .ids)) k × (age ≡ one-more (getD (ages-in (old .ages)) k 0))
   -- the age is held
-  pub held : age ≤ largest-age
+  pub held : age ≤ largest-count
 
 -- ---- over a heat: contacts are those of a piece's tests, the latest first
 -- there was a point of this id at the latest of them (0), the one before (1), ..
@@ -44,14 +45,14 @@ tests-in-a-row id (contact ∷ earlier) =
 
 -- as far as 32 bits hold it
 abbrev pub age-by : B2contactId → List B2manifold → ℕ
-age-by id earlier = min (tests-in-a-row id earlier) largest-age
+age-by id earlier = min (tests-in-a-row id earlier) largest-count
 
 -- a point of this id that has this age at a test, after tests that met the earlier contacts
 pub record PressedFor (id : B2contactId) (earlier : List B2manifold) (age : ℕ) : Type 0 where
   -- its age is the number of tests in a row, up to the one before, at which there was a point of its id
   pub in-a-row : age ≡ age-by id earlier
   -- one that was there at each of the last n tests is n old at least
-  pub at-least : (n : ℕ) → ((k : ℕ) → k < n → there-at id earlier k ≡ true) → min n largest-age ≤ age
+  pub at-least : (n : ℕ) → ((k : ℕ) → k < n → there-at id earlier k ≡ true) → min n largest-count ≤ age
   -- one that was not there at the last test, or had no last test, is 0 old, wherever it was before
   pub anew : there-at id earlier 0 ≡ false → age ≡ 0
   -- none is older than there were tests

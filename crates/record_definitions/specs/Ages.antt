@@ -1,7 +1,7 @@
 -- Document 02, request 06: the age of a contact point, 32 bits. 0 when the point is added; when it persists, one more
 -- than that of the first point, in list order, that had its id in the last contact; held at the largest. The test frame
 -- sets it in the manifold, and nothing else does. Definitions only.
-use Prim.Native.Nat.{ℕ, _+_, _-_, _^_, min}
+use Prim.Native.Nat.{ℕ}
 use mathlib.Core.Bool.{cond}
 use mathlib.Core.List.{List, [], _∷_}
 use Rattle.contact_definitions.specs.declared.b2_collision.B2contactId.{B2contactId}
@@ -12,12 +12,7 @@ use Rattle.contact_definitions.specs.Manifold.{manifold-point}
 use Rattle.contact_definitions.specs.PointStates.{same-id, ids-in}
 use Rattle.record_definitions.specs.declared.world.Ages.{Ages}
 use Rattle.record_definitions.specs.declared.world.Kept.{Kept}
-
-abbrev pub largest-age : ℕ
-largest-age = 2 ^ 32 - 1
-
-abbrev pub one-older : ℕ → ℕ
-one-older age = min (age + 1) largest-age
+use Rattle.record_definitions.specs.World.{one-more}
 
 abbrev pub ages-in : Ages → List ℕ
 ages-in ages = ages .first ∷ ages .second ∷ []
@@ -26,7 +21,7 @@ ages-in ages = ages .first ∷ ages .second ∷ []
 unfoldable pub age-after : B2contactId → List B2contactId → List ℕ → ℕ
 age-after id [] ages = 0
 age-after id (old ∷ others) [] = 0
-age-after id (old ∷ others) (age ∷ ages) = cond (same-id old id) (one-older age) (age-after id others ages)
+age-after id (old ∷ others) (age ∷ ages) = cond (same-id old id) (one-more age) (age-after id others ages)
 
 -- the age that a point of this id has at the next test, and those of both points of its contact, by their ids
 unfoldable pub next-age : Kept → B2contactId → ℕ

@@ -23,9 +23,9 @@ use Rattle.record_definitions.specs.declared.frame.Answer.the-variants.{
 use Rattle.record_definitions.specs.declared.frame.Said.{Said}
 use Rattle.record_definitions.specs.declared.server.Server.{Server}
 use Rattle.record_definitions.specs.World.{circle-kind, outline-kind, wall-kind, chain-kind, pieces-of}
-use Rattle.record_definitions.specs.World.{piece-of, kept-of, body-at, pair-at}
+use Rattle.record_definitions.specs.World.{piece-of, largest-count, kept-of, body-at, pair-at}
 use Rattle.record_definitions.specs.Ages.{next-age}
-use Rattle.record_definitions.specs.Touch.{meet, touch-begins, largest-count}
+use Rattle.record_definitions.specs.Touch.{meet, touch-begins}
 use Rattle.record_definitions.specs.Rulebook.{Rulebook}
 use Rattle.record_definitions.specs.AgeLaws.{age-by, PressedFor}
 use Rattle.record_definitions.specs.Answer.{result-of}

@@ -1,22 +1,21 @@
 -- Document 01, "The touch record", and document 02, request 05: the whole state and one line. A line without a
 -- character ends a step; any other is a frame, or malformed. Definitions only.
-use Prim.Native.Nat.{ℕ, _+_, min}
+use Prim.Native.Nat.{ℕ}
 use mathlib.Core.List.{List, [], _∷_}
 use Rattle.lines.specs.Fields.{number-bytes}
 use Rattle.lines.specs.Hex.{frame-of, line-of}
 use Rattle.record_definitions.specs.declared.server.Server.{Server}
 use Rattle.record_definitions.specs.declared.frame.Said.{Said}
-use Rattle.record_definitions.specs.World.{fresh-world}
-use Rattle.record_definitions.specs.Touch.{largest-count}
+use Rattle.record_definitions.specs.World.{one-more, fresh-world}
 use Rattle.record_definitions.specs.Answer.{said-line}
 use Rattle.record_definitions.specs.OneFrame.{after-frame, said-of-frame}
 
--- ---- the step number, 32 bits as a pair's touches are: it starts at 0 and holds at its largest
+-- ---- the step number: it starts at 0 and holds at its largest
 abbrev pub fresh-server : Server
 fresh-server = record { world = fresh-world; steps = 0 }
 
 abbrev pub next-step : ℕ → ℕ
-next-step steps = min (steps + 1) largest-count
+next-step steps = one-more steps
 
 -- ---- a line. Which one is empty is told by the line, not by its frame: a malformed line says an empty frame too
 abbrev pub after-line : Server → List ℕ → Server

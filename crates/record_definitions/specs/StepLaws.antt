@@ -8,7 +8,7 @@ use lib.Dec.{eqb}
 use Rattle.lines.specs.Fields.{number-bytes}
 use Rattle.lines.specs.Hex.{frame-of, hex, line-of, line-feed}
 use Rattle.record_definitions.specs.declared.server.Server.{Server}
-use Rattle.record_definitions.specs.Touch.{largest-count}
+use Rattle.record_definitions.specs.World.{largest-count}
 use Rattle.record_definitions.specs.OneFrame.{after-frame, said-of-frame}
 use Rattle.record_definitions.specs.Server.{after-line, Framed, Stepped, reply-to}
 use Rattle.record_definitions.specs.Server.{step-bytes, reply-line, reached}

@@ -1,7 +1,7 @@
 -- Document 01, "The touch record", with document 02's requests 02, 03 and 06: a test of two bodies, a chain piece by
 -- piece. The contact call from a default manifold, the world points, the point states and the ages against the last
 -- contact that was kept, and the touches: one more where there was no point and now is one. Definitions only.
-use Prim.Native.Nat.{ℕ, zero, suc, _+_, _-_, _^_, min}
+use Prim.Native.Nat.{ℕ, zero, suc}
 use mathlib.Core.Bool.{Bool, cond, _&&_}
 use mathlib.Core.List.{List, [], _∷_}
 use lib.Dec.{eqb, ltb}
@@ -27,7 +27,7 @@ use Rattle.record_definitions.specs.declared.world.Pair.{Pair}
 use Rattle.record_definitions.specs.declared.touch.TestAnswer.{TestAnswer}
 use Rattle.record_definitions.specs.declared.touch.Touch.{Touch}
 use Rattle.record_definitions.specs.declared.touch.TouchPoint.{TouchPoint}
-use Rattle.record_definitions.specs.World.{circle-kind, outline-kind, piece-of, kept-of}
+use Rattle.record_definitions.specs.World.{circle-kind, outline-kind, piece-of, one-more, kept-of}
 use Rattle.record_definitions.specs.Ages.{ages-of, with-ages}
 
 -- ---- the contact of a listed pair, from a default manifold
@@ -69,12 +69,8 @@ states-of kept m = states-of-ids (ids-in (kept .ids)) (ids-in (ids-of m))
 abbrev pub touch-begins : ℕ → ℕ → Bool
 touch-begins before now = eqb before 0 && ltb 0 now
 
--- the 32-bit count holds at its largest
-abbrev pub largest-count : ℕ
-largest-count = 2 ^ 32 - 1
-
 unfoldable pub touches-after : ℕ → ℕ → ℕ → ℕ
-touches-after touches before now = cond (touch-begins before now) (min (touches + 1) largest-count) touches
+touches-after touches before now = cond (touch-begins before now) (one-more touches) touches
 
 -- ---- the result as printed: the kind is 0 where there is no point
 abbrev pub shown-kind : B2manifold → ℕ

@@ -1,7 +1,7 @@
 -- Document 01, "The touch record": the state. Eight bodies, ids 00 to 07, and for each ordered pair of them what its
 -- last accepted test left: the ids of its contact points, their ages (document 02, request 06), and its touches; of a
 -- chain (request 03) so for each piece. Definitions only.
-use Prim.Native.Nat.{ℕ, zero, suc, _+_, _*_, _-_, min}
+use Prim.Native.Nat.{ℕ, zero, suc, _+_, _*_, _-_, _^_, min}
 use mathlib.Core.Bool.{true, false, cond}
 use mathlib.Core.List.{List}
 use lib.Dec.{eqb}
@@ -126,6 +126,13 @@ piece-wall chain i = record {
 unfoldable pub piece-of : Body → ℕ → Body
 piece-of body i =
     cond (eqb (body .kind) chain-kind) (placed (wall-body (piece-wall (body .chain) i)) (body .xf)) body
+
+-- ---- counts of 32 bits, those of touches, of ages and of steps: one more, held at the largest
+abbrev pub largest-count : ℕ
+largest-count = 2 ^ 32 - 1
+
+abbrev pub one-more : ℕ → ℕ
+one-more n = min (n + 1) largest-count
 
 -- ---- before any input: no test yet is a contact without points, and no touches
 abbrev pub fresh-kept : Kept

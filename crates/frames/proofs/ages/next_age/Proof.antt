@@ -11,15 +11,15 @@ returns c = no-point _ _ (c .if1 .taken)
 same-id-requires : tie.Need-same-id-requires
 same-id-requires c κs = search needs
 
-one-older-requires : tie.Need-one-older-requires
-one-older-requires c κs = search needs
+one-more-requires : tie.Need-one-more-requires
+one-more-requires c κs = search needs
 
 returns-2 : tie.Need-returns-2
 returns-2 c =
     let if2 = c .before .if2 in
     let first = c .before .before .same-id in
     let if1 = c .before .before .before .if1 in
-    c .one-older .ensures ∙ as-first _ _ (if1 .left) _ (first .ensures) (if2 .taken)
+    c .one-more .ensures ∙ as-first _ _ (if1 .left) _ (first .ensures) (if2 .taken)
 
 returns-3 : tie.Need-returns-3
 returns-3 c =
@@ -31,8 +31,8 @@ returns-3 c =
 same-id-requires-2 : tie.Need-same-id-requires-2
 same-id-requires-2 c κs = search needs
 
-one-older-requires-2 : tie.Need-one-older-requires-2
-one-older-requires-2 c κs = search needs
+one-more-requires-2 : tie.Need-one-more-requires-2
+one-more-requires-2 c κs = search needs
 
 returns-4 : tie.Need-returns-4
 returns-4 c =
@@ -42,7 +42,7 @@ returns-4 c =
     let if2 = c .before .before .before .before .before .if2 in
     let first = c .before .before .before .before .before .before .same-id in
     let if1 = c .before .before .before .before .before .before .before .if1 in
-    c .one-older2 .ensures
+    c .one-more2 .ensures
     ∙ as-second _ _ (if1 .left) _ (first .ensures) (if2 .left) (if3 .left) _ (second .ensures) (if4 .taken)
 
 returns-5 : tie.Need-returns-5
@@ -60,10 +60,10 @@ next-age-spec =
     (tie.spec
     returns
     same-id-requires
-    one-older-requires
+    one-more-requires
     returns-2
     returns-3
     same-id-requires-2
-    one-older-requires-2
+    one-more-requires-2
     returns-4
     returns-5)
