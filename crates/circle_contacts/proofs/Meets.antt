@@ -9,7 +9,7 @@ use lib.Ieee.{Float, lt, le}
 use Rattle.rounding.specs.Literals.{zero32, half32}
 use Rattle.floats.specs.declared.b2_math.B2vec2.{B2vec2}
 use Rattle.floats.specs.B2Common.{b2-epsilon}
-use Rattle.floats.specs.B2Math.{b2-add, b2-sub, b2-scale, b2-dot, b2-normalize}
+use Rattle.floats.specs.B2Math.{b2-add, b2-sub, b2-scale, b2-dot, b2-normalize, unit-or}
 use Rattle.contact_definitions.specs.B2CollideCircle.{farther, circle-at-corner, circle-at-face}
 use Rattle.circle_contacts.specs.declared.outline_meeting.Meeting.{Meeting}
 use Rattle.circle_contacts.specs.declared.outline_meeting.Meeting.the-variants.{Nothing, Point}
@@ -17,13 +17,13 @@ use Rattle.circle_contacts.specs.declared.outline_meeting.Side.{Side}
 use Rattle.circle_contacts.specs.Meetings.{AtCorner, AtFace, AtOutline, SideOf}
 
 -- ---- a corner
-module _ (v c : B2vec2) (radius : Float) (far : Bool) (far-is : far ≡ farther radius c v) where
-  pub corner-far : far ≡ true → AtCorner v c radius Nothing
+module _ (v normal c : B2vec2) (radius : Float) (far : Bool) (far-is : far ≡ farther radius c v) where
+  pub corner-far : far ≡ true → AtCorner v normal c radius Nothing
   unfolding circle-at-corner
   corner-far h old centre = simp (sym far-is ∙ h)
 
-  pub corner-near : (d n : B2vec2) → far ≡ false → d ≡ b2-sub c v → n ≡ b2-normalize d .v
-      → AtCorner v c radius (Point (n .x) (n .y) (v .x) (v .y))
+  pub corner-near : (d n : B2vec2) → far ≡ false → d ≡ b2-sub c v → n ≡ unit-or normal (b2-normalize d)
+      → AtCorner v normal c radius (Point (n .x) (n .y) (v .x) (v .y))
   unfolding circle-at-corner
   corner-near d n h d-is n-is old centre = simp (sym far-is ∙ h, n-is, d-is)
 
@@ -48,21 +48,21 @@ module _ (v1 v2 normal c : B2vec2) (separation radius : Float) (sum middle : B2v
     -- v is the end that the tests t1 and t2 choose
     at-end : (t1 t2 : Bool) (v : B2vec2) (r : Meeting) → le u1 zero32 ≡ t1 → le u2 zero32 ≡ t2 → (t1 || t2) ≡ true
         → v ≡ cond t1 v1 v2
-        → AtCorner v c radius r → AtFace v1 v2 normal separation c radius r
+        → AtCorner v normal c radius r → AtFace v1 v2 normal separation c radius r
     unfolding circle-at-face
     at-end true t2 v r h1 h2 some v-is meets old centre =
         simp (outside, first-test true h1) (meets old centre
-        ∙ ap (λ (w : B2vec2). circle-at-corner old w c radius centre) v-is)
+        ∙ ap (λ (w : B2vec2). circle-at-corner old w normal c radius centre) v-is)
     at-end false true v r h1 h2 some v-is meets old centre =
         simp (outside, first-test false h1, second-test true h2)
-        (meets old centre ∙ ap (λ (w : B2vec2). circle-at-corner old w c radius centre) v-is)
+        (meets old centre ∙ ap (λ (w : B2vec2). circle-at-corner old w normal c radius centre) v-is)
     at-end false false v r h1 h2 some v-is meets old centre = absurd (never some)
       where
         never : false ≡ true → ⊥
         never h = let z : _≡_ {A = ℕ} 0 1 = cc in omega arith
 
     pub face-corner : (v : B2vec2) (r : Meeting) → (le u1 zero32 || le u2 zero32) ≡ true → v ≡ cond (le u1 zero32) v1 v2
-        → AtCorner v c radius r → AtFace v1 v2 normal separation c radius r
+        → AtCorner v normal c radius r → AtFace v1 v2 normal separation c radius r
     face-corner v r some v-is meets = at-end (le u1 zero32) (le u2 zero32) v r refl refl some v-is meets
 
     neither : (t1 t2 : Bool) → (t1 || t2) ≡ false → (t1 ≡ false) × (t2 ≡ false)

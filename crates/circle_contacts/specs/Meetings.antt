@@ -26,9 +26,10 @@ abbrev pub met : Meeting → B2manifold → B2vec2 → B2manifold
 met Nothing old centre = old
 met (Point nx ny x y) old centre = with-one-point old EFaceA (vec2 nx ny) (vec2 x y) centre default-id
 
--- r is where the circle meets a corner
-abbrev pub AtCorner : B2vec2 → B2vec2 → Float → Meeting → Type 0
-AtCorner v c radius r = (old : B2manifold) (centre : B2vec2) → met r old centre ≡ circle-at-corner old v c radius centre
+-- r is where the circle meets a corner of a face with this normal
+abbrev pub AtCorner : B2vec2 → B2vec2 → B2vec2 → Float → Meeting → Type 0
+AtCorner v normal c radius r =
+    (old : B2manifold) (centre : B2vec2) → met r old centre ≡ circle-at-corner old v normal c radius centre
 
 -- r is where the circle meets the face from v1 to v2
 abbrev pub AtFace : B2vec2 → B2vec2 → B2vec2 → Float → B2vec2 → Float → Meeting → Type 0

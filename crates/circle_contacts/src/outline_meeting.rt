@@ -160,13 +160,14 @@ fn circle_side(vs: [B2vec2; 8], ns: [B2vec2; 8], count: usize, c: B2vec2, radius
     }
 }
 
-fn corner_meeting(v: B2vec2, c: B2vec2, radius: f32) -> Meeting
-    ensures { λ r. ⌜ AtCorner v c radius r ⌝ }
+// At a corner of a face with this normal, which stands in where c has no distance from the corner.
+fn corner_meeting(v: B2vec2, normal: B2vec2, c: B2vec2, radius: f32) -> Meeting
+    ensures { λ r. ⌜ AtCorner v normal c radius r ⌝ }
 {
     if farther_than(radius, c, v) {
         return Meeting::Nothing;
     }
-    let n = unit::unit(b2_math::b2_sub(c, v));
+    let n = unit::unit_or(b2_math::b2_sub(c, v), normal);
     Meeting::Point(n.x, n.y, v.x, v.y)
 }
 
@@ -195,7 +196,7 @@ fn face_meeting(
     let second = b2_math::b2_dot(b2_math::b2_sub(c, v2), b2_math::b2_sub(v1, v2)) <= 0.0;
     if first | second {
         let v = nearer_end(first, v1, v2);
-        return corner_meeting(v, c, radius);
+        return corner_meeting(v, normal, c, radius);
     }
     if b2_math::b2_dot(b2_math::b2_sub(c, middle), normal) > radius {
         return Meeting::Nothing;

@@ -1,5 +1,6 @@
 -- Circle against circle and outline against circle, a case for each branch and refusal, computed by antt from the
--- definitions: the complete answers are those of Box2D 2.4.1 (Debian's library) and of the Rust. Assumes nothing.
+-- definitions: the complete answers are those of Box2D 2.4.1 (Debian's library) and of the Rust, but for the normals
+-- of request 07. Assumes nothing.
 use mathlib.Core.Path.{_≡_, refl}
 use mathlib.Core.List.{[], _∷_}
 use lib.Ieee.{neg, add, sub, mul, le, lt, eq, ofBits, div, nan}
@@ -11,6 +12,7 @@ use Rattle.floats.specs.B2Math.{b2-scale, b2-length-squared, b2-length, b2-norm
 use Rattle.floats.specs.B2Math.{b2-mul-t-transform-by-vec2, vec2}
 use Rattle.floats.specs.Ranges.{point-in-range, radius-in-range, rotation-in-range, transform-in-range}
 use Rattle.floats.specs.Ranges.{normal-in-range}
+use Rattle.shape_definitions.specs.declared.b2_polygon_shape.B2polygonShape.{B2polygonShape}
 use Rattle.shape_definitions.specs.Outline.{origin}
 use Rattle.shape_definitions.specs.Refusal.{count-out-of-range, placement-out-of-range, shape-out-of-range}
 use Rattle.shape_definitions.specs.Validate.{polygon-in-range}
@@ -65,6 +67,11 @@ circles-cases = record {
   nan-refused = refl;
 }
 
+-- a triangle whose stored normals are of length 2, 1 and 1
+abbrev long-normals : B2polygonShape
+long-normals = triangle zero32 origin (origin ∷ (vec2 zero32 +1) ∷ (vec2 -1 ½) ∷ [])
+    ((vec2 +2 zero32) ∷ (vec2 zero32 +1) ∷ (vec2 -1 zero32) ∷ [])
+
 pub record PolygonCircleCases : Type 0 where
   -- the centre is inside: the face that it is least inside of
   pub inside : b2-collide-polygon-and-circle (given EFaceB) (box +1 ½) unmoved (circle ¼ (vec2 ½ ¼)) (moved ¼ ¼)
@@ -103,12 +110,25 @@ pub record PolygonCircleCases : Type 0 where
       (float 0x3e1f_b4a7) (float 0xbf7c_de09)) ∷ [])) unmoved (circle (float 0x3f90_0000)
       (vec2 (float 0x4040_363e) (float 0xbeb4_ee94))) unmoved
       ≡ manifold-accepted (no-point EFaceB)
-  -- on a corner, but out of a face by rounding: the normal is zero and stays so
-  pub zero-normal-kept : b2-collide-polygon-and-circle (given EFaceB) (triangle b2-polygon-radius (vec2 -15 -20)
-      ((vec2 +9 -62) ∷ (vec2 -1 -2) ∷ (vec2 -53 +4) ∷ []) ((vec2 (float 0x3f7c_844f) (float 0x3e28_5835)) ∷ (vec2
-      (float 0x3dea_c00c) (float 0x3f7e_500d)) ∷ (vec2 (float 0xbf3a_95ca) (float 0xbf2f_46e4)) ∷ [])) unmoved
+  -- on the second corner of face 1, and out of that face by rounding: nothing from the corner to the centre, so the
+  -- normal of that face (request 07; the references hand back (0, 0))
+  pub face-normal-instead : b2-collide-polygon-and-circle (given EFaceB) (triangle b2-polygon-radius (vec2 -15 -20)
+      ((vec2 -53 +4) ∷ (vec2 +9 -62) ∷ (vec2 -1 -2) ∷ []) ((vec2 (float 0xbf3a_95ca) (float 0xbf2f_46e4)) ∷ (vec2
+      (float 0x3f7c_844f) (float 0x3e28_5835)) ∷ (vec2 (float 0x3dea_c00c) (float 0x3f7e_500d)) ∷ [])) unmoved
       (circle ½ (vec2 -1 -2)) unmoved
-      ≡ manifold-accepted (after EFaceA 1 origin (vec2 -1 -2) (first (vec2 -1 -2) (contact-id 0 0 0 0)) kept-second)
+      ≡ manifold-accepted (after EFaceA 1 (vec2 (float 0x3f7c_844f) (float 0x3e28_5835)) (vec2 -1 -2)
+      (first (vec2 -1 -2) (contact-id 0 0 0 0)) kept-second)
+  -- 3/4 of 2^-23 from the first corner of a face with a stored normal of length 2: that normal (the references hand
+  -- back what is between corner and centre)
+  pub short-at-first-corner : b2-collide-polygon-and-circle (given EFaceB) long-normals unmoved
+      (circle ½ (vec2 (float 0x33c0_0000) zero32)) unmoved
+      ≡ manifold-accepted (after EFaceA 1 (vec2 +2 zero32) origin
+      (first (vec2 (float 0x33c0_0000) zero32) (contact-id 0 0 0 0)) kept-second)
+  -- and 2^-23 from it: the normal is from the corner to the centre, as the references have it
+  pub epsilon-from-first-corner : b2-collide-polygon-and-circle (given EFaceB) long-normals unmoved
+      (circle ½ (vec2 (float 0x3400_0000) zero32)) unmoved
+      ≡ manifold-accepted (after EFaceA 1 (vec2 +1 zero32) origin
+      (first (vec2 (float 0x3400_0000) zero32) (contact-id 0 0 0 0)) kept-second)
   -- both turned and moved
   pub corner-turned : b2-collide-polygon-and-circle (given ECircles) (box ½ +1) (moved +1 +1)
       (circle +1 (vec2 -¼ -¼)) (placed ¼ -¼ six-tenths eight-tenths)
@@ -147,7 +167,9 @@ polygon-circle-cases = record {
   far-from-first-corner = refl;
   far-from-second-corner = refl;
   far-from-the-middle = refl;
-  zero-normal-kept = refl;
+  face-normal-instead = refl;
+  short-at-first-corner = refl;
+  epsilon-from-first-corner = refl;
   corner-turned = refl;
   count-first = refl;
   nine-corners = refl;

@@ -7,7 +7,7 @@ use Rattle.rounding.specs.Literals.{zero32, half32, one32}
 use Rattle.floats.specs.declared.b2_math.B2vec2.{B2vec2}
 use Rattle.floats.specs.declared.b2_math.B2Transform.{B2Transform}
 use Rattle.floats.specs.B2Common.{b2-epsilon}
-use Rattle.floats.specs.B2Math.{b2-add, b2-sub, b2-neg, b2-scale, b2-dot, b2-normalize}
+use Rattle.floats.specs.B2Math.{b2-add, b2-sub, b2-neg, b2-scale, b2-dot, b2-normalize, unit-or-same, unit-or}
 use Rattle.floats.specs.B2Math.{b2-mul-transform-by-vec2, b2-mul-t-transform-by-vec2}
 use Rattle.shape_definitions.specs.declared.b2_circle_shape.B2circleShape.{B2circleShape}
 use Rattle.shape_definitions.specs.declared.b2_polygon_shape.B2polygonShape.{B2polygonShape}
@@ -49,12 +49,12 @@ circles-few old circleA xfA circleB xfB =
 
 -- ---- outline and circle
 module _ (m : B2manifold) (m-few : Few m) (c : B2vec2) (radius : Float) (centre : B2vec2) where
-  corner-few : (v : B2vec2) → Few (circle-at-corner m v c radius centre)
+  corner-few : (v normal : B2vec2) → Few (circle-at-corner m v normal c radius centre)
   unfolding circle-at-corner
-  corner-few v =
-      let normal = b2-normalize (b2-sub c v) .v in
-      either Few (farther radius c v) m (with-one-point m EFaceA normal v centre default-id) m-few
-      (one-few m EFaceA normal v centre default-id)
+  corner-few v normal =
+      let from-corner = unit-or normal (b2-normalize (b2-sub c v)) in
+      either Few (farther radius c v) m (with-one-point m EFaceA from-corner v centre default-id) m-few
+      (one-few m EFaceA from-corner v centre default-id)
 
   face-few : (v1 v2 normal : B2vec2) (separation : Float)
       → Few (circle-at-face m v1 v2 normal separation c radius centre)
@@ -66,12 +66,12 @@ module _ (m : B2manifold) (m-few : Few m) (c : B2vec2) (radius : Float) (centre 
       let too-far = lt radius (b2-dot (b2-sub c middle) normal) in
       let over-second = le (b2-dot (b2-sub c v2) (b2-sub v1 v2)) zero32 in
       let over-first = le (b2-dot (b2-sub c v1) (b2-sub v2 v1)) zero32 in
-      let at-1 = circle-at-corner m v1 c radius centre in
-      let at-2 = circle-at-corner m v2 c radius centre in
+      let at-1 = circle-at-corner m v1 normal c radius centre in
+      let at-2 = circle-at-corner m v2 normal c radius centre in
       let face = cond too-far m at-middle in
       either Few (lt separation b2-epsilon) at-middle (cond over-first at-1 (cond over-second at-2 face)) middle-few
-      (either Few over-first at-1 (cond over-second at-2 face) (corner-few v1)
-      (either Few over-second at-2 face (corner-few v2) (either Few too-far m at-middle m-few middle-few)))
+      (either Few over-first at-1 (cond over-second at-2 face) (corner-few v1 normal)
+      (either Few over-second at-2 face (corner-few v2 normal) (either Few too-far m at-middle m-few middle-few)))
 
   best-few : (poly : B2polygonShape) (best : Best) → Few (circle-at-best m poly c radius centre best)
   unfolding circle-at-best
@@ -116,7 +116,7 @@ module _ (m : B2manifold) (m-few : Few m) (q : B2vec2) (radius : Float) (centre 
   unfolding circle-at-wall
   wall-few a b u v den offset =
       let n = right-of (b2-sub b a) in
-      let normal = b2-normalize (cond (lt offset zero32) (b2-neg n) n) .v in
+      let normal = unit-or-same (b2-normalize (cond (lt offset zero32) (b2-neg n) n)) in
       let id = contact-id 0 0 face-feature vertex-feature in
       either Few (farther radius q (b2-scale (div binary32 one32 den) (b2-add (b2-scale u a) (b2-scale v b)))) m
       (with-one-point m EFaceA normal a centre id) m-few (one-few m EFaceA normal a centre id)

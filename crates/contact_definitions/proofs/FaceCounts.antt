@@ -8,7 +8,7 @@ use lib.Ieee.{Float, binary32, add, lt}
 use Rattle.rounding.specs.Literals.{zero32, one32}
 use Rattle.floats.specs.declared.b2_math.B2vec2.{B2vec2}
 use Rattle.floats.specs.declared.b2_math.B2Transform.{B2Transform}
-use Rattle.floats.specs.B2Math.{vec2, b2-sub, b2-neg, b2-dot, b2-cross-vec-by-scalar, b2-normalize}
+use Rattle.floats.specs.B2Math.{vec2, b2-sub, b2-neg, b2-dot, b2-cross-vec-by-scalar, b2-normalize, unit-or-same}
 use Rattle.floats.specs.B2Math.{b2-mul-transform-by-vec2, b2-mul-t-transform}
 use Rattle.shape_definitions.specs.declared.b2_polygon_shape.B2polygonShape.{B2polygonShape}
 use Rattle.shape_definitions.specs.declared.b2_edge_shape.B2edgeShape.{B2edgeShape}
@@ -102,7 +102,7 @@ edge-polygon-manifold-on-face : (m : B2manifold) → OnFace m → (edge : B2edge
     (poly : B2polygonShape) → OnFace (edge-polygon-manifold m edge xf poly)
 unfolding edge-polygon-manifold
 edge-polygon-manifold-on-face m h edge xf poly =
-    let edge1 = b2-normalize (b2-sub (edge .«m_vertex2») (edge .«m_vertex1»)) .v in
+    let edge1 = unit-or-same (b2-normalize (b2-sub (edge .«m_vertex2») (edge .«m_vertex1»))) in
     let radius = add binary32 (poly .«m_radius») (edge .«m_radius») in
     let centroid = b2-mul-transform-by-vec2 xf (poly .«m_centroid») in
     let offset1 = b2-dot (right-of edge1) (b2-sub centroid (edge .«m_vertex1»)) in

@@ -10,7 +10,7 @@ use Rattle.floats.specs.declared.b2_math.B2vec2.{B2vec2}
 use Rattle.floats.specs.declared.b2_math.B2Transform.{B2Transform}
 use Rattle.floats.specs.B2Common.{b2-epsilon}
 use Rattle.floats.specs.B2Math.{vec2, b2-add, b2-sub, b2-neg, b2-scale, b2-dot, b2-normalize, b2-mul-transform-by-vec2}
-use Rattle.floats.specs.B2Math.{b2-mul-t-transform}
+use Rattle.floats.specs.B2Math.{b2-mul-t-transform, unit-or-same}
 use Rattle.floats.specs.Ranges.{transform-in-range}
 use Rattle.shape_definitions.specs.declared.b2_circle_shape.B2circleShape.{B2circleShape}
 use Rattle.shape_definitions.specs.declared.b2_edge_shape.B2edgeShape.{B2edgeShape}
@@ -79,9 +79,9 @@ module _ (old : B2manifold) (given : AsGiven old old) where
 
   -- ---- a circle against an outline, and against a wall
   module _ (c : B2vec2) (radius : Float) (centre : B2vec2) where
-    at-corner : (v : B2vec2) → Kept (circle-at-corner none v c radius centre)
+    at-corner : (v normal : B2vec2) → Kept (circle-at-corner none v normal c radius centre)
     unfolding circle-at-corner
-    at-corner v =
+    at-corner v normal =
         either Kept (farther radius c v) _ _ none-kept (one-written old none EFaceA _ v centre default-id none-kept)
 
     at-face : (v1 v2 normal : B2vec2) (separation : Float)
@@ -91,8 +91,8 @@ module _ (old : B2manifold) (given : AsGiven old old) where
         let middle = b2-scale half32 (b2-add v1 v2) in
         let written = one-written old none EFaceA normal middle centre default-id none-kept in
         either Kept (lt separation b2-epsilon) _ _ written
-        (either Kept (le (b2-dot (b2-sub c v1) (b2-sub v2 v1)) zero32) _ _ (at-corner v1)
-        (either Kept (le (b2-dot (b2-sub c v2) (b2-sub v1 v2)) zero32) _ _ (at-corner v2)
+        (either Kept (le (b2-dot (b2-sub c v1) (b2-sub v2 v1)) zero32) _ _ (at-corner v1 normal)
+        (either Kept (le (b2-dot (b2-sub c v2) (b2-sub v1 v2)) zero32) _ _ (at-corner v2 normal)
         (either Kept (lt radius (b2-dot (b2-sub c middle) normal)) _ _ none-kept written)))
 
     at-outline : (poly : B2polygonShape) → Kept (polygon-circle-manifold none poly c radius centre)
@@ -159,7 +159,7 @@ module _ (old : B2manifold) (given : AsGiven old old) where
       → Kept (edge-polygon-manifold none edge xf poly)
   unfolding edge-polygon-manifold
   edge-polygon edge xf poly =
-      let edge1 = b2-normalize (b2-sub (edge .«m_vertex2») (edge .«m_vertex1»)) .v in
+      let edge1 = unit-or-same (b2-normalize (b2-sub (edge .«m_vertex2») (edge .«m_vertex1»))) in
       let radius = add binary32 (poly .«m_radius») (edge .«m_radius») in
       let centroid = b2-mul-transform-by-vec2 xf (poly .«m_centroid») in
       let offset1 = b2-dot (right-of edge1) (b2-sub centroid (edge .«m_vertex1»)) in

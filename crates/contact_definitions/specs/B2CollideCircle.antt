@@ -7,7 +7,7 @@ use Rattle.floats.specs.declared.b2_math.B2vec2.{B2vec2}
 use Rattle.floats.specs.declared.b2_math.B2Transform.{B2Transform}
 use Rattle.rounding.specs.Literals.{zero32, half32}
 use Rattle.floats.specs.B2Common.{b2-epsilon}
-use Rattle.floats.specs.B2Math.{b2-add, b2-sub, b2-scale, b2-dot, b2-distance-vec2-squared, b2-normalize}
+use Rattle.floats.specs.B2Math.{b2-add, b2-sub, b2-scale, b2-dot, b2-distance-vec2-squared, b2-normalize, unit-or}
 use Rattle.floats.specs.B2Math.{b2-mul-transform-by-vec2, b2-mul-t-transform-by-vec2}
 use Rattle.shape_definitions.specs.declared.b2_circle_shape.B2circleShape.{B2circleShape}
 use Rattle.shape_definitions.specs.declared.b2_polygon_shape.B2polygonShape.{B2polygonShape}
@@ -45,10 +45,12 @@ b2-collide-circles old circleA xfA circleB xfB =
 unfoldable pub circle-separation : B2polygonShape → B2vec2 → ℕ → Float
 circle-separation poly c i = b2-dot (point-at (poly .«m_normals») i) (b2-sub c (point-at (poly .«m_vertices») i))
 
--- the circle at corner v: the normal is left as it is where its length is below 2^-23, zero among them
-unfoldable pub circle-at-corner : B2manifold → B2vec2 → B2vec2 → Float → B2vec2 → B2manifold
-circle-at-corner old v c radius centre =
-    cond (farther radius c v) old (with-one-point old EFaceA (b2-normalize (b2-sub c v) .v) v centre default-id)
+-- the circle at corner v of the face with this normal: from the corner to c or, where that has no length of at least
+-- 2^-23, the face's normal (request 07)
+unfoldable pub circle-at-corner : B2manifold → B2vec2 → B2vec2 → B2vec2 → Float → B2vec2 → B2manifold
+circle-at-corner old v normal c radius centre =
+    cond (farther radius c v) old
+    (with-one-point old EFaceA (unit-or normal (b2-normalize (b2-sub c v))) v centre default-id)
 
 -- the circle at the face from v1 to v2, out of which c is by the separation
 unfoldable pub circle-at-face : B2manifold → B2vec2 → B2vec2 → B2vec2 → Float → B2vec2 → Float → B2vec2 → B2manifold
@@ -56,8 +58,8 @@ circle-at-face old v1 v2 normal separation c radius centre =
     let middle = b2-scale half32 (b2-add v1 v2) in
     let at-middle = with-one-point old EFaceA normal middle centre default-id in
     cond (lt separation b2-epsilon) at-middle
-    (cond (le (b2-dot (b2-sub c v1) (b2-sub v2 v1)) zero32) (circle-at-corner old v1 c radius centre)
-    (cond (le (b2-dot (b2-sub c v2) (b2-sub v1 v2)) zero32) (circle-at-corner old v2 c radius centre)
+    (cond (le (b2-dot (b2-sub c v1) (b2-sub v2 v1)) zero32) (circle-at-corner old v1 normal c radius centre)
+    (cond (le (b2-dot (b2-sub c v2) (b2-sub v1 v2)) zero32) (circle-at-corner old v2 normal c radius centre)
     (cond (lt radius (b2-dot (b2-sub c middle) normal)) old at-middle)))
 
 unfoldable pub circle-at-best : B2manifold → B2polygonShape → B2vec2 → Float → B2vec2 → Best → B2manifold

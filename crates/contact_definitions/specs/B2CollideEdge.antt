@@ -7,7 +7,7 @@ use lib.Ieee.{Float, binary32, add, div, le, lt}
 use Rattle.floats.specs.declared.b2_math.B2vec2.{B2vec2}
 use Rattle.floats.specs.declared.b2_math.B2Transform.{B2Transform}
 use Rattle.rounding.specs.Literals.{zero32, one32}
-use Rattle.floats.specs.B2Math.{b2-add, b2-sub, b2-neg, b2-scale, b2-dot, b2-normalize}
+use Rattle.floats.specs.B2Math.{b2-add, b2-sub, b2-neg, b2-scale, b2-dot, b2-normalize, unit-or-same}
 use Rattle.floats.specs.B2Math.{b2-mul-transform-by-vec2, b2-mul-t-transform-by-vec2, b2-mul-t-transform}
 use Rattle.shape_definitions.specs.declared.b2_circle_shape.B2circleShape.{B2circleShape}
 use Rattle.shape_definitions.specs.declared.b2_polygon_shape.B2polygonShape.{B2polygonShape}
@@ -41,7 +41,7 @@ unfoldable pub circle-at-wall : B2manifold → B2vec2 → B2vec2 → Float → F
 circle-at-wall old a b u v den offset q radius centre =
     let n = right-of (b2-sub b a) in
     cond (farther radius q (b2-scale (div binary32 one32 den) (b2-add (b2-scale u a) (b2-scale v b)))) old
-    (with-one-point old EFaceA (b2-normalize (cond (lt offset zero32) (b2-neg n) n) .v) a centre
+    (with-one-point old EFaceA (unit-or-same (b2-normalize (cond (lt offset zero32) (b2-neg n) n))) a centre
     (contact-id 0 0 face-feature vertex-feature))
 
 -- over the wall before vertex 1, over the wall after vertex 2
@@ -82,7 +82,7 @@ b2-collide-edge-and-circle old edgeA xfA circleB xfB =
 -- ---- wall and outline: none where the outline's centroid is behind a one-sided wall
 unfoldable pub edge-polygon-manifold : B2manifold → B2edgeShape → B2Transform → B2polygonShape → B2manifold
 edge-polygon-manifold old edge xf poly =
-    let edge1 = b2-normalize (b2-sub (edge .«m_vertex2») (edge .«m_vertex1»)) .v in
+    let edge1 = unit-or-same (b2-normalize (b2-sub (edge .«m_vertex2») (edge .«m_vertex1»))) in
     let radius = add binary32 (poly .«m_radius») (edge .«m_radius») in
     let centroid = b2-mul-transform-by-vec2 xf (poly .«m_centroid») in
     let offset1 = b2-dot (right-of edge1) (b2-sub centroid (edge .«m_vertex1»)) in

@@ -10,6 +10,7 @@ use Rattle.floats.specs.declared.b2_math.B2vec2.{B2vec2}
 use Rattle.floats.specs.declared.b2_math.B2Transform.{B2Transform}
 use Rattle.rounding.specs.Literals.{half32, one32}
 use Rattle.floats.specs.B2Math.{b2-add, b2-sub, b2-neg, b2-scale, b2-dot, b2-cross-vec-by-scalar, b2-normalize}
+use Rattle.floats.specs.B2Math.{unit-or-same}
 use Rattle.floats.specs.B2Math.{b2-mul-rot-by-vec2, b2-mul-t-rot-by-vec2, b2-mul-transform-by-vec2}
 use Rattle.floats.specs.B2Math.{b2-mul-t-transform-by-vec2}
 use Rattle.floats.specs.B2Math.{b2-mul-t-transform}
@@ -94,7 +95,7 @@ abbrev pub face-end : B2polygonShape → ℕ → B2vec2
 face-end poly1 edge1 = point-at (poly1 .«m_vertices») (place-after (poly1 .«m_count») edge1)
 
 unfoldable pub local-tangent : B2polygonShape → ℕ → B2vec2
-local-tangent poly1 edge1 = b2-normalize (b2-sub (face-end poly1 edge1) (face-begin poly1 edge1)) .v
+local-tangent poly1 edge1 = unit-or-same (b2-normalize (b2-sub (face-end poly1 edge1) (face-begin poly1 edge1)))
 
 unfoldable pub face-middle : B2polygonShape → ℕ → B2vec2
 face-middle poly1 edge1 = b2-scale half32 (b2-add (face-begin poly1 edge1) (face-end poly1 edge1))

@@ -10,7 +10,7 @@ use Rattle.floats.specs.declared.b2_math.B2vec2.{B2vec2}
 use Rattle.floats.specs.declared.b2_math.B2Transform.{B2Transform}
 use Rattle.rounding.specs.Literals.{zero32}
 use Rattle.floats.specs.B2Common.{b2-max-float}
-use Rattle.floats.specs.B2Math.{vec2, b2-min, b2-sub, b2-neg, b2-dot, b2-cross, b2-normalize}
+use Rattle.floats.specs.B2Math.{vec2, b2-min, b2-sub, b2-neg, b2-dot, b2-cross, b2-normalize, unit-or-same}
 use Rattle.floats.specs.B2Math.{b2-mul-rot-by-vec2, b2-mul-transform-by-vec2}
 use Rattle.shape_definitions.specs.declared.b2_polygon_shape.B2polygonShape.{B2polygonShape}
 use Rattle.shape_definitions.specs.declared.b2_edge_shape.B2edgeShape.{B2edgeShape}
@@ -94,8 +94,8 @@ region-after edge1 edge2 normal = region-by (le zero32 (b2-cross edge1 edge2)) (
 unfoldable pub gauss-region : B2edgeShape → B2vec2 → B2vec2 → GaussRegion
 gauss-region edge edge1 normal =
     cond (le (b2-dot normal edge1) zero32)
-    (region-before (b2-normalize (b2-sub (edge .«m_vertex1») (edge .«m_vertex0»)) .v) edge1 normal)
-    (region-after edge1 (b2-normalize (b2-sub (edge .«m_vertex3») (edge .«m_vertex2»)) .v) normal)
+    (region-before (unit-or-same (b2-normalize (b2-sub (edge .«m_vertex1») (edge .«m_vertex0»)))) edge1 normal)
+    (region-after edge1 (unit-or-same (b2-normalize (b2-sub (edge .«m_vertex3») (edge .«m_vertex2»)))) normal)
 
 -- the axis in a region: a skipped one counts as apart, by the wall's separation
 abbrev pub in-region : GaussRegion → Axis → Axis → Axis

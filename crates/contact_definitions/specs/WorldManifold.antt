@@ -11,6 +11,7 @@ use Rattle.floats.specs.declared.b2_math.B2vec2.{B2vec2}
 use Rattle.floats.specs.declared.b2_math.B2Transform.{B2Transform}
 use Rattle.rounding.specs.Literals.{zero32, half32, one32}
 use Rattle.floats.specs.B2Math.{vec2, b2-add, b2-sub, b2-neg, b2-scale, b2-dot, b2-distance-vec2-squared, b2-normalize}
+use Rattle.floats.specs.B2Math.{unit-or-same}
 use Rattle.floats.specs.B2Math.{b2-mul-rot-by-vec2, b2-mul-transform-by-vec2}
 use Rattle.floats.specs.Ranges.{radius-in-range, transform-in-range, local-normal-in-range, contact-point-in-range}
 use Rattle.shape_definitions.specs.Refusal.{accepted, placement-out-of-range, count-out-of-range}
@@ -69,7 +70,8 @@ world-of-face is-b old m xf1 radius1 xf2 radius2 =
 -- ---- circles: only the first point is written. The normal is (1, 0) where their centres are hardly apart
 unfoldable pub circles-normal : B2vec2 → B2vec2 → B2vec2
 circles-normal a b =
-    cond (lt epsilon-squared (b2-distance-vec2-squared a b)) (b2-normalize (b2-sub b a) .v) (vec2 one32 zero32)
+    cond (lt epsilon-squared (b2-distance-vec2-squared a b)) (unit-or-same (b2-normalize (b2-sub b a)))
+    (vec2 one32 zero32)
 
 unfoldable pub world-of-circles : B2worldManifold → B2manifold → B2Transform → Float → B2Transform → Float
     → B2worldManifold

@@ -5,6 +5,10 @@ pub mod Scale
 pub mod Coordinates
 pub mod Ends
 pub mod Turned
+pub mod UnitVector
+pub mod Square
+pub mod Length
+pub mod Normalised
 pub mod BitPatterns
 pub mod Controls
 pub mod VectorControls

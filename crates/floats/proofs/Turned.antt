@@ -6,7 +6,7 @@ use mathlib.Core.Bool.{Bool, true, false, not, cond}
 use Prim.Native.Nat.{ℕ, _-_, _*_, _^_, _≤_}
 use native.Mathlib.Omega.{arith}
 use lib.Dec.{T}
-use lib.Ieee.{Float, nan, inf, fin, binary32, fits, add, mul, lt, ofBits}
+use lib.Ieee.{Float, nan, inf, fin, binary32, fits, add, mul, lt, le, ofBits}
 use lib.Ieee.Bits.{is-false}
 use lib.Ieee.Fits.{add-fits}
 use Rattle.algebra.specs.Integer.{Z, whole, _⊛_, _≐_, _≼_, _≺_}
@@ -15,7 +15,7 @@ use Rattle.floats.specs.declared.b2_math.Normalized.{Normalized}
 use Rattle.rounding.specs.Literals.{zero32, one32}
 use Rattle.floats.specs.B2Common.{b2-epsilon, epsilon-squared}
 use Rattle.floats.specs.B2Math.{b2-sqrt, b2-cross-vec-by-scalar, b2-length-squared, b2-length, times-reciprocal}
-use Rattle.floats.specs.B2Math.{b2-normalize}
+use Rattle.floats.specs.B2Math.{b2-normalize, unit-or-same}
 use Rattle.sqrt.specs.Sqrt.{root-by-steps, sqrt}
 use Rattle.rounding.specs.Value.{metre, F32, mag, val}
 use Rattle.rounding.proofs.Value.{metre-pos, positive-sign}
@@ -85,18 +85,21 @@ module _ (v : B2vec2) (squared : Float) (squared-is : squared ≡ b2-length-squa
   unfolding b2-sqrt
   acts = ap (λ (l : Float). lt l b2-epsilon) length-is ∙ long-root squared squared-fits long
 
-  pub long-is : (root : Float) → root ≡ b2-sqrt squared → times-reciprocal v root ≡ b2-normalize v .v
+  pub long-is : (root : Float) → root ≡ b2-sqrt squared → times-reciprocal v root ≡ unit-or-same (b2-normalize v)
   unfolding b2-normalize
   long-is root root-is =
       ap (times-reciprocal v) (root-is ∙ sym length-is)
-      ∙ sym (ap (λ (t : Bool). cond {A = Normalized} t (record { length = zero32; v = v })
-      (record { length = b2-length v; v = times-reciprocal v (b2-length v) }) .v) acts)
+      ∙ sym (ap (λ (t : Bool). cond {A = Normalized} t (record { «had_length» = had; length = zero32; v = v })
+      (record { «had_length» = had; length = b2-length v; v = times-reciprocal v (b2-length v) }) .v) acts)
+    where
+      had : Bool
+      had = le b2-epsilon (b2-length v)
 
 -- ---- and so is the turned edge
 pub normal-is : (e : B2vec2) (squared : Float) → T (fits binary32 (e .x)) → T (fits binary32 (e .y))
     → squared ≡ b2-length-squared e → lt epsilon-squared squared ≡ true
     → (turned : B2vec2) (root : Float) → turned ≡ b2-cross-vec-by-scalar e one32 → root ≡ b2-sqrt squared
-    → times-reciprocal turned root ≡ b2-normalize (b2-cross-vec-by-scalar e one32) .v
+    → times-reciprocal turned root ≡ unit-or-same (b2-normalize (b2-cross-vec-by-scalar e one32))
 normal-is e squared x-fits y-fits squared-is long turned root turned-is root-is =
     ap (λ (v : B2vec2). times-reciprocal v root) turned-is
     ∙ long-is (b2-cross-vec-by-scalar e one32) squared (squared-is ∙ sym (turned-squared e x-fits y-fits)) long root

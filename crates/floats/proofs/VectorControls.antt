@@ -2,9 +2,10 @@
 -- what rustc's code for x86-64 answers, and for every definition of B2Math an answer that Box2D 2.4.1 and the Rust
 -- agree on. Assumes nothing.
 use mathlib.Core.Path.{_≡_, refl}
+use mathlib.Core.Bool.{true, false}
 use lib.Dec.{T}
 use native.Mathlib.Omega.{arith}
-use lib.Ieee.{binary32, size, units, neg, add, sub, mul, div, lt, ofBits, toBits}
+use lib.Ieee.{binary32, size, units, neg, add, sub, mul, div, lt, le, eq, ofBits, toBits}
 use Rattle.algebra.specs.Integer.{whole}
 use Rattle.floats.specs.declared.b2_math.B2vec2.{B2vec2}
 use Rattle.floats.specs.declared.b2_math.B2Rot.{B2Rot}
@@ -43,16 +44,35 @@ normalized-by-the-reciprocal = refl
 
 -- a length of 2^-24
 short-is-not-normalized : b2-normalize (vector 0x3380_0000 0)
-    ≡ record { length = float 0; v = vector 0x3380_0000 0 }
+    ≡ record { «had_length» = false; length = float 0; v = vector 0x3380_0000 0 }
 unfolding b2-normalize b2-length b2-length-squared b2-sqrt sqrt root-by-steps whole-root root-digits size units
-    add mul div lt ofBits toBits
+    add mul div lt le eq ofBits toBits
 short-is-not-normalized = refl
 
 -- a length of 2^-23
-epsilon-is-normalized : toBits binary32 (b2-normalize (vector 0x3400_0000 0) .length) ≡ 0x3400_0000
+epsilon-is-normalized : b2-normalize (vector 0x3400_0000 0)
+    ≡ record { «had_length» = true; length = float 0x3400_0000; v = vector 0x3f80_0000 0 }
 unfolding b2-normalize b2-length b2-length-squared b2-sqrt sqrt root-by-steps whole-root root-digits size units
-    add mul div lt ofBits toBits
+    add mul div lt le eq ofBits toBits
 epsilon-is-normalized = refl
+
+-- a length of 2^-12: its square is below 2^-23
+small-had-length : b2-normalize (vector 0x3980_0000 0) .«had_length» ≡ true
+unfolding b2-normalize b2-length b2-length-squared b2-sqrt sqrt root-by-steps whole-root root-digits size units
+    add mul div lt le eq ofBits
+small-had-length = refl
+
+-- a NaN is no length, and the vector is as before; infinity is one
+nan-had-none : b2-normalize (vector 0x7fc0_0000 0)
+    ≡ record { «had_length» = false; length = float 0x7fc0_0000; v = vector 0x7fc0_0000 0x7fc0_0000 }
+unfolding b2-normalize b2-length b2-length-squared b2-sqrt sqrt root-by-steps whole-root root-digits size units
+    add mul div lt le eq ofBits
+nan-had-none = refl
+
+infinity-had-length : b2-normalize (vector 0x7f80_0000 0) .«had_length» ≡ true
+unfolding b2-normalize b2-length b2-length-squared b2-sqrt sqrt root-by-steps whole-root root-digits size units
+    add mul div lt le eq ofBits
+infinity-had-length = refl
 
 -- ---- (-2.03, -0.88) and (-3.66, -2.4), the rotations of sine 0.9 and cosine -0.3 and of sine 0.4 and cosine -0.77,
 -- and the placements of these at (3.01, -1.79) and (-3.26, -0.99). The dot and the cross product have other bits where

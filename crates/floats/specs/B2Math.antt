@@ -1,7 +1,7 @@
 -- Vectors, rotations and transforms of f32, one definition for each function of b2_math and under its name. Each
 -- operation rounds once, to nearest, ties to even, in the order of Box2D 2.4.1; nothing is fused. Definitions only.
 use mathlib.Core.Bool.{cond}
-use lib.Ieee.{Float, binary32, add, sub, mul, div, neg, lt}
+use lib.Ieee.{Float, binary32, add, sub, mul, div, neg, lt, le}
 use Rattle.floats.specs.declared.b2_math.B2vec2.{B2vec2}
 use Rattle.floats.specs.declared.b2_math.Normalized.{Normalized}
 use Rattle.floats.specs.declared.b2_math.B2Rot.{B2Rot}
@@ -56,15 +56,23 @@ unfoldable pub b2-distance-vec2-squared : B2vec2 → B2vec2 → Float
 b2-distance-vec2-squared a b = b2-dot (b2-sub a b) (b2-sub a b)
 
 -- Document 01, Outlines: a length below 2^-23 changes nothing, and is given as 0; else each coordinate is multiplied by
--- the rounded reciprocal.
+-- the rounded reciprocal. Request 07: it says whether there was a length of at least 2^-23; a NaN is none.
 abbrev pub times-reciprocal : B2vec2 → Float → B2vec2
 times-reciprocal a length = vec2 (mul binary32 (a .x) (div binary32 one32 length))
     (mul binary32 (a .y) (div binary32 one32 length))
 
 unfoldable pub b2-normalize : B2vec2 → Normalized
 b2-normalize a =
-    cond (lt (b2-length a) b2-epsilon) (record { length = zero32; v = a })
-    (record { length = b2-length a; v = times-reciprocal a (b2-length a) })
+    let had = le b2-epsilon (b2-length a) in
+    cond (lt (b2-length a) b2-epsilon) (record { «had_length» = had; length = zero32; v = a })
+    (record { «had_length» = had; length = b2-length a; v = times-reciprocal a (b2-length a) })
+
+-- what its users take: the vector made unit and, where it had no length, the same vector, or another one
+abbrev pub unit-or-same : Normalized → B2vec2
+unit-or-same n = n .v
+
+abbrev pub unit-or : B2vec2 → Normalized → B2vec2
+unit-or other n = cond (n .«had_length») (n .v) other
 
 -- ---- rotations: q r, q⁻¹ r, q v, q⁻¹ v
 abbrev pub rot : Float → Float → B2Rot

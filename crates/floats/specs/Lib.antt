@@ -3,3 +3,4 @@ pub mod B2Math
 pub mod Ranges
 pub mod Coordinates
 pub mod Unit
+pub mod NearUnit

@@ -18,8 +18,10 @@ pub struct B2vec2 {
     pub y: f32,
 }
 
-// A vector made unit, with the length that it had: 0 and the vector as it was where that is below B2_EPSILON.
+// A vector made unit, with the length that it had, and whether that was at least B2_EPSILON: where it was below, 0 and
+// the vector as it was.
 pub struct Normalized {
+    pub had_length: bool,
     pub length: f32,
     pub v: B2vec2,
 }
@@ -136,15 +138,24 @@ pub fn b2_normalize(a: B2vec2) -> Normalized
     ensures { λ r. ⌜ r ≡ b2-normalize a ⌝ }
 {
     let length = b2_length(a);
+    let had_length = B2_EPSILON <= length;
     if length < B2_EPSILON {
-        return Normalized { length: 0.0, v: a };
+        return Normalized {
+            had_length,
+            length: 0.0,
+            v: a,
+        };
     }
     let inv_length = 1.0 / length;
     let v = B2vec2 {
         x: a.x * inv_length,
         y: a.y * inv_length,
     };
-    Normalized { length, v }
+    Normalized {
+        had_length,
+        length,
+        v,
+    }
 }
 
 // q r

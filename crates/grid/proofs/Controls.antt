@@ -31,7 +31,8 @@ use Rattle.grid.specs.Grid.{grid-limit, GridNumber, GridPoint, GridList,
 use Rattle.grid.specs.Demand3.{ThreeToEight, HullRow, built-corners, refusal-of, outline-from}
 use Rattle.rounding.specs.Value.{metre, tick}
 use Rattle.rounding.proofs.Value.{metre-ticks}
-use Rattle.grid.specs.GridOutline.{normal-bound, direction-error, length-error, GridOutline}
+use Rattle.floats.specs.NearUnit.{normal-bound, direction-error, length-error}
+use Rattle.grid.specs.GridOutline.{GridOutline}
 use Rattle.grid.proofs.Theorem.{first-sentence, built-outline, built-in-range}
 
 -- ---- lists by the bit patterns of their coordinates: 0, -0, 1/256, 1/2, 1, 2, 4 and -4

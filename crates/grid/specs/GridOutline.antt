@@ -12,23 +12,11 @@ use Rattle.rounding.specs.Value.{metre, tick, F32, val}
 use Rattle.sqrt.specs.Root.{RelativeSquare}
 use Rattle.floats.specs.declared.b2_math.B2vec2.{B2vec2}
 use Rattle.floats.specs.Ranges.{radius-in-range}
+use Rattle.floats.specs.NearUnit.{normal-bound, direction-error, length-error}
 use Rattle.shape_definitions.specs.declared.b2_polygon_shape.B2polygonShape.{B2polygonShape}
 use Rattle.shape_definitions.specs.Outline.{point-at, place-after}
 use Rattle.shape_definitions.specs.Validate.{polygon-in-range}
 use Rattle.grid.specs.Grid.{GridPoint, value-point}
-
--- ---- the bounds
--- N0: 1 + 2^-21
-abbrev pub normal-bound : ℕ
-normal-bound = metre + 16 * tick
-
--- N1: 2^-22, times a length l
-abbrev pub direction-error : ℕ → ℕ
-direction-error l = 8 * (tick * l)
-
--- N2: 2^-19
-abbrev pub length-error : ℕ
-length-error = 64 * tick
 
 -- ---- the normal (a, b) of a direction (u, v) whose squared length is t and whose rounded length is l
 pub record UnitNormal (u v a b : Z) (l t : ℕ) : Type 0 where

@@ -10,7 +10,7 @@ use Rattle.algebra.specs.Plane.{Point, PointAbs, from-to, dot}
 use Rattle.algebra.proofs.Magnitude.{abs-same, abs-sum-is, abs-scale, abs-unscale, abs-product}
 use Rattle.rounding.specs.Value.{metre, tick}
 use Rattle.rounding.proofs.Value.{metre-pos}
-use Rattle.grid.specs.GridOutline.{direction-error}
+use Rattle.floats.specs.NearUnit.{direction-error}
 use Rattle.grid_contacts.specs.Lengths.{exactly}
 use Rattle.grid_contacts.specs.Faces.{Face, off-line, squared-length, DistanceAtMost, DistanceAtLeast}
 use Rattle.grid_contacts.proofs.FaceNormal.{UnitOf, outward, FaceNormal}

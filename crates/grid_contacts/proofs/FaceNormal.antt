@@ -14,7 +14,8 @@ use Rattle.rounding.specs.Value.{metre}
 use Rattle.floats.specs.declared.b2_math.B2vec2.{B2vec2}
 use Rattle.floats.specs.declared.b2_math.B2Transform.{B2Transform}
 use Rattle.grid.specs.Grid.{value-point}
-use Rattle.grid.specs.GridOutline.{normal-bound, direction-error, length-error, UnitNormal, EdgeNormal}
+use Rattle.floats.specs.NearUnit.{normal-bound, direction-error, length-error}
+use Rattle.grid.specs.GridOutline.{UnitNormal, EdgeNormal}
 use Rattle.grid_contacts.specs.Placement.{QuarterTurn, unturned, to-left, about, to-right, turned, GridPlacement}
 use Rattle.grid_contacts.specs.Placement.{carried}
 use Rattle.grid_contacts.specs.Faces.{Face, squared-length}

@@ -30,7 +30,8 @@ use Rattle.contact_definitions.specs.B2CollidePolygon.{face-begin, face-end, fa
 use Rattle.contact_definitions.specs.WorldManifold.{plane-separation, world-of-face, points-in-range, manifold-in-range}
 use Rattle.contact_definitions.proofs.WorldPoints.{counted-length, counted-at, face-separation-at, each-in-range}
 use Rattle.grid.specs.Grid.{value-point}
-use Rattle.grid.specs.GridOutline.{normal-bound, GridOutline}
+use Rattle.floats.specs.NearUnit.{normal-bound}
+use Rattle.grid.specs.GridOutline.{GridOutline}
 use Rattle.grid_contacts.specs.Placement.{GridPlacement, carried, placed-corners}
 use Rattle.grid_contacts.specs.Lengths.{point-tolerance}
 use Rattle.grid_contacts.specs.Faces.{Face, face-at, NearFace, NearBoundary}

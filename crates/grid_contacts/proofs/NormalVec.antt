@@ -19,7 +19,7 @@ use Rattle.floats.specs.declared.b2_math.B2vec2.{B2vec2}
 use Rattle.floats.specs.declared.b2_math.B2Rot.{B2Rot}
 use Rattle.floats.specs.B2Math.{b2-neg, b2-dot, b2-mul-rot-by-vec2}
 use Rattle.grid.specs.Grid.{value-point}
-use Rattle.grid.specs.GridOutline.{normal-bound}
+use Rattle.floats.specs.NearUnit.{normal-bound}
 use Rattle.grid_contacts.specs.Placement.{QuarterTurn, turned, Turning}
 use Rattle.grid_contacts.proofs.Turns.{turned-abs}
 use Rattle.grid_contacts.proofs.ExactTurns.{turn-exact}

@@ -18,7 +18,8 @@ use Rattle.shape_definitions.specs.Outline.{point-at, place-after}
 use Rattle.shape_definitions.proofs.Edges.{after-in}
 use Rattle.contact_definitions.specs.B2CollidePolygon.{face-begin, face-end, local-tangent, face-along, outline-face}
 use Rattle.grid.specs.Grid.{GridPoint, value-point}
-use Rattle.grid.specs.GridOutline.{normal-bound, UnitNormal, Normalised, EdgeNormal, GridOutline}
+use Rattle.floats.specs.NearUnit.{normal-bound}
+use Rattle.grid.specs.GridOutline.{UnitNormal, Normalised, EdgeNormal, GridOutline}
 use Rattle.grid.proofs.Exact.{ExactVec}
 use Rattle.grid.proofs.Tests.{side-steps, side-is}
 use Rattle.grid.proofs.Edges.{some-steps}

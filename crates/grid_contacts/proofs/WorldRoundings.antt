@@ -15,7 +15,7 @@ use Rattle.rounding.proofs.Sized.{add-sized, sum-sized, difference-sized}
 use Rattle.floats.specs.declared.b2_math.B2vec2.{B2vec2}
 use Rattle.floats.specs.B2Math.{b2-add, b2-sub, b2-dot}
 use Rattle.grid.specs.Grid.{value-point}
-use Rattle.grid.specs.GridOutline.{normal-bound}
+use Rattle.floats.specs.NearUnit.{normal-bound}
 use Rattle.grid_contacts.proofs.NormalVec.{Coordinate, NormalVec, times-normal, dot-normal, dot-capped}
 use Rattle.grid_contacts.proofs.Crossing.{corner-metres, end-metres}
 

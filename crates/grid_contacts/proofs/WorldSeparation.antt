@@ -17,7 +17,7 @@ use Rattle.floats.specs.declared.b2_math.B2vec2.{B2vec2}
 use Rattle.floats.specs.B2Math.{b2-add, b2-sub, b2-scale, b2-dot}
 use Rattle.contact_definitions.specs.WorldManifold.{on-face, on-other, plane-separation}
 use Rattle.grid.specs.Grid.{value-point}
-use Rattle.grid.specs.GridOutline.{normal-bound, length-error}
+use Rattle.floats.specs.NearUnit.{normal-bound, length-error}
 use Rattle.grid_contacts.specs.Lengths.{exactly, both-skins}
 use Rattle.grid_contacts.specs.Faces.{Face, off-line}
 use Rattle.grid_contacts.specs.SecondSentence.{distance-most, distance-least, NearDistance}

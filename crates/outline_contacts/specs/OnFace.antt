@@ -4,7 +4,7 @@ use lib.Ieee.{Float}
 use Rattle.floats.specs.declared.b2_math.B2vec2.{B2vec2}
 use Rattle.floats.specs.declared.b2_math.B2Transform.{B2Transform}
 use Rattle.rounding.specs.Literals.{half32, one32}
-use Rattle.floats.specs.B2Math.{b2-add, b2-sub, b2-scale, b2-cross-vec-by-scalar, b2-normalize}
+use Rattle.floats.specs.B2Math.{b2-add, b2-sub, b2-scale, b2-cross-vec-by-scalar, b2-normalize, unit-or-same}
 use Rattle.floats.specs.B2Math.{b2-mul-t-transform-by-vec2}
 use Rattle.contact_definitions.specs.declared.b2_collision.B2contactId.{B2contactId}
 use Rattle.contact_definitions.specs.declared.b2_collision.B2clipVertex.{B2clipVertex}
@@ -25,7 +25,7 @@ abbrev pub placed-end : Bool → B2Transform → B2clipVertex → B2clipVertex
 placed-end flip xf2 end = record { v = b2-mul-t-transform-by-vec2 xf2 (end .v); id = named-by flip (end .id) }
 
 abbrev pub tangent-of : Face → B2vec2
-tangent-of f = b2-normalize (b2-sub (f .v12) (f .v11)) .v
+tangent-of f = unit-or-same (b2-normalize (b2-sub (f .v12) (f .v11)))
 
 unfoldable pub manifold-on-face : B2manifold → Face → Float → B2manifold
 manifold-on-face m f total =

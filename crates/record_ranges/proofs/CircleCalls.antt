@@ -7,8 +7,8 @@ use Rattle.rounding.specs.Literals.{zero32, half32, one32}
 use Rattle.floats.specs.declared.b2_math.B2Transform.{B2Transform}
 use Rattle.floats.specs.declared.b2_math.B2vec2.{B2vec2}
 use Rattle.floats.specs.B2Common.{b2-epsilon}
-use Rattle.floats.specs.B2Math.{b2-add, b2-sub, b2-neg, b2-scale, b2-dot, b2-normalize, b2-mul-transform-by-vec2}
-use Rattle.floats.specs.B2Math.{b2-mul-t-transform-by-vec2}
+use Rattle.floats.specs.B2Math.{b2-add, b2-sub, b2-neg, b2-scale, b2-dot, b2-normalize, unit-or-same, unit-or}
+use Rattle.floats.specs.B2Math.{b2-mul-transform-by-vec2, b2-mul-t-transform-by-vec2}
 use Rattle.shape_definitions.specs.declared.b2_circle_shape.B2circleShape.{B2circleShape}
 use Rattle.shape_definitions.specs.declared.b2_edge_shape.B2edgeShape.{B2edgeShape}
 use Rattle.shape_definitions.specs.declared.b2_polygon_shape.B2polygonShape.{B2polygonShape}
@@ -55,14 +55,15 @@ middle-caps v1 v2 h g = caps-scale half32 (b2-add v1 v2) 0 21 tt half-cap (caps-
 -- ---- outline and circle
 module _ (m : B2manifold) (h : Ranged m) (c : B2vec2) (c-caps : Caps c 24) (radius : Float) (centre : B2vec2)
     (centre-caps : Caps centre 20) where
-  at-corner : (v : B2vec2) → Caps v 20 → Ranged (circle-at-corner m v c radius centre)
+  at-corner : (v normal : B2vec2) → Caps v 20 → Caps normal 2 → Ranged (circle-at-corner m v normal c radius centre)
   unfolding circle-at-corner
-  at-corner v v-caps =
-      let normal = b2-normalize (b2-sub c v) .v in
+  at-corner v normal v-caps normal-caps =
+      let made = b2-normalize (b2-sub c v) in
       either Ranged (farther radius c v) _ _ h
-      (one-ranged m EFaceA normal v centre default-id h
+      (one-ranged m EFaceA (unit-or normal made) v centre default-id h
       (caps-widen 2 3 tt
-      (normalised-caps (b2-sub c v) 25 tt tt (caps-sub c v 24 tt c-caps (caps-widen 20 24 tt v-caps))))
+      (either (λ (w : B2vec2). Caps w 2) (made .«had_length») (unit-or-same made) normal
+      (normalised-caps (b2-sub c v) 25 tt (caps-sub c v 24 tt c-caps (caps-widen 20 24 tt v-caps))) normal-caps))
       (caps-widen 20 30 tt v-caps) (caps-widen 20 30 tt centre-caps))
 
   at-face : (v1 v2 normal : B2vec2) (separation : Float) → Caps v1 20 → Caps v2 20 → Caps normal 2
@@ -73,8 +74,8 @@ module _ (m : B2manifold) (h : Ranged m) (c : B2vec2) (c-caps : Caps c 24) (radi
       let written = one-ranged m EFaceA normal middle centre default-id h (caps-widen 2 3 tt normal-caps)
       (caps-widen 21 30 tt (middle-caps v1 v2 v1-caps v2-caps)) (caps-widen 20 30 tt centre-caps) in
       either Ranged (lt separation b2-epsilon) _ _ written
-      (either Ranged (le (b2-dot (b2-sub c v1) (b2-sub v2 v1)) zero32) _ _ (at-corner v1 v1-caps)
-      (either Ranged (le (b2-dot (b2-sub c v2) (b2-sub v1 v2)) zero32) _ _ (at-corner v2 v2-caps)
+      (either Ranged (le (b2-dot (b2-sub c v1) (b2-sub v2 v1)) zero32) _ _ (at-corner v1 normal v1-caps normal-caps)
+      (either Ranged (le (b2-dot (b2-sub c v2) (b2-sub v1 v2)) zero32) _ _ (at-corner v2 normal v2-caps normal-caps)
       (either Ranged (lt radius (b2-dot (b2-sub c middle) normal)) _ _ h written)))
 
   pub outline-circle-ranged : (poly : B2polygonShape) → OutlineCaps poly
@@ -105,8 +106,8 @@ module _ (m : B2manifold) (h : Ranged m) (c : B2vec2) (c-caps : Caps c 24) (radi
       n-caps in
       either Ranged
       (farther radius c (b2-scale (div binary32 one32 den) (b2-add (b2-scale u a) (b2-scale v b)))) _ _ h
-      (one-ranged m EFaceA (b2-normalize side .v) a centre _ h
-      (caps-widen 2 3 tt (normalised-caps side 21 tt tt side-caps)) (caps-widen 20 30 tt a-caps)
+      (one-ranged m EFaceA (unit-or-same (b2-normalize side)) a centre _ h
+      (caps-widen 2 3 tt (normalised-caps side 21 tt side-caps)) (caps-widen 20 30 tt a-caps)
       (caps-widen 20 30 tt centre-caps))
 
 pub wall-circle-ranged : (old : B2manifold) (edge : B2edgeShape) (q : B2vec2) (radius : Float) (centre : B2vec2)

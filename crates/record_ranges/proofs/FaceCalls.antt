@@ -31,7 +31,7 @@ use Rattle.record_ranges.proofs.CircleCalls.{middle-caps}
 tangent-caps : (poly : B2polygonShape) (i : ℕ) → OutlineCaps poly → Caps (local-tangent poly i) 2
 unfolding local-tangent
 tangent-caps poly i caps =
-    normalised-caps (b2-sub (face-end poly i) (face-begin poly i)) 21 tt tt
+    normalised-caps (b2-sub (face-end poly i) (face-begin poly i)) 21 tt
     (caps-sub (face-end poly i) (face-begin poly i) 20 tt (caps .corner _) (caps .corner i))
 
 cross-caps : (v : B2vec2) → Caps v 2 → Caps (b2-cross-vec-by-scalar v one32) 2

@@ -1,6 +1,5 @@
 pub mod Caps
 pub mod Vectors
-pub mod Coordinates
 pub mod Normalised
 pub mod Clipped
 pub mod Manifolds

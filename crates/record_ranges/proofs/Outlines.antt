@@ -99,7 +99,7 @@ each-edges (p ∷ ps) h = each-edge p p ps (h .0) (h .0) (h .1)
 normal-caps : (e : B2vec2) → Caps e 21 → Caps (normal-of-edge e) 2
 unfolding b2-cross-vec-by-scalar
 normal-caps e h =
-    normalised-caps (b2-cross-vec-by-scalar e one32) 21 tt tt
+    normalised-caps (b2-cross-vec-by-scalar e one32) 21 tt
     (record { x-cap = cap-mul 0 21 tt one-cap (h .y-cap); y-cap = cap-mul 0 21 tt (cap-neg 0 one-cap) (h .x-cap) })
 
 each-normal : (es : List B2vec2) → Each es 21 → Each (map normal-of-edge es) 2

@@ -9,7 +9,8 @@ use Rattle.rounding.specs.Literals.{zero32}
 use Rattle.floats.specs.declared.b2_math.B2Transform.{B2Transform}
 use Rattle.floats.specs.declared.b2_math.B2vec2.{B2vec2}
 use Rattle.floats.specs.B2Common.{b2-max-float}
-use Rattle.floats.specs.B2Math.{vec2, b2-sub, b2-neg, b2-dot, b2-normalize, b2-mul-t-rot, b2-mul-transform-by-vec2}
+use Rattle.floats.specs.B2Math.{vec2, b2-sub, b2-neg, b2-dot, b2-normalize, unit-or-same, b2-mul-t-rot}
+use Rattle.floats.specs.B2Math.{b2-mul-transform-by-vec2}
 use Rattle.floats.specs.B2Math.{b2-mul-t-transform}
 use Rattle.shape_definitions.specs.declared.b2_edge_shape.B2edgeShape.{B2edgeShape}
 use Rattle.shape_definitions.specs.declared.b2_polygon_shape.B2polygonShape.{B2polygonShape}
@@ -195,8 +196,8 @@ pub wall-outline-ranged : (m : B2manifold) (edge : B2edgeShape) (xf : B2Transfor
     → WallCaps edge → Placed xf 1 22 → OutlineCaps poly → Ranged (edge-polygon-manifold m edge xf poly)
 unfolding edge-polygon-manifold
 wall-outline-ranged m edge xf poly h wall place caps =
-    let edge1 = b2-normalize (b2-sub (edge .«m_vertex2») (edge .«m_vertex1»)) .v in
-    let edge1-caps = normalised-caps (b2-sub (edge .«m_vertex2») (edge .«m_vertex1»)) 21 tt tt
+    let edge1 = unit-or-same (b2-normalize (b2-sub (edge .«m_vertex2») (edge .«m_vertex1»))) in
+    let edge1-caps = normalised-caps (b2-sub (edge .«m_vertex2») (edge .«m_vertex1»)) 21 tt
     (caps-sub (edge .«m_vertex2») (edge .«m_vertex1») 20 tt (wall .to) (wall .from)) in
     let radius = add binary32 (poly .«m_radius») (edge .«m_radius») in
     let centroid = b2-mul-transform-by-vec2 xf (poly .«m_centroid») in

@@ -1,5 +1,6 @@
 -- The comparisons of finite numbers are those of their values, in both directions: `<`, `<=`, `==`, a `<` that fails;
--- and `<` and `==` as the computed tests of those values; no float is below itself. Assumes nothing.
+-- and `<` and `==` as the computed tests of those values; no float is below itself, nor below one that is at most it.
+-- Assumes nothing.
 use mathlib.Core.Path.{_≡_, refl, sym, ap, _∙_, subst}
 use mathlib.Core.Logic.{inl, inr}
 use Prim.Native.Nat.{ℕ, _+_, _*_, _<_}
@@ -11,7 +12,7 @@ use mathlib.Core.Bool.{Bool, true, false, not, _||_, Bool·beq}
 use lib.Dec.{T, ltb, eqb, ltb→lt, lt→ltb, eqb→eq, not-T, T-not}
 use lib.Ieee.{Float, nan, inf, fin, up, down, below, level, lt, eq, le}
 use lib.Ieee.Fits.{down-pos, and-i, and-l, and-r, eq→eqb}
-use Rattle.algebra.specs.Integer.{signed, _≐_, _≼_, _≺_, _≐?_, _≺?_}
+use Rattle.algebra.specs.Integer.{Z, signed, _≐_, _≼_, _≺_, _≐?_, _≺?_}
 use Rattle.algebra.proofs.Integer.{order-cases, same-of-test, test-of-same, lt-of-test, test-of-lt}
 use Rattle.algebra.proofs.Booleans.{bool-iff, or-left, or-right}
 use Rattle.rounding.specs.Value.{metre, F32, sign, mag, val}
@@ -116,6 +117,31 @@ signed-level true false m n h = and-i (eqb m n) (eqb m 0) (eq→eqb {a = m} {b =
     (eq→eqb {a = m} {b = 0} (omega arith))
 signed-level false true m n h = and-i (eqb m n) (eqb m 0) (eq→eqb {a = m} {b = n} (omega arith))
     (eq→eqb {a = m} {b = 0} (omega arith))
+
+-- ---- of any two floats, NaNs and infinities too: x ≤ y leaves no y < x
+pub le-not-lt : (x y : Float) → T (le x y) → T (lt y x) → ⊥
+unfolding le lt eq
+le-not-lt nan y h l = h
+le-not-lt (inf s) nan h l = h
+le-not-lt (inf true) (inf true) h l = l
+le-not-lt (inf true) (inf false) h l = l
+le-not-lt (inf false) (inf true) h l = h
+le-not-lt (inf false) (inf false) h l = l
+le-not-lt (inf true) (fin t n d) h l = l
+le-not-lt (inf false) (fin t n d) h l = h
+le-not-lt (fin s m e) nan h l = h
+le-not-lt (fin s m e) (inf true) h l = h
+le-not-lt (fin s m e) (inf false) h l = l
+le-not-lt (fin s m e) (fin t n d) h l =
+    let p = m * up e * down d in
+    let q = n * up d * down e in
+    by-tests (below s p t q) (level s p t q) (signed s p) (signed t q) (below-signed s t p q) (level-signed s t p q) h
+    (below-signed t s q p l)
+  where
+    by-tests : (a b : Bool) (u v : Z) → (T a → u ≺ v) → (T b → u ≐ v) → T (a || b) → v ≺ u → ⊥
+    by-tests true b u v less same h g = let k = less tt in omega arith
+    by-tests false true u v less same h g = let k = same tt in omega arith
+    by-tests false false u v less same h g = h
 
 -- ---- the laws
 module _ {x y : Float} (x-f32 : F32 x) (y-f32 : F32 y) where

@@ -13,7 +13,7 @@ use Rattle.shape_definitions.specs.declared.b2_polygon_shape.FanSum.{Fan
 use Rattle.rounding.specs.Literals.{zero32, half32, one32}
 use Rattle.floats.specs.B2Common.{epsilon-squared}
 use Rattle.floats.specs.B2Math.{vec2, b2-add, b2-sub, b2-scale, b2-cross, b2-cross-vec-by-scalar}
-use Rattle.floats.specs.B2Math.{b2-length-squared, b2-distance-vec2-squared, b2-normalize}
+use Rattle.floats.specs.B2Math.{b2-length-squared, b2-distance-vec2-squared, b2-normalize, unit-or-same}
 
 abbrev pub origin : B2vec2
 origin = vec2 zero32 zero32
@@ -86,7 +86,7 @@ long-enough [] = true
 long-enough (e ∷ es) = lt epsilon-squared (b2-length-squared e) && long-enough es
 
 abbrev pub normal-of-edge : B2vec2 → B2vec2
-normal-of-edge e = b2-normalize (b2-cross-vec-by-scalar e one32) .v
+normal-of-edge e = unit-or-same (b2-normalize (b2-cross-vec-by-scalar e one32))
 
 -- ---- area and centroid: triangles from the first corner, summed in corner order; a sum has the area and the moment
 

@@ -5,7 +5,7 @@ use lib.Ieee.{Float, binary32, neg, add, lt}
 use Rattle.rounding.specs.Literals.{zero32}
 use Rattle.floats.specs.declared.b2_math.B2vec2.{B2vec2}
 use Rattle.floats.specs.declared.b2_math.B2Transform.{B2Transform}
-use Rattle.floats.specs.B2Math.{vec2, b2-sub, b2-dot, b2-normalize, b2-mul-transform-by-vec2}
+use Rattle.floats.specs.B2Math.{vec2, b2-sub, b2-dot, b2-normalize, unit-or-same, b2-mul-transform-by-vec2}
 use Rattle.shape_definitions.specs.declared.b2_polygon_shape.B2polygonShape.{B2polygonShape}
 use Rattle.shape_definitions.specs.declared.b2_edge_shape.B2edgeShape.{B2edgeShape}
 use Rattle.contact_definitions.specs.declared.axis.Axis.{Axis}
@@ -26,7 +26,7 @@ module _ (old : B2manifold) (edge : B2edgeShape) (edge1 : B2vec2) (xf : B2Transf
 
 module _ (m : B2manifold) (edge : B2edgeShape) (edge1 : B2vec2) (xf : B2Transform) (poly : B2polygonShape)
     (behind : Bool)
-    (edge1-is : edge1 ≡ b2-normalize (b2-sub (edge .«m_vertex2») (edge .«m_vertex1»)) .v)
+    (edge1-is : edge1 ≡ unit-or-same (b2-normalize (b2-sub (edge .«m_vertex2») (edge .«m_vertex1»))))
     (behind-is : behind ≡ (edge .«m_one_sided» && lt (b2-dot (vec2 (edge1 .y) (neg (edge1 .x)))
     (b2-sub (b2-mul-transform-by-vec2 xf (poly .«m_centroid»)) (edge .«m_vertex1»))) zero32)) where
   abbrev total : Float

@@ -5,7 +5,7 @@ use Prim.Native.Nat.{ℕ}
 use lib.Ieee.{Float, binary32, neg, div, le, lt}
 use Rattle.rounding.specs.Literals.{zero32, one32}
 use Rattle.floats.specs.declared.b2_math.B2vec2.{B2vec2}
-use Rattle.floats.specs.B2Math.{vec2, b2-add, b2-sub, b2-neg, b2-scale, b2-dot, b2-normalize}
+use Rattle.floats.specs.B2Math.{vec2, b2-add, b2-sub, b2-neg, b2-scale, b2-dot, b2-normalize, unit-or-same}
 use Rattle.shape_definitions.specs.declared.b2_edge_shape.B2edgeShape.{B2edgeShape}
 use Rattle.shape_definitions.specs.Outline.{origin}
 use Rattle.shape_definitions.specs.Refusal.{wall-too-short}
@@ -126,7 +126,7 @@ module _ (old : B2manifold) (edge : B2edgeShape) (centre : B2vec2) where
           let d = b2-sub (edge .«m_vertex2») (edge .«m_vertex1») in
           let foot = b2-scale (div binary32 one32 (b2-dot d d))
           (b2-add (b2-scale u (edge .«m_vertex1»)) (b2-scale v (edge .«m_vertex2»))) in
-          let normal = b2-normalize (cond (lt offset zero32) (b2-neg (right-of d)) (right-of d)) .v in
+          let normal = unit-or-same (b2-normalize (cond (lt offset zero32) (b2-neg (right-of d)) (right-of d))) in
           rw (t-is, e-is)
           (at-wall (lt zero32 (b2-dot d d)) (farther radius q foot) normal
           ∙ rw e-is at (regions-are false false false front before after))

@@ -5,7 +5,7 @@ use Prim.Native.Nat.{ℕ}
 use lib.Ieee.{Float, binary32, div, lt, add}
 use Rattle.rounding.specs.Literals.{zero32, one32}
 use Rattle.floats.specs.declared.b2_math.B2vec2.{B2vec2}
-use Rattle.floats.specs.B2Math.{vec2, b2-add, b2-neg, b2-scale, b2-dot, b2-normalize, b2-mul-transform-by-vec2}
+use Rattle.floats.specs.B2Math.{vec2, b2-add, b2-neg, b2-scale, b2-dot, b2-normalize, unit-or-same, b2-mul-transform-by-vec2}
 use Rattle.floats.specs.B2Math.{b2-mul-t-transform-by-vec2}
 use Rattle.floats.specs.declared.b2_math.B2Transform.{B2Transform}
 use Rattle.shape_definitions.specs.declared.b2_edge_shape.B2edgeShape.{B2edgeShape}
@@ -33,7 +33,7 @@ face-touch a b q e u v n offset radius =
     cond (lt zero32 (b2-dot e e))
     (cond (farther radius q (b2-scale (div binary32 one32 (b2-dot e e)) (b2-add (b2-scale u a) (b2-scale v b))))
     Nothing
-    (face-of (b2-normalize (cond (lt offset zero32) (b2-neg n) n) .v))) Flat
+    (face-of (unit-or-same (b2-normalize (cond (lt offset zero32) (b2-neg n) n))))) Flat
 
 unfoldable pub touch-answer : Touch → B2manifold → B2edgeShape → B2vec2 → ManifoldAnswer
 touch-answer Nothing old edge centre = manifold-accepted (with-count old 0)

@@ -4,7 +4,7 @@ ghost use mathlib.Core.Bool.{_&&_};
 ghost use Prim.Native.Nat.{_<_, _≤_};
 ghost use lib.Ieee.{lt};
 ghost use Rattle.rounding.specs.Literals.{zero32};
-ghost use Rattle.floats.specs.B2Math.{b2-sub, b2-dot, b2-normalize, b2-mul-transform-by-vec2};
+ghost use Rattle.floats.specs.B2Math.{b2-sub, b2-dot, b2-normalize, unit-or-same, b2-mul-transform-by-vec2};
 ghost use Rattle.floats.specs.Unit.{unit-scale};
 ghost use Rattle.contact_definitions.specs.B2CollideEdge.{b2-collide-edge-and-circle, b2-collide-edge-and-polygon};
 ghost use Rattle.contact_definitions.specs.B2CollideEdge.{edge-polygon-manifold};
@@ -73,7 +73,7 @@ pub fn b2_collide_edge_and_circle(
 // A vector times the factor that makes it unit.
 fn scaled(e: B2vec2, k: f32) -> B2vec2
     requires { ⌜ k ≡ unit-scale e ⌝ }
-    ensures { λ r. ⌜ r ≡ b2-normalize e .v ⌝ }
+    ensures { λ r. ⌜ r ≡ unit-or-same (b2-normalize e) ⌝ }
 {
     B2vec2 {
         x: e.x * k,

@@ -1,7 +1,7 @@
 -- By what the clipping leaves. Assumes nothing.
 use mathlib.Core.Path.{_∙_, ap}
 use Rattle.floats.specs.declared.b2_math.B2vec2.{B2vec2}
-use Rattle.floats.specs.B2Math.{b2-scale, b2-normalize}
+use Rattle.floats.specs.B2Math.{b2-scale, b2-normalize, unit-or-same}
 use Rattle.rounding.specs.Literals.{half32}
 use Rattle.outline_contacts.proofs.Written.{only-the-kind, with-its-points}
 use borrow.Author.Needs.{needs}
@@ -39,7 +39,7 @@ returns c =
     let at-args = at-unit .before .before in
     let args = at-args .args in
     only-the-kind (args .m) (args .f) (args .total-radius) _ _ _ _
-    (unit .ensures ∙ ap (λ (v : B2vec2). b2-normalize v .v) (b2-sub .ensures))
+    (unit .ensures ∙ ap (λ (v : B2vec2). unit-or-same (b2-normalize v)) (b2-sub .ensures))
     (placed-face .ensures) (incident-ends .ensures) (clip-to-sides .ensures) (if1 .taken) _ (c .only-kind .ensures)
 
 element-copy-out-e0 : tie.Need-element-copy-out-e0
@@ -99,7 +99,7 @@ returns-2 c =
     let b2-sub = at-unit .before .b2-sub in
     let args = at-unit .before .before .args in
     with-its-points (args .m) (args .f) (args .total-radius) _ _ _ _
-    (unit .ensures ∙ ap (λ (v : B2vec2). b2-normalize v .v) (b2-sub .ensures)) (placed-face .ensures) (incident-ends
+    (unit .ensures ∙ ap (λ (v : B2vec2). unit-or-same (b2-normalize v)) (b2-sub .ensures)) (placed-face .ensures) (incident-ends
     .ensures) (clip-to-sides .ensures) (if1 .left) _ _ _ _ _ _ _ _ _
     (within-skins .ensures) (within-skins2 .ensures)
     (placed-end .ensures) (placed-end2 .ensures) (kept-points .ensures) (b2-cross-vec-by-scalar .ensures)

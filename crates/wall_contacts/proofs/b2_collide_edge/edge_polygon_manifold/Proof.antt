@@ -1,6 +1,6 @@
 -- Behind the wall, kept off by its own sides, or by the axis found with the outline's faces. Assumes nothing.
 use mathlib.Core.Path.{_≡_, refl, sym, _∙_, ap}
-use Rattle.floats.specs.B2Math.{b2-sub, b2-normalize}
+use Rattle.floats.specs.B2Math.{b2-sub, b2-normalize, unit-or-same}
 use Rattle.floats.specs.Unit.{unit-scale}
 use Rattle.contact_definitions.specs.Manifold.{with-count}
 use Rattle.contact_definitions.specs.EdgeAxis.{right-of, b2-compute-edge-separation}
@@ -30,8 +30,8 @@ scaled-of w = w .before .before
 
 edge1-is : (w : tie.After-scaled)
     → w .scaled .result
-    ≡ b2-normalize (b2-sub (start-of w .args .edge .«m_vertex2») (start-of w .args .edge .«m_vertex1»)) .v
-edge1-is w = w .scaled .ensures ∙ ap (λ e. b2-normalize e .v) (w .before .b2-sub .ensures)
+    ≡ unit-or-same (b2-normalize (b2-sub (start-of w .args .edge .«m_vertex2») (start-of w .args .edge .«m_vertex1»)))
+edge1-is w = w .scaled .ensures ∙ ap (λ e. unit-or-same (b2-normalize e)) (w .before .b2-sub .ensures)
 
 returns : tie.Need-returns
 returns c =
