@@ -1,14 +1,15 @@
 -- What the searches find among finite numbers: the least one of a function at the places below a count, where all are
 -- below the largest float; the first greatest one with its place, where all are above that float negated; and the place
--- of the first least is a place. Each search is a scan (algebra's Scan). Assumes nothing.
+-- of the first least or greatest is a place. Each search is a scan (algebra's Scan). Assumes nothing.
 use mathlib.Core.Path.{_≡_, refl, sym, ap, subst}
+use mathlib.Core.Bool.{Bool}
 use mathlib.Core.List.{List·Memᴰ, List·Memᴰ·cases-cons, map}
 use mathlib.Core.Logic.{_⊎_, inl, inr}
 use Prim.Native.Nat.{ℕ, _<_}
 use native.Mathlib.Omega.{arith}
 use lib.Ieee.{Float, neg}
 use Rattle.algebra.specs.Integer.{Z, _≼_, _≺_}
-use Rattle.algebra.specs.Loops.{places}
+use Rattle.algebra.specs.Loops.{places, scan}
 use Rattle.algebra.proofs.Integer.{le-of-same, same-refl}
 use Rattle.algebra.proofs.Places.{value-listed, listed-value}
 use Rattle.algebra.proofs.Scan.{scan-mem, scan-best}
@@ -119,16 +120,24 @@ module _ (f : ℕ → Float) (count : ℕ) (finite : (i : ℕ) → i < count →
           of-valued : (b : Best) (i : ℕ) → b ≡ valued f i → b .value ≡ f (b .place)
           of-valued b i e = subst (λ (c : Best). c .value ≡ f (c .place)) (sym e) refl
 
--- ---- the place of the first least, whatever the numbers
-pub least-place-in : (f : ℕ → Float) (count : ℕ) → 0 < count → first-least f count .place < count
-unfolding first-least
-least-place-in f count some =
-    of-place (List·Memᴰ·cases-cons (scan-mem is-less (map (valued f) (places 0 count)) begun))
+-- ---- the place of a search that begins at place 0, whatever the numbers
+place-in : (better : Best → Best → Bool) (begin : Float) (f : ℕ → Float) (count : ℕ) → 0 < count
+    → scan better (record { place = 0; value = begin }) (map (valued f) (places 0 count)) .place < count
+place-in better begin f count some =
+    of-place (List·Memᴰ·cases-cons (scan-mem better (map (valued f) (places 0 count)) begun))
   where
     begun : Best
-    begun = record { place = 0; value = b2-max-float }
+    begun = record { place = 0; value = begin }
 
     of-place : {r : Best} → (r ≡ begun) ⊎ List·Memᴰ r (map (valued f) (places 0 count)) → r .place < count
     of-place (inl e) = subst (λ (i : ℕ). i < count) (ap (λ (b : Best). b .place) (sym e)) some
     of-place (inr m) = let h = listed-value (valued f) count m in
         subst (λ (i : ℕ). i < count) (ap (λ (b : Best). b .place) (sym (h .2))) (h .1)
+
+pub least-place-in : (f : ℕ → Float) (count : ℕ) → 0 < count → first-least f count .place < count
+unfolding first-least
+least-place-in f count some = place-in is-less b2-max-float f count some
+
+pub greatest-place-in : (f : ℕ → Float) (count : ℕ) → 0 < count → first-greatest f count .place < count
+unfolding first-greatest
+greatest-place-in f count some = place-in is-greater (neg b2-max-float) f count some

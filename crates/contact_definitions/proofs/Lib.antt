@@ -19,5 +19,6 @@ pub mod CircleCounts
 pub mod FaceCounts
 pub mod Unwritten
 pub mod UnwrittenCalls
+pub mod CircleNormals
 pub mod Theorem
 pub mod WorldRefusals

@@ -11,3 +11,4 @@ pub mod EdgeAxis
 pub mod EdgeReference
 pub mod B2CollideEdge
 pub mod Unwritten
+pub mod CircleNormals

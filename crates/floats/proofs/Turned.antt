@@ -96,6 +96,11 @@ module _ (v : B2vec2) (squared : Float) (squared-is : squared ≡ b2-length-squa
       had = le b2-epsilon (b2-length v)
 
 -- ---- and so is the turned edge
+pub turned-long : (e : B2vec2) → T (fits binary32 (e .x)) → T (fits binary32 (e .y))
+    → lt epsilon-squared (b2-length-squared e) ≡ true → lt (b2-length (b2-cross-vec-by-scalar e one32)) b2-epsilon ≡ false
+turned-long e x-fits y-fits long =
+    acts (b2-cross-vec-by-scalar e one32) (b2-length-squared e) (sym (turned-squared e x-fits y-fits)) long
+
 pub normal-is : (e : B2vec2) (squared : Float) → T (fits binary32 (e .x)) → T (fits binary32 (e .y))
     → squared ≡ b2-length-squared e → lt epsilon-squared squared ≡ true
     → (turned : B2vec2) (root : Float) → turned ≡ b2-cross-vec-by-scalar e one32 → root ≡ b2-sqrt squared

@@ -25,6 +25,7 @@ use Rattle.shape_definitions.specs.Circle.{circle-in-range}
 use Rattle.shape_definitions.specs.Edge.{b2-set-one-sided, b2-set-two-sided}
 use Rattle.shape_definitions.specs.Polygon.{all-points, b2-polygon-shape-set}
 use Rattle.shape_definitions.specs.Refusal.{accepted}
+use Rattle.contact_definitions.specs.CircleNormals.{Single}
 use Rattle.contact_definitions.proofs.Counts.{either}
 use Rattle.record_definitions.specs.declared.world.Body.{Body}
 use Rattle.record_definitions.specs.declared.world.Chain.{Chain}
@@ -38,6 +39,7 @@ use Rattle.record_ranges.proofs.Caps.{Cap}
 use Rattle.record_ranges.proofs.Vectors.{Caps, Turns}
 use Rattle.record_ranges.proofs.Shapes.{zero-cap, one-cap, origin-caps, CircleCaps, WallCaps, OutlineCaps}
 use Rattle.record_ranges.proofs.Shapes.{AtPlace}
+use Rattle.record_ranges.proofs.InRange.{point-caps, place-caps}
 use Rattle.record_ranges.proofs.Outlines.{Each, each-at, origins, built-caps, blank-outline-caps}
 use Rattle.record_ranges.proofs.Outlines.{skin-taken}
 use Rattle.floats.specs.B2Common.{b2-polygon-radius}
@@ -52,18 +54,13 @@ pub record CappedBody (body : Body) : Type 0 where
   pub skin-taken : radius-in-range (skin body) ≡ true
 
 -- ---- numbers read from frames
-bounded-cap : (x : Float) (k h : ℕ) → h * metre ≤ 2 ^ k * metre → Bounded x (h * metre) → Cap x k
-bounded-cap x k h fits b = record { own = b .own; size = le-trans (mag-abs x (h * metre) (b .abs)) fits }
+read-single : (bytes : List ℕ) (at : ℕ) → Single (vector-at bytes at)
+unfolding vector-at
+read-single bytes at =
+    (ofBits-fits binary32 (number-at bytes at), ofBits-fits binary32 (number-at bytes (at + 4)))
 
-point-caps : (bytes : List ℕ) (at : ℕ) → point-in-range (vector-at bytes at) ≡ true → Caps (vector-at bytes at) 20
-unfolding vector-at point-in-range
-point-caps bytes at taken =
-    let both = limit-vec2 {v = vector-at bytes at} shape-limit-is (ofBits-fits binary32 (number-at bytes at))
-    (ofBits-fits binary32 (number-at bytes (at + 4))) (subst T (sym taken) tt) in
-    record {
-      x-cap = bounded-cap (float-at bytes at) 20 (2 ^ 20) (le-of-eq refl) (both .0);
-      y-cap = bounded-cap (float-at bytes (at + 4)) 20 (2 ^ 20) (le-of-eq refl) (both .1);
-    }
+read-caps : (bytes : List ℕ) (at : ℕ) → point-in-range (vector-at bytes at) ≡ true → Caps (vector-at bytes at) 20
+read-caps bytes at taken = point-caps (vector-at bytes at) (read-single bytes at) taken
 
 pub points-caps : (bytes : List ℕ) (at n : ℕ) → all-points point-in-range (points-at bytes at n) ≡ true
     → Each (points-at bytes at n) 20
@@ -72,27 +69,14 @@ points-caps bytes at zero taken = tt
 points-caps bytes at (suc n) taken =
     let later = all-points point-in-range (points-at bytes (at + 8) n) in
     let first = both (point-in-range (vector-at bytes at)) later taken in
-    (point-caps bytes at (first .0), points-caps bytes (at + 8) n (first .1))
-
-turn-caps : (bytes : List ℕ) (at : ℕ) → rotation-in-range (rotation-at bytes at) ≡ true → Turns (rotation-at bytes at) 0
-unfolding rotation-at rotation-in-range
-turn-caps bytes at taken =
-    let s = float-at bytes at in
-    let c = float-at bytes (at + 4) in
-    let each = both (within one32 s) (within one32 c) taken in
-    record {
-      sine = bounded-cap s 0 1 (le-of-eq refl)
-          (limit-value one-limit-is (ofBits-fits binary32 (number-at bytes at)) (subst T (sym (each .0)) tt));
-      cosine = bounded-cap c 0 1 (le-of-eq refl)
-          (limit-value one-limit-is (ofBits-fits binary32 (number-at bytes (at + 4))) (subst T (sym (each .1)) tt));
-    }
+    (read-caps bytes at (first .0), points-caps bytes (at + 8) n (first .1))
 
 pub placement-caps : (bytes : List ℕ) → transform-in-range (placement-at bytes 2) ≡ true
     → AtPlace (placement-at bytes 2)
-unfolding placement-at transform-in-range
+unfolding placement-at rotation-at
 placement-caps bytes taken =
-    let each = both (point-in-range (vector-at bytes 2)) (rotation-in-range (rotation-at bytes 10)) taken in
-    record { turn = turn-caps bytes 10 (each .1); position = point-caps bytes 2 (each .0) }
+    place-caps (placement-at bytes 2)
+    (read-single bytes 2, ofBits-fits binary32 (number-at bytes 10), ofBits-fits binary32 (number-at bytes 14)) taken
 
 pub turned-caps : (bytes : List ℕ) → transform-in-range (turned-placement bytes) ≡ true
     → AtPlace (turned-placement bytes)
@@ -105,7 +89,7 @@ turned-caps bytes taken =
         sine = component-cap (heading-is number .sine);
         cosine = component-cap (heading-is number .cosine);
       };
-      position = point-caps bytes 2 (each .0);
+      position = read-caps bytes 2 (each .0);
     }
   where
     component-cap : {x : Float} → Component x → Cap x 0
@@ -149,7 +133,7 @@ circle-capped bytes taken =
     let each = both (radius-in-range (float-at bytes 10)) (point-in-range (vector-at bytes 2)) taken in
     record {
       place = at-origin-caps;
-      circle = record { centre = point-caps bytes 2 (each .1) };
+      circle = record { centre = read-caps bytes 2 (each .1) };
       outline = blank-outline-caps;
       wall = blank-wall-caps;
       chain = blank-chain-caps;
@@ -200,9 +184,9 @@ wall-at-caps : (bytes : List ℕ) → WallIf (wall-at bytes)
 unfolding wall-at
 wall-at-caps bytes =
     either WallIf (eqb (byte-at bytes 2) 0) _ _
-    (two-sided-caps (vector-at bytes 3) (vector-at bytes 11) (point-caps bytes 3) (point-caps bytes 11))
+    (two-sided-caps (vector-at bytes 3) (vector-at bytes 11) (read-caps bytes 3) (read-caps bytes 11))
     (one-sided-caps (vector-at bytes 3) (vector-at bytes 11) (vector-at bytes 19) (vector-at bytes 27)
-    (point-caps bytes 11) (point-caps bytes 19))
+    (read-caps bytes 11) (read-caps bytes 19))
 
 pub wall-capped : (bytes : List ℕ) → wall-at bytes .refusal ≡ accepted → CappedBody (wall-body (wall-at bytes .shape))
 unfolding wall-body skin WallIf

@@ -4,10 +4,13 @@ pub mod Normalised
 pub mod Clipped
 pub mod Manifolds
 pub mod Shapes
+pub mod InRange
 pub mod CircleCalls
 pub mod FaceCalls
 pub mod WallCalls
 pub mod Outlines
+pub mod BuiltNormals
+pub mod NoZeroNormal
 pub mod Bodies
 pub mod Chains
 pub mod Kept

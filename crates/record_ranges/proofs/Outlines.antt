@@ -73,14 +73,14 @@ unfolding Each
 each-kept true kept p h g = h
 each-kept false kept p h g = each-append kept (p ∷ []) 20 h (g, tt)
 
-each-weld : (kept points : List B2vec2) → Each kept 20 → Each points 20 → Each (weld too-near kept points) 20
+pub each-weld : (kept points : List B2vec2) → Each kept 20 → Each points 20 → Each (weld too-near kept points) 20
 unfolding Each
 each-weld kept [] h g = h
 each-weld kept (p ∷ points) h g =
     let near = near-any too-near p kept in
     each-weld (keep-unless near kept p) points (each-kept near kept p h (g .0)) (g .1)
 
-each-picked : (ps : List B2vec2) (places : List ℕ) → Each ps 20 → Each (map (point-at ps) places) 20
+pub each-picked : (ps : List B2vec2) (places : List ℕ) → Each ps 20 → Each (map (point-at ps) places) 20
 unfolding Each
 each-picked ps [] h = tt
 each-picked ps (i ∷ places) h = (each-at ps 20 h i, each-picked ps places h)
@@ -91,16 +91,18 @@ unfolding Each
 each-edge first p [] f h g = (caps-sub first p 20 tt f h, tt)
 each-edge first p (q ∷ ps) f h g = (caps-sub q p 20 tt (g .0) h, each-edge first q ps f (g .0) (g .1))
 
-each-edges : (ps : List B2vec2) → Each ps 20 → Each (edges ps) 21
+pub each-edges : (ps : List B2vec2) → Each ps 20 → Each (edges ps) 21
 unfolding Each edges
 each-edges [] h = tt
 each-edges (p ∷ ps) h = each-edge p p ps (h .0) (h .0) (h .1)
 
-normal-caps : (e : B2vec2) → Caps e 21 → Caps (normal-of-edge e) 2
+pub turned-caps : (e : B2vec2) → Caps e 21 → Caps (b2-cross-vec-by-scalar e one32) 21
 unfolding b2-cross-vec-by-scalar
-normal-caps e h =
-    normalised-caps (b2-cross-vec-by-scalar e one32) 21 tt
-    (record { x-cap = cap-mul 0 21 tt one-cap (h .y-cap); y-cap = cap-mul 0 21 tt (cap-neg 0 one-cap) (h .x-cap) })
+turned-caps e h =
+    record { x-cap = cap-mul 0 21 tt one-cap (h .y-cap); y-cap = cap-mul 0 21 tt (cap-neg 0 one-cap) (h .x-cap) }
+
+normal-caps : (e : B2vec2) → Caps e 21 → Caps (normal-of-edge e) 2
+normal-caps e h = normalised-caps (b2-cross-vec-by-scalar e one32) 21 tt (turned-caps e h)
 
 each-normal : (es : List B2vec2) → Each es 21 → Each (map normal-of-edge es) 2
 unfolding Each

@@ -1,0 +1,163 @@
+-- Document 02, request 07: an outline that the builder accepts, or a box, against any circle: a reported local normal is
+-- not zero, and its squared length is 1 within 2^-19. At a corner it is a vector made unit that had a length, or the
+-- normal of the chosen face. Assumes nothing.
+use Prim.Native.Nat.{ℕ, _*_, _<_}
+use mathlib.Core.Path.{_≡_, refl, ap, subst}
+use native.Mathlib.Nat.{mul-pos}
+use mathlib.Core.Bool.{Bool, true, false, not, cond, _&&_}
+use mathlib.Core.List.{List}
+use mathlib.Core.Logic.{_⊎_, inl, inr}
+use native.Mathlib.Omega.{arith}
+use lib.Dec.{T}
+use lib.Ieee.{Float, binary32, fits, add, le, lt}
+use borrow.Author.Tests.{not-false}
+use Rattle.algebra.specs.Integer.{Z, whole, _⊞_, _⊟_, _⊠_, _≐_, Abs}
+use Rattle.algebra.proofs.Booleans.{both}
+use Rattle.rounding.specs.Literals.{zero32, half32}
+use Rattle.rounding.specs.Value.{metre, tick, mag, val}
+use Rattle.rounding.proofs.Value.{metre-pos, metre-square, abs-mag}
+use Rattle.floats.specs.declared.b2_math.B2Transform.{B2Transform}
+use Rattle.floats.specs.declared.b2_math.B2vec2.{B2vec2}
+use Rattle.floats.specs.B2Common.{b2-epsilon}
+use Rattle.floats.specs.B2Math.{b2-add, b2-sub, b2-scale, b2-dot, b2-normalize, unit-or, b2-mul-transform-by-vec2}
+use Rattle.floats.specs.B2Math.{b2-mul-t-transform-by-vec2}
+use Rattle.floats.specs.NearUnit.{length-error, NearUnit}
+use Rattle.floats.specs.Ranges.{point-in-range, radius-in-range, transform-in-range}
+use Rattle.floats.proofs.Normalised.{made-near-unit}
+use Rattle.floats.proofs.Square.{square-is}
+use Rattle.shape_definitions.specs.declared.b2_circle_shape.B2circleShape.{B2circleShape}
+use Rattle.shape_definitions.specs.declared.b2_polygon_shape.B2polygonShape.{B2polygonShape}
+use Rattle.shape_definitions.specs.Boxes.{b2-polygon-shape-set-as-box}
+use Rattle.shape_definitions.specs.Circle.{circle-in-range}
+use Rattle.shape_definitions.specs.Polygon.{b2-polygon-shape-set}
+use Rattle.shape_definitions.specs.Refusal.{accepted}
+use Rattle.shape_definitions.specs.Validate.{polygon-in-range}
+use Rattle.shape_definitions.proofs.Edges.{after-in}
+use Rattle.contact_definitions.specs.declared.b2_collision.B2manifold.{B2manifold}
+use Rattle.contact_definitions.specs.declared.b2_collision.B2manifoldType.the-variants.{EFaceA}
+use Rattle.contact_definitions.specs.declared.b2_collision.ManifoldAnswer.{ManifoldAnswer}
+use Rattle.contact_definitions.specs.Manifold.{default-id, with-count, with-one-point, miscounted}
+use Rattle.contact_definitions.specs.B2CollideCircle.{farther, circle-separation, circle-at-corner, circle-at-face}
+use Rattle.contact_definitions.specs.B2CollideCircle.{circle-at-best, polygon-circle-manifold}
+use Rattle.contact_definitions.specs.B2CollideCircle.{b2-collide-polygon-and-circle}
+use Rattle.contact_definitions.specs.CircleNormals.{chosen, outside, Pushes, Single, Singles, SinglePlace, NoZeroNormal}
+use Rattle.contact_definitions.proofs.Counts.{Accepted, either, refused, counted}
+use Rattle.contact_definitions.proofs.Extremes.{greatest-place-in}
+use Rattle.record_definitions.proofs.Changes.{by-choice}
+use Rattle.record_ranges.proofs.Vectors.{Caps, caps-widen, caps-sub}
+use Rattle.record_ranges.proofs.InRange.{point-caps, place-caps}
+use Rattle.record_ranges.proofs.Normalised.{moderate}
+use Rattle.record_ranges.proofs.CircleCalls.{centre-there}
+use Rattle.record_ranges.proofs.BuiltNormals.{Built, set-built, box-built}
+
+-- ---- what a circle makes of a manifold m: m as it was, or one whose normal is near unit
+module _ (m : B2manifold) (c : B2vec2) (c-caps : Caps c 24) (radius : Float) (centre : B2vec2) where
+  abbrev Left : B2manifold → Type 0
+  Left r = (r ≡ m) ⊎ NearUnit (r .«local_normal»)
+
+  written : (normal point : B2vec2) → NearUnit normal → Left (with-one-point m EFaceA normal point centre default-id)
+  unfolding with-one-point
+  written normal point unit = inr unit
+
+  from-corner : (v normal : B2vec2) → Caps v 20 → NearUnit normal → NearUnit (unit-or normal (b2-normalize (b2-sub c v)))
+  from-corner v normal v-caps unit =
+      by-test (b2-normalize (b2-sub c v) .«had_length»)
+      (made-near-unit (moderate 25 tt (caps-sub c v 24 tt c-caps (caps-widen 20 24 tt v-caps))))
+    where
+      by-test : (had : Bool) → (T had → NearUnit (b2-normalize (b2-sub c v) .v))
+          → NearUnit (cond had (b2-normalize (b2-sub c v) .v) normal)
+      by-test true made = made tt
+      by-test false made = unit
+
+  at-corner : (v normal : B2vec2) → Caps v 20 → NearUnit normal → Left (circle-at-corner m v normal c radius centre)
+  unfolding circle-at-corner
+  at-corner v normal v-caps unit =
+      either Left (farther radius c v) _ _ (inl refl)
+      (written (unit-or normal (b2-normalize (b2-sub c v))) v (from-corner v normal v-caps unit))
+
+  at-face : (v1 v2 normal : B2vec2) (separation : Float) → Caps v1 20 → Caps v2 20 → NearUnit normal
+      → Left (circle-at-face m v1 v2 normal separation c radius centre)
+  unfolding circle-at-face
+  at-face v1 v2 normal separation v1-caps v2-caps unit =
+      let middle = b2-scale half32 (b2-add v1 v2) in
+      either Left (lt separation b2-epsilon) _ _ (written normal middle unit)
+      (either Left (le (b2-dot (b2-sub c v1) (b2-sub v2 v1)) zero32) _ _ (at-corner v1 normal v1-caps unit)
+      (either Left (le (b2-dot (b2-sub c v2) (b2-sub v1 v2)) zero32) _ _ (at-corner v2 normal v2-caps unit)
+      (either Left (lt radius (b2-dot (b2-sub c middle) normal)) _ _ (inl refl) (written normal middle unit))))
+
+  at-outline : (shape : B2polygonShape) → Built shape → Left (polygon-circle-manifold m shape c radius centre)
+  unfolding polygon-circle-manifold circle-at-best
+  at-outline shape built =
+      let place = greatest-place-in (circle-separation shape c) (shape .«m_count») (built .some) in
+      either Left (outside shape c radius) _ _ (inl refl)
+      (at-face _ _ _ _ (built .corner (chosen shape c .place) place)
+      (built .corner _ (after-in (shape .«m_count») (chosen shape c .place) place))
+      (built .normal (chosen shape c .place) place))
+
+-- ---- a squared length of 1 within 2^-19 is not 0
+near-unit-pushes : {w : B2vec2} → NearUnit w → Pushes w
+near-unit-pushes {w} unit = record {
+  not-zero = λ x-zero y-zero.
+      never (val (w .x) ⊠ val (w .x)) (val (w .y) ⊠ val (w .y)) (mag (w .x)) (mag (w .y)) (square-is (w .x))
+      (square-is (w .y)) x-zero y-zero (unit .unit);
+  near-unit = unit;
+}
+  where
+    never : (a b : Z) (m n : ℕ) → a ≐ whole (m * m) → b ≐ whole (n * n) → m ≡ 0 → n ≡ 0
+        → Abs (a ⊞ b ⊟ whole (metre * metre)) (length-error * metre) → ⊥
+    never a b m n a-is b-is m-is n-is h =
+        let m-zero : m * m ≡ 0 * m = ap (λ (k : ℕ). k * m) m-is in
+        let n-zero : n * n ≡ 0 * n = ap (λ (k : ℕ). k * n) n-is in
+        let e = metre-square in
+        let p : 0 < metre * metre = mul-pos metre-pos metre-pos in
+        omega arith
+
+-- ---- the call
+abbrev Reported : B2manifold → Type 0
+Reported m = 0 < m .«point_count» → Pushes (m .«local_normal»)
+
+module _ (shape : B2polygonShape) (built : Built shape) (old : B2manifold) (xfA : B2Transform)
+    (circleB : B2circleShape) (xfB : B2Transform) where
+  abbrev there : B2vec2
+  there = b2-mul-t-transform-by-vec2 xfA (b2-mul-transform-by-vec2 xfB (circleB .«m_p»))
+
+  abbrev radius : Float
+  radius = add binary32 (shape .«m_radius») (circleB .«m_radius»)
+
+  reported : Caps there 24
+      → Reported (polygon-circle-manifold (with-count old 0) shape there radius (circleB .«m_p»))
+  unfolding with-count
+  reported caps = go (at-outline (with-count old 0) there caps radius (circleB .«m_p») shape built)
+    where
+      go : {r : B2manifold} → (r ≡ with-count old 0) ⊎ NearUnit (r .«local_normal») → Reported r
+      go (inl same) some = absurd (omega (arith, subst (λ (m : B2manifold). 0 < m .«point_count») same some))
+      go (inr unit) some = near-unit-pushes unit
+
+  call-reports : SinglePlace xfA → Single (circleB .«m_p») → SinglePlace xfB
+      → Accepted Reported (b2-collide-polygon-and-circle old shape xfA circleB xfB)
+  unfolding b2-collide-polygon-and-circle circle-in-range
+  call-reports a-single b-single at-single =
+      counted Reported (miscounted (shape .«m_count»)) old _
+      (by-choice (Accepted Reported) (not (polygon-in-range shape && circle-in-range circleB)) _ _
+      (λ out. refused Reported 1 old)
+      (λ inside. by-choice (Accepted Reported) (not (transform-in-range xfA && transform-in-range xfB)) _ _
+      (λ off. refused Reported 5 old)
+      (λ placed taken.
+      let shapes = both (polygon-in-range shape) (circle-in-range circleB) (not-false _ inside) in
+      let circle = both (radius-in-range (circleB .«m_radius»)) (point-in-range (circleB .«m_p»)) (shapes .1) in
+      let places = both (transform-in-range xfA) (transform-in-range xfB) (not-false _ placed) in
+      reported (centre-there xfA xfB (circleB .«m_p») (place-caps xfA a-single (places .0))
+      (place-caps xfB at-single (places .1)) (point-caps (circleB .«m_p») b-single (circle .1))))))
+
+built-pushes : (shape : B2polygonShape) → Built shape → NoZeroNormal shape
+built-pushes shape built = record { pushes = call-reports shape built }
+
+-- ---- an outline from the builder, and a box, whatever the old outline
+pub set-no-zero-normal : (old : B2polygonShape) (points : List B2vec2) → Singles points
+    → b2-polygon-shape-set old points .refusal ≡ accepted → NoZeroNormal (b2-polygon-shape-set old points .shape)
+set-no-zero-normal old points singles taken = built-pushes _ (set-built old points singles taken)
+
+pub box-no-zero-normal : (old : B2polygonShape) (hx hy : Float) → T (fits binary32 hx) → T (fits binary32 hy)
+    → b2-polygon-shape-set-as-box old hx hy .refusal ≡ accepted
+    → NoZeroNormal (b2-polygon-shape-set-as-box old hx hy .shape)
+box-no-zero-normal old hx hy x-single y-single taken = built-pushes _ (box-built old hx hy x-single y-single taken)
