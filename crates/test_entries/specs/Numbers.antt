@@ -17,15 +17,15 @@ use Rattle.record_definitions.specs.Frame.{largest-turn}
 use Rattle.wire.specs.Words.{word-at}
 use Rattle.wire.specs.Requests.{well-formed}
 use Rattle.wire.specs.Records.{float-at}
-use Rattle.wire.specs.Answers.{bits}
+use Rattle.wire.specs.Answers.{bits, flag}
 
 -- 15, x: the root
 unfoldable pub root-answer : List ℕ → List ℕ
 root-answer request = well-formed 2 true request (0 ∷ bits (b2-sqrt (float-at request 1)) ∷ [])
 
--- 16, x, y: the length that was found, and the vector made unit
+-- 16, x, y: the length that was found, the vector made unit, and whether there was a length of at least 2^-23
 abbrev pub normalized-words : Normalized → List ℕ
-normalized-words n = 0 ∷ bits (n .length) ∷ bits (n .v .x) ∷ bits (n .v .y) ∷ []
+normalized-words n = 0 ∷ bits (n .length) ∷ bits (n .v .x) ∷ bits (n .v .y) ∷ flag (n .«had_length») ∷ []
 
 unfoldable pub normalize-answer : List ℕ → List ℕ
 normalize-answer request =

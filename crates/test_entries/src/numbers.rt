@@ -10,6 +10,7 @@ use record_definitions::world::LARGEST_TURN;
 use shape_definitions::refusal;
 use sqrt::root;
 use sqrt::root::Rooted;
+use wire::answers;
 use wire::words;
 
 // 15, x: the root.
@@ -24,7 +25,7 @@ pub fn root(input: &[u8], out: &mut [u8]) -> u32
     words::put_words(out, &answer)
 }
 
-// 16, x, y: the length that was found, and the vector made unit.
+// 16, x, y: the length that was found, the vector made unit, and whether there was a length of at least B2_EPSILON.
 pub fn normalize(input: &[u8], out: &mut [u8]) -> u32
     ensures { λ r. ⌜ Written (normalize-answer (now (input .entry))) (now (out .entry)) r (now (out .exit)) ⌝ }
 {
@@ -39,6 +40,7 @@ pub fn normalize(input: &[u8], out: &mut [u8]) -> u32
         bits::f32_to_bits(n.length),
         bits::f32_to_bits(n.v.x),
         bits::f32_to_bits(n.v.y),
+        answers::flag(n.had_length),
     ];
     words::put_words(out, &answer)
 }

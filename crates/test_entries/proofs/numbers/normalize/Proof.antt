@@ -1,4 +1,4 @@
--- Entry 16 answers the normalised vector's words, or nothing to a request of another length. Assumes nothing.
+-- Entry 16 answers the words of normalising, or nothing to a request of another length. Assumes nothing.
 use mathlib.Core.Path.{refl}
 use mathlib.Core.Bool.{true}
 use Rattle.wire.proofs.Requests.{other-length, answered}
@@ -35,6 +35,9 @@ f32-to-bits-requires-2 c κs = search needs
 f32-to-bits-requires-3 : tie.Need-f32-to-bits-requires-3
 f32-to-bits-requires-3 c κs = search needs
 
+flag-requires : tie.Need-flag-requires
+flag-requires c κs = search needs
+
 slice-aggregate-put-words : tie.Need-slice-aggregate-put-words
 slice-aggregate-put-words c = search needs
 
@@ -48,7 +51,8 @@ returns-2 : tie.Need-returns-2
 unfolding normalize-answer
 returns-2 c =
     let written = c .before .before in
-    let v-bits = written .before .before .before in
+    let had = written .before .before .before in
+    let v-bits = had .before in
     let u-bits = v-bits .before in
     let length-bits = u-bits .before in
     let normalized = length-bits .before in
@@ -56,6 +60,7 @@ returns-2 c =
     let x = y .before .before in
     answered 3 _ _ _ _ true (x .before .before .if1 .left) refl _ _ _ refl
     (simp (
+      had .flag .ensures,
       v-bits .f32-to-bits3 .ensures,
       u-bits .f32-to-bits2 .ensures,
       length-bits .f32-to-bits .ensures,
@@ -80,6 +85,7 @@ normalize-spec =
     f32-to-bits-requires
     f32-to-bits-requires-2
     f32-to-bits-requires-3
+    flag-requires
     slice-aggregate-put-words
     put-words-requires
     same-length
