@@ -74,6 +74,14 @@ pub record OutlineHeats : Type 0 where
       ("02000200000000000000003f80000000000000", "ff01") ∷
       ("050001", "0500010101020002000000000100000000bf8000003f0000003df5c28fbe851eb800000001") ∷
       [])
+  -- a circle centred on a corner, out of a face by rounding alone: the normal of that face (document 02, request 07)
+  pub circle-on-a-corner : Runs (
+      ("02000341100000c2780000bf800000c0000000c254000040800000", "00") ∷
+      ("04000000000000000000000000003f800000", "00") ∷
+      ("0101bf800000c00000003f000000", "00") ∷
+      ("04010000000000000000000000003f800000", "00") ∷
+      ("050001", "050001010100000100000000013f7c844f3e285835bf9eeeeec00293e9bf028f5c00000000") ∷
+      [])
   -- the kind that the contact call writes is not printed where clipping leaves no point
   pub clipped-away : Runs (
       ("020004bf800000bf8000003f800000bf8000003f8000003f800000bf8000003f800000", "00") ∷
@@ -138,6 +146,7 @@ unfolding neg add sub mul div le lt eq ofBits toBits root-digits whole-root root
 outline-heats = record {
   outlines-slide = refl;
   outline-and-circle = refl;
+  circle-on-a-corner = refl;
   clipped-away = refl;
   outline-turned = refl;
   outlines-refused = refl;
