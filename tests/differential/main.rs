@@ -10,6 +10,7 @@ mod bodies;
 mod box2d_oracle;
 mod compare;
 mod contacts;
+mod corners;
 mod floats;
 #[path = "../shared/generators.rs"]
 mod generators;
@@ -24,8 +25,11 @@ mod row;
 #[cfg(papers)]
 mod rust_contacts;
 #[cfg(papers)]
+mod rust_corner;
+#[cfg(papers)]
 mod rust_oracle;
 mod shapes;
+mod short_corner;
 #[cfg(papers)]
 #[path = "../shared/steps.rs"]
 mod steps;

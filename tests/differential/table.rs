@@ -5,6 +5,7 @@ use crate::manifolds;
 use crate::ranges::{EDGE, POLYGON};
 use crate::row::Row;
 use crate::shapes;
+use crate::short_corner;
 use crate::lent_slice;
 use crate::support::calls;
 
@@ -33,6 +34,7 @@ const OUTLINE: Row = Row {
     panics: &[1, 3, 4, 5],
     reachable: &[0, 1, 2, 3, 4, 5],
     refused: old_outline,
+    mend: |_, _| true,
     length: 2 + POLYGON,
     record: POLYGON,
     plain: &[3],
@@ -166,7 +168,21 @@ pub const TABLE: &[Row] = &[
         generate: contacts::outline_and_circle,
         reachable: &[0, 2, 6, 7],
         length: 1 + MANIFOLD + POLYGON + TRANSFORM + 3 + TRANSFORM,
-        wanted: &["0 points", "1 point", "face A"],
+        mend: short_corner::mend,
+        kinds: short_corner::kinds,
+        wanted: &[
+            "0 points",
+            "1 point",
+            "face A",
+            "normal of the face",
+            "first corner",
+            "second corner",
+            "zero difference",
+            "short difference",
+            "normal of the face, turned",
+            "near miss",
+            "length of just 2^-23",
+        ],
         ..CIRCLES
     },
     Row {
@@ -250,11 +266,26 @@ pub const TABLE: &[Row] = &[
         entry: 16,
         generate: floats::normalize,
         length: 3,
-        record: 3,
-        kinds: |request, answer| {
-            vec![floats::kind(request[1]), if answer[1] == 0 { "kept as it was" } else { "made unit" }]
-        },
-        wanted: &["NaN", "infinity", "-0", "+0", "subnormal", "below 0", "normal", "kept as it was", "made unit"],
+        record: 4,
+        plain: &[3],
+        kinds: floats::normalize_kinds,
+        wanted: &[
+            "NaN",
+            "infinity",
+            "-0",
+            "+0",
+            "subnormal",
+            "below 0",
+            "normal",
+            "kept as it was",
+            "made unit",
+            "had a length",
+            "had none",
+            "length of just 2^-23",
+            "length just below it",
+            "length that is no number",
+            "length of infinity",
+        ],
         ..ROOT
     },
     ROOT_STEP,

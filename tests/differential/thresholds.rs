@@ -17,7 +17,7 @@ type Point = [f32; 2];
 type Corner = (Point, Point);
 
 /// The float so many steps after or before it, across 0 too.
-fn step(x: f32, steps: i32) -> f32 {
+pub fn step(x: f32, steps: i32) -> f32 {
     let turned = |key: i32| if key < 0 { i32::MIN.wrapping_sub(key) } else { key };
     f32::from_bits(turned(turned(x.to_bits() as i32) + steps) as u32)
 }
