@@ -64,6 +64,11 @@ pub fn circles(random: &mut Random) -> Vec<u32> {
 pub fn outline_and_circle(random: &mut Random) -> Vec<u32> {
     request(8, random)
 }
+/// The same, each about a corner.
+pub fn at_corner(random: &mut Random) -> Vec<u32> {
+    let (old, parts) = (old_manifold(random), corners::outline_and_circle(random));
+    [vec![8], old, parts.concat()].concat()
+}
 pub fn outlines(random: &mut Random) -> Vec<u32> {
     request(9, random)
 }

@@ -65,6 +65,25 @@ pub fn normalize_kinds(request: &[u32], answer: &[u32]) -> Vec<&'static str> {
     met.chain([kind(request[1])]).collect()
 }
 
+/// What a run has to meet of it.
+pub const NORMALIZE_WANTED: [&str; 15] = [
+    "NaN",
+    "infinity",
+    "-0",
+    "+0",
+    "subnormal",
+    "below 0",
+    "normal",
+    "kept as it was",
+    "made unit",
+    "had a length",
+    "had none",
+    "length of just 2^-23",
+    "length just below it",
+    "length that is no number",
+    "length of infinity",
+];
+
 /// A square of few digits in one of four, so that many roots are exact.
 pub fn root_step(random: &mut Random) -> Vec<u32> {
     let x = float(random);

@@ -78,6 +78,10 @@ pub fn of(request: &[u32]) -> Option<Corner> {
     corner
 }
 
+pub fn leaves(request: &[u32]) -> bool {
+    of(request).map_or(false, |corner| corner.leaves())
+}
+
 /// A reference's record with the normal of the chosen face, where the request asks for it. False where the reference's
 /// normal is not the vector without a length.
 pub fn mend(request: &[u32], record: &mut [u32]) -> bool {
@@ -106,3 +110,18 @@ pub fn kinds(request: &[u32], answer: &[u32]) -> Vec<&'static str> {
     list.extend(kinds.iter().filter(|(_, met)| *met).map(|(kind, _)| *kind));
     list
 }
+
+/// What a run has to meet of it.
+pub const WANTED: [&str; 11] = [
+    "0 points",
+    "1 point",
+    "face A",
+    "normal of the face",
+    "first corner",
+    "second corner",
+    "zero difference",
+    "short difference",
+    "normal of the face, turned",
+    "near miss",
+    "length of just 2^-23",
+];

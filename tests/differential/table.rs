@@ -99,6 +99,19 @@ const CIRCLES: Row = Row {
     wanted: &["0 points", "1 point", "circles"],
     ..BOX
 };
+const OUTLINE_AND_CIRCLE: Row = Row {
+    name: "outline and circle",
+    entry: 8,
+    generate: contacts::outline_and_circle,
+    reachable: &[0, 2, 6, 7],
+    length: 1 + MANIFOLD + POLYGON + TRANSFORM + 3 + TRANSFORM,
+    mend: short_corner::mend,
+    kinds: short_corner::kinds,
+    wanted: &short_corner::WANTED,
+    ..CIRCLES
+};
+/// Requests about corners alone, to be stored.
+pub const AT_CORNERS: Row = Row { stored: "corners", generate: contacts::at_corner, ..OUTLINE_AND_CIRCLE };
 const ROOT: Row = Row {
     name: "root",
     entry: 15,
@@ -162,29 +175,7 @@ pub const TABLE: &[Row] = &[
     WALL,
     Row { name: "two-sided wall", entry: 6, generate: shapes::set_two_sided, length: 5 + EDGE, ..WALL },
     CIRCLES,
-    Row {
-        name: "outline and circle",
-        entry: 8,
-        generate: contacts::outline_and_circle,
-        reachable: &[0, 2, 6, 7],
-        length: 1 + MANIFOLD + POLYGON + TRANSFORM + 3 + TRANSFORM,
-        mend: short_corner::mend,
-        kinds: short_corner::kinds,
-        wanted: &[
-            "0 points",
-            "1 point",
-            "face A",
-            "normal of the face",
-            "first corner",
-            "second corner",
-            "zero difference",
-            "short difference",
-            "normal of the face, turned",
-            "near miss",
-            "length of just 2^-23",
-        ],
-        ..CIRCLES
-    },
+    OUTLINE_AND_CIRCLE,
     Row {
         name: "outlines",
         entry: 9,
@@ -269,23 +260,7 @@ pub const TABLE: &[Row] = &[
         record: 4,
         plain: &[3],
         kinds: floats::normalize_kinds,
-        wanted: &[
-            "NaN",
-            "infinity",
-            "-0",
-            "+0",
-            "subnormal",
-            "below 0",
-            "normal",
-            "kept as it was",
-            "made unit",
-            "had a length",
-            "had none",
-            "length of just 2^-23",
-            "length just below it",
-            "length that is no number",
-            "length of infinity",
-        ],
+        wanted: &floats::NORMALIZE_WANTED,
         ..ROOT
     },
     ROOT_STEP,
