@@ -1,11 +1,10 @@
 //! Pairs of entry 8 at request 07's rule: circles on a corner of an outline, exactly or a few last digits off it. To be
 //! out of a face there takes an outline whose numbers are rounded, or normals that belong to no outline.
 use crate::bodies::{built, radius, rotation};
-use crate::generators::{bits, turn, unit, word};
+use crate::generators::{bits, fan, step, turn, unit, word};
 use crate::ranges::NORMAL;
 use crate::short_corner;
 use crate::support::Random;
-use crate::thresholds::step;
 
 const SKIN: f32 = 0.01;
 /// The rule's length, and steps of an outline whose corners are as near to each other.
@@ -28,7 +27,10 @@ pub fn outline_and_circle(random: &mut Random) -> [Vec<u32>; 4] {
 
 fn on_corner(random: &mut Random) -> [Vec<u32>; 4] {
     let (outline, size) = match random.below(4) {
-        0 => (fan(random), 0.5),
+        0 => {
+            let near = random.of(&[0.0, 0.25, 1.0, 4.0]);
+            (built_fan(random, near), 0.5)
+        }
         1 => (stretched(random), 0.5),
         2 => {
             let scale = random.of(&[0.25, 1.0, 4.0, 100.0]);
@@ -66,27 +68,15 @@ fn steps(random: &mut Random, most: u64) -> f32 {
     (random.below(2 * most + 1) as f32 - most as f32) * TINY
 }
 
-/// An outline that a reference builds: a corner near the origin, the others far from it and to one side.
-fn fan(random: &mut Random) -> Vec<u32> {
-    let near = random.of(&[0.0, 0.25, 1.0, 4.0]);
-    fan_from(random, near)
-}
-
-fn fan_from(random: &mut Random, near: f32) -> Vec<u32> {
-    let size = random.of(&[4.0, 64.0, 1000.0, 131072.0]);
-    let (middle, n) = (unit(random) as f64 * 4.0, 2 + random.below(4));
-    let mut list = vec![unit(random) * near, unit(random) * near];
-    for _ in 0..n {
-        let (s, c) = (middle + unit(random) as f64).sin_cos();
-        let far = size * (0.6 + 0.4 * unit(random));
-        list.extend([c as f32 * far, s as f32 * far]);
-    }
-    built(random, size, &list)
+/// An outline that a reference builds, with a corner near the origin.
+fn built_fan(random: &mut Random, near: f32) -> Vec<u32> {
+    let list = fan(random, near);
+    built(random, 1.0, &list)
 }
 
 /// The same with normals longer than they are, and a corner on the origin.
 fn stretched(random: &mut Random) -> Vec<u32> {
-    let (mut record, by) = (fan_from(random, 0.0), random.of(&[1.25, 1.5, 2.0]));
+    let (mut record, by) = (built_fan(random, 0.0), random.of(&[1.25, 1.5, 2.0]));
     record[20..].iter_mut().for_each(|word| *word = (f32::from_bits(*word) * by).to_bits());
     record
 }
