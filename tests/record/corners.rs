@@ -14,40 +14,57 @@ fn dot(p: Point, q: Point) -> f32 {
     p[0] * q[0] + p[1] * q[1]
 }
 
+fn sub(p: Point, q: Point) -> Point {
+    [p[0] - q[0], p[1] - q[1]]
+}
+
 /// An outline and a circle's centre on one of its corners, or a last digit off it.
 fn on_corner(random: &mut Random) -> (Vec<Point>, Point) {
     let near = random.of(&[0.0, 0.25, 1.0, 4.0]);
     let points = pairs(&fan(random, near));
     let any = random.of(&points);
     let corner = random.of(&[points[0], any]);
-    let off = random.of(&[[0, 0], [0, 0], [1, 0], [0, -1], [-1, 1]]);
-    (points, [0, 1].map(|i| step(corner[i], off[i])))
+    (points, last_digits_off(random, corner))
 }
 
-/// A triangle with a corner on the origin, and a centre that is out of the face from there by as much as it takes, and
-/// by rounding not as far from the corner: the face begins at it.
-fn on_first_corner(random: &mut Random) -> (Vec<Point>, Point) {
+fn last_digits_off(random: &mut Random, [x, y]: Point) -> Point {
+    let off = random.of(&[[0, 0], [0, 0], [1, 0], [0, -1], [-1, 1]]);
+    [step(x, off[0]), step(y, off[1])]
+}
+
+/// A triangle with a corner near the origin, and a circle's centre that is out of a face by as much as it takes and not
+/// as far from the corner: the face that begins there, to which a last digit's rounding leads, or the one that ends.
+fn on_triangle(random: &mut Random, second: bool) -> Option<(Vec<Point>, Point)> {
     for _ in 0..2000 {
-        let (first, wide, size) = (unit(random) * 4.0, 1.5 + unit(random), 0.6 + unit(random) * 0.4);
-        let corners = [first, first + wide].map(|angle| [angle.cos() * size, angle.sin() * size]);
-        let [x, y] = corners[0];
-        let inverse = 1.0 / dot(corners[0], corners[0]).sqrt();
-        let normal = [y * inverse, -x * inverse];
-        let off = normal.map(|x| step(x * LEAST, random.below(7) as i32 - 3));
-        if dot(off, off).sqrt() < LEAST && dot(normal, off) >= LEAST && dot(off, corners[0]) <= 0.0 {
-            return (vec![[0.0, 0.0], corners[0], corners[1]], off);
+        let (turn, wide) = (unit(random) * 4.0, 1.5 + unit(random));
+        let (near, size) = if second { (unit(random), random.of(&[4.0, 64.0, 131072.0])) } else { (0.0, 1.0) };
+        let far = [turn, turn + wide].map(|angle| [angle.cos() * size, angle.sin() * size]);
+        let corner = [near * 0.25, near * unit(random)];
+        let (from, other) = if second { (far[1], far[1]) } else { (corner, far[0]) };
+        let along = if second { sub(corner, from) } else { sub(far[0], from) };
+        let inverse = 1.0 / dot(along, along).sqrt();
+        let normal = [along[1] * inverse, -along[0] * inverse];
+        let beside = normal.map(|x| step(x * LEAST, random.below(7) as i32 - 3));
+        let centre = if second { last_digits_off(random, corner) } else { beside };
+        let off = sub(centre, corner);
+        let short = dot(off, off).sqrt() < LEAST && dot(off, sub(other, corner)) <= 0.0;
+        if short && dot(normal, sub(centre, from)) >= LEAST {
+            return Some((vec![corner, far[0], far[1]], centre));
         }
     }
-    on_corner(random)
+    None
 }
 
 impl Heat<'_> {
-    /// A circle on a corner is tested, where both are or placed alike, by a turn number, by sine and cosine, or unturned.
+    /// A circle on a corner is tested, before and after both are placed alike, by turn number or by sine and cosine.
     pub fn corner(&mut self) {
         let (a, b) = (self.id(), self.id());
         let b = if a == b { (b + 1) % IDS } else { b };
-        let first = self.random.once_in(2);
-        let (points, centre) = if first { on_first_corner(self.random) } else { on_corner(self.random) };
+        let found = match self.random.below(3) {
+            0 => None,
+            end => on_triangle(self.random, end == 2),
+        };
+        let (points, centre) = found.unwrap_or_else(|| on_corner(self.random));
         let body = |kind: Kind, points: Vec<Point>| Body {
             kind,
             points,
