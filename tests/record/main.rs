@@ -61,6 +61,7 @@ fn compare_heats(program: &str, heats: u64, length: usize, seed: u64) -> bool {
         let lines = 1 + random.below(2 * (length * longer) as u64) as usize;
         let input = fixed.map_or_else(|| heat(&mut random, lines), |(_, text)| text.clone());
         let (wanted, agree) = second::touches(&input);
+        let face_normals = second::face_normals();
         let (ours, ended, pieces) = pieces::run(program, &input, &mut random);
         let name = || fixed.map_or_else(|| format!("'record heat {lines}' from seed {seed}, heat {i}"), |f| f.0.into());
         let answered = answers::answered(&input, &wanted);
@@ -72,13 +73,11 @@ fn compare_heats(program: &str, heats: u64, length: usize, seed: u64) -> bool {
             format!("{}: {references}{lines}{}{first}", name(), if ended { "" } else { "the program ended badly; " })
         });
         census::pieces(pieces, input.len(), &mut tally);
-        if fixed.is_none() {
-            census::face_normals(&second::face_normals(), &mut tally);
-        }
         if whole {
             census::add(&input, &answered, &mut tally);
             rulebook::follow(&answered, name, fixed.is_none(), &mut touches);
             if fixed.is_none() {
+                census::face_normals(&face_normals, &mut tally);
                 steps::census(&input, &answered, &mut steps);
             }
         }
