@@ -1,6 +1,6 @@
 //! Normals of outline against circle, read from the program's input and output alone: where the outline is unturned or
 //! turned by frame 06 the printed normal has length 1, nearly; it is never the zero vector.
-use crate::answers::{byte, float, Answered, NORMAL_AT, IDS};
+use crate::answers::{byte, float, Answered, IDS, NORMAL_AT};
 use crate::support::Tally;
 
 /// How far from 1 the square of its length may be: four roundings and the table's own error are below it.
