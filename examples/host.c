@@ -1,7 +1,7 @@
 /* A C host of the library: makes a request, calls, prints the answer.
    usage: host                     a few worked cases
           host root X              the square root
-          host normalize X Y       a vector made unit
+          host normalize X Y       a vector made unit, and 1 where it had a length of at least 2^-23
           host outline X Y X Y ..  the outline builder on a list of points */
 #include "netxurbil_test_calls.h"
 #include <inttypes.h>
@@ -45,14 +45,16 @@ static int answered(const char *name, const float *operands, int count, const ui
     return 1;
 }
 
-/* Entries 15 and 16: floats in, floats out. */
+/* Entries 15 and 16: floats in, floats out; the last word of 16 is no float. */
 static void show(const char *name, uint32_t entry, const float *operands, int count) {
-    uint8_t input[12], out[16];
+    uint8_t input[12], out[20];
     put(input, entry);
     for (int i = 0; i < count; i++) put(input + 4 * (i + 1), bits_of(operands[i]));
     uint32_t words = calls(input, (size_t)(4 * (count + 1)), out, sizeof out);
     if (!answered(name, operands, count, out, words)) return;
-    for (uint32_t i = 1; i < words; i++) printf(" | "), print_float(get(out + 4 * i));
+    const uint32_t floats = entry == 16 ? words - 1 : words;
+    for (uint32_t i = 1; i < floats; i++) printf(" | "), print_float(get(out + 4 * i));
+    if (floats < words) printf(" | %" PRIu32, get(out + 4 * floats));
     printf("\n");
 }
 

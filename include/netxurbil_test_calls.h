@@ -38,8 +38,9 @@ extern "C" {
                                                WMAN; no points leave it as it was
      14, 4 states, MAN, MAN                    states of the old and the new manifold's points: refusal, 4 states
      15, x                                     the square root of x: refusal, root
-     16, x, y                                  the vector (x, y) made unit: refusal, length, x, y; a length
-                                               below 2^-23 is given as 0 and changes nothing
+     16, x, y                                  the vector (x, y) made unit: refusal, length, x, y, then 1 where
+                                               the length is at least 2^-23, else 0; one below it is given as 0
+                                               and changes nothing
      17, turn number                           its heading, in 4,096ths of a turn: refusal, sine, cosine; 14, 0, 0
                                                above 4,095
      18, x                                     the square root of x and the step that gives it: refusal, step (0

@@ -29,7 +29,7 @@ fn coordinate(random: &mut Random, scale: f32) -> f32 {
     }
 }
 
-fn radius(random: &mut Random, scale: f32) -> f32 {
+pub fn radius(random: &mut Random, scale: f32) -> f32 {
     match random.below(6) {
         0 => 0.0,
         1 => coordinate(random, scale).abs(),
@@ -54,7 +54,7 @@ fn rectangle(random: &mut Random, scale: f32) -> Vec<u32> {
 }
 
 /// An outline that a reference builds of these points, or a rectangle.
-fn built(random: &mut Random, scale: f32, list: &[f32]) -> Vec<u32> {
+pub fn built(random: &mut Random, scale: f32, list: &[f32]) -> Vec<u32> {
     let mut request = vec![1, SKIN.to_bits()];
     request.extend([0; POLYGON - 1]);
     request.push(list.len() as u32 / 2);
@@ -125,7 +125,7 @@ fn body(random: &mut Random, shape: Shape, scale: f32) -> Vec<u32> {
 }
 
 /// Sine and cosine: none, quarter turns, any angle, hardly any, and not of unit length.
-fn rotation(random: &mut Random) -> [f32; 2] {
+pub fn rotation(random: &mut Random) -> [f32; 2] {
     let angle = unit(random) as f64 * 4.0;
     match random.below(8) {
         0 | 1 => [0.0, 1.0],

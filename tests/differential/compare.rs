@@ -68,8 +68,9 @@ pub fn expected(row: &Row, request: &[u32]) -> (Answer, bool, bool) {
         return (Answer { refusals: vec![refusal], record: (row.refused)(request) }, true, false);
     }
     let mut answers = references(row, request);
+    let mended = answers.iter_mut().all(|a| (row.mend)(request, &mut a.record));
     let last = answers.pop().expect("a reference");
-    let agree = answers.iter().all(|a| a.agrees(&last, row.plain));
+    let agree = mended && answers.iter().all(|a| a.agrees(&last, row.plain));
     (last, agree, true)
 }
 

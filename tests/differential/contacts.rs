@@ -1,6 +1,7 @@
 //! Requests of entries 7 to 11, the contact calls: pairs of shapes that overlap or nearly touch, and the refusals by
 //! count and range.
 use crate::bodies::{self, place, spoil_transform, Shape};
+use crate::corners;
 use crate::generators::words;
 use crate::ranges::{self, first, within, EDGE, POLYGON, SIZE};
 use crate::support::Random;
@@ -41,6 +42,7 @@ fn request(entry: u32, random: &mut Random) -> Vec<u32> {
     let mut words = vec![entry];
     words.extend(old_manifold(random));
     let mut parts = match entry {
+        8 if random.once_in(8) => corners::outline_and_circle(random),
         9 if random.once_in(16) => thresholds::outlines(random),
         10 if random.once_in(8) => bodies::tiny_wall_and_circle(random),
         11 if random.once_in(8) => thresholds::wall_and_outline(random),
@@ -61,6 +63,11 @@ pub fn circles(random: &mut Random) -> Vec<u32> {
 }
 pub fn outline_and_circle(random: &mut Random) -> Vec<u32> {
     request(8, random)
+}
+/// The same, each about a corner.
+pub fn at_corner(random: &mut Random) -> Vec<u32> {
+    let (old, parts) = (old_manifold(random), corners::outline_and_circle(random));
+    [vec![8], old, parts.concat()].concat()
 }
 pub fn outlines(random: &mut Random) -> Vec<u32> {
     request(9, random)

@@ -4,12 +4,15 @@
 //! usage: differential CASES SEED [ENTRY..]     compares, for each row until CASES were asked of the references; with
 //!                                              entries, their rows alone
 //!        differential store FILE CASES SEED    prints answers for tests/stored/FILE.txt, which the references share
+//!        differential anew PATH                prints a stored file with their answers as they are now
+//!        differential answers CASES SEED [ENTRY..]  prints our answers (tests/differential/before)
 #![allow(unknown_lints, unexpected_cfgs)]
 mod bodies;
 #[cfg(box2d)]
 mod box2d_oracle;
 mod compare;
 mod contacts;
+mod corners;
 mod floats;
 #[path = "../shared/generators.rs"]
 mod generators;
@@ -24,8 +27,12 @@ mod row;
 #[cfg(papers)]
 mod rust_contacts;
 #[cfg(papers)]
+mod rust_corner;
+#[cfg(papers)]
 mod rust_oracle;
 mod shapes;
+mod short_corner;
+mod store;
 #[cfg(papers)]
 #[path = "../shared/steps.rs"]
 mod steps;
@@ -34,28 +41,7 @@ mod support;
 mod table;
 mod thresholds;
 use row::Row;
-use support::{one_nan, Random};
 use table::TABLE;
-
-fn store(file: &str, cases: u64, seed: u64) {
-    let hex = |words: &[u32]| words.iter().map(|w| format!("{w:08x}")).collect::<Vec<_>>().join(" ");
-    let mut random = Random::new(seed);
-    println!("# request : answer, by 'differential store {file} {cases} {seed}'");
-    if file == "malformed" {
-        println!("# an empty answer: nothing is written");
-        malformed::stored(cases, &mut random).iter().for_each(|request| println!("{} :", hex(request)));
-        return;
-    }
-    println!("# the Rust and Box2D 2.4.1 agree on it, but for refusals 2, 6, 7 and 9, which are document 01's alone");
-    let rows: Vec<&Row> = TABLE.iter().filter(|row| row.stored == file).collect();
-    for i in 0..cases {
-        let row = rows[i as usize % rows.len()];
-        let request = (row.generate)(&mut random);
-        let (answer, agree, _) = compare::expected(row, &request);
-        assert!(agree && answer.refusals.len() == 1, "both references are needed, and have to agree");
-        println!("{} : {:08x} {}", hex(&request), answer.refusals[0], hex(&one_nan(&answer.record, row.plain)));
-    }
-}
 
 fn main() {
     std::panic::set_hook(Box::new(|panic| {
@@ -66,18 +52,23 @@ fn main() {
     }));
     let words: Vec<String> = std::env::args().skip(1).collect();
     let number = |i: usize| words[i].parse::<u64>().unwrap_or_else(|_| panic!("{:?} is no number", words[i]));
-    if words.len() == 4 && words[0] == "store" {
-        return store(&words[1], number(2), number(3));
+    match (words.first().map(|w| w.as_str()), words.len()) {
+        (Some("store"), 4) => return store::store(&words[1], number(2), number(3)),
+        (Some("anew"), 2) => return store::anew(&words[1]),
+        _ => assert!(words.len() >= 2, "usage: differential CASES SEED [ENTRY..]"),
     }
-    assert!(words.len() >= 2, "usage: differential CASES SEED [ENTRY..]");
-    let (cases, seed) = (number(0), number(1));
-    let entries: Vec<u64> = (2..words.len()).map(number).collect();
+    let first = (words[0] == "answers") as usize;
+    let (cases, seed) = (number(first), number(first + 1));
+    let entries: Vec<u64> = (first + 2..words.len()).map(number).collect();
+    let asked = |row: &Row| entries.is_empty() || entries.contains(&(row.entry as u64));
+    if first == 1 {
+        return store::answers(cases, seed, asked);
+    }
     println!("seed {seed}");
     let mut results = Vec::new();
     if entries.is_empty() {
         results = vec![malformed::run(cases, seed), kept::run(TABLE, (cases / 100).max(1000), seed)];
     }
-    let asked = |row: &Row| entries.is_empty() || entries.contains(&(row.entry as u64));
     for (i, row) in TABLE.iter().enumerate().filter(|(_, row)| asked(row)) {
         if compare::REFERENCES > 0 {
             results.push(compare::run(row, cases, seed + 1 + i as u64));

@@ -17,6 +17,8 @@ pub struct Row {
     pub reachable: &'static [u32],
     /// What a refused call answers after the refusal.
     pub refused: fn(&[u32]) -> Vec<u32>,
+    /// What document 02 changes of a reference's record; false where the reference had something else there.
+    pub mend: fn(&[u32], &mut [u32]) -> bool,
     /// Words of a request, for entry 1 without its points, and of the record in the answer.
     pub length: usize,
     pub record: usize,

@@ -9,13 +9,13 @@ const STATES: [B2pointState; 4] =
     [B2pointState::B2NullState, B2pointState::B2AddState, B2pointState::B2PersistState, B2pointState::B2RemoveState];
 
 impl Reader<'_> {
-    fn circle(&mut self) -> B2circleShape {
+    pub fn circle(&mut self) -> B2circleShape {
         let mut c = B2circleShape::default();
         c.base.m_radius = self.number();
         c.m_p = self.vec();
         c
     }
-    fn transform(&mut self) -> B2Transform {
+    pub fn transform(&mut self) -> B2Transform {
         let p = self.vec();
         let s = self.number();
         B2Transform { p, q: B2Rot { s, c: self.number() } }

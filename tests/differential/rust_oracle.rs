@@ -2,7 +2,7 @@
 //! in rust_contacts.
 use crate::rust_contacts;
 use crate::steps::step;
-use box2d_rs::b2_common::B2_POLYGON_RADIUS;
+use box2d_rs::b2_common::{B2_EPSILON, B2_POLYGON_RADIUS};
 use box2d_rs::b2_math::{b2_sqrt, B2vec2};
 use box2d_rs::private::collision::{b2_edge_shape, b2_polygon_shape};
 use box2d_rs::shapes::b2_edge_shape::B2edgeShape;
@@ -105,9 +105,12 @@ fn record(request: &[u32]) -> Vec<u32> {
         }
         15 => vec![b2_sqrt(from.number()).to_bits()],
         16 => {
+            // request 07: whether there was a length, behind what the Rust answers
             let mut v = from.vec();
+            let had = v.length() >= B2_EPSILON;
             let mut words = vec![v.normalize().to_bits()];
             words.extend(vec_words(v));
+            words.push(had as u32);
             words
         }
         18 => {

@@ -5,6 +5,7 @@ use crate::manifolds;
 use crate::ranges::{EDGE, POLYGON};
 use crate::row::Row;
 use crate::shapes;
+use crate::short_corner;
 use crate::lent_slice;
 use crate::support::calls;
 
@@ -33,6 +34,7 @@ const OUTLINE: Row = Row {
     panics: &[1, 3, 4, 5],
     reachable: &[0, 1, 2, 3, 4, 5],
     refused: old_outline,
+    mend: |_, _| true,
     length: 2 + POLYGON,
     record: POLYGON,
     plain: &[3],
@@ -97,6 +99,19 @@ const CIRCLES: Row = Row {
     wanted: &["0 points", "1 point", "circles"],
     ..BOX
 };
+const OUTLINE_AND_CIRCLE: Row = Row {
+    name: "outline and circle",
+    entry: 8,
+    generate: contacts::outline_and_circle,
+    reachable: &[0, 2, 6, 7],
+    length: 1 + MANIFOLD + POLYGON + TRANSFORM + 3 + TRANSFORM,
+    mend: short_corner::mend,
+    kinds: short_corner::kinds,
+    wanted: &short_corner::WANTED,
+    ..CIRCLES
+};
+/// Requests about corners alone, to be stored.
+pub const AT_CORNERS: Row = Row { stored: "corners", generate: contacts::at_corner, ..OUTLINE_AND_CIRCLE };
 const ROOT: Row = Row {
     name: "root",
     entry: 15,
@@ -160,15 +175,7 @@ pub const TABLE: &[Row] = &[
     WALL,
     Row { name: "two-sided wall", entry: 6, generate: shapes::set_two_sided, length: 5 + EDGE, ..WALL },
     CIRCLES,
-    Row {
-        name: "outline and circle",
-        entry: 8,
-        generate: contacts::outline_and_circle,
-        reachable: &[0, 2, 6, 7],
-        length: 1 + MANIFOLD + POLYGON + TRANSFORM + 3 + TRANSFORM,
-        wanted: &["0 points", "1 point", "face A"],
-        ..CIRCLES
-    },
+    OUTLINE_AND_CIRCLE,
     Row {
         name: "outlines",
         entry: 9,
@@ -250,11 +257,10 @@ pub const TABLE: &[Row] = &[
         entry: 16,
         generate: floats::normalize,
         length: 3,
-        record: 3,
-        kinds: |request, answer| {
-            vec![floats::kind(request[1]), if answer[1] == 0 { "kept as it was" } else { "made unit" }]
-        },
-        wanted: &["NaN", "infinity", "-0", "+0", "subnormal", "below 0", "normal", "kept as it was", "made unit"],
+        record: 4,
+        plain: &[3],
+        kinds: floats::normalize_kinds,
+        wanted: &floats::NORMALIZE_WANTED,
         ..ROOT
     },
     ROOT_STEP,

@@ -3,7 +3,7 @@
 //! the tolerance against the walls beside it. A pair is laid out along the axes, so that the numbers that the rules
 //! compare are a corner's or a normal's coordinates; what moves it then, quarter turns and one position for both, is
 //! exact.
-use crate::generators::{bits, number, unit, word};
+use crate::generators::{bits, number, step, unit, word};
 use crate::support::Random;
 
 const SKIN: f32 = 0.01;
@@ -15,12 +15,6 @@ const SINE: f32 = 0.1;
 type Point = [f32; 2];
 /// A corner, and the normal of the face that begins there.
 type Corner = (Point, Point);
-
-/// The float so many steps after or before it, across 0 too.
-fn step(x: f32, steps: i32) -> f32 {
-    let turned = |key: i32| if key < 0 { i32::MIN.wrapping_sub(key) } else { key };
-    f32::from_bits(turned(turned(x.to_bits() as i32) + steps) as u32)
-}
 
 fn beside(random: &mut Random, x: f32) -> f32 {
     step(x, random.of(&[0, 0, 0, 1, -1, 2, -2]))

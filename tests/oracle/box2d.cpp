@@ -102,9 +102,12 @@ extern "C" size_t box2d_answer(const uint32_t *request, uint32_t *out) {
     }
     case 15: to.number(std::sqrt(in.number())); break;
     case 16: {
+        // request 07: behind what Box2D answers a 1 where it was at least 2^-23 long
         b2Vec2 v = in.vec();
+        const bool long_enough = v.Length() >= b2_epsilon;
         to.number(v.Normalize());
         to.vec(v);
+        to.word(long_enough);
         break;
     }
     case 18: {

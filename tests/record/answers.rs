@@ -11,6 +11,8 @@ const HEAD: usize = 13;
 const NORMAL: usize = 8;
 const POINT: usize = 16;
 const AGE: usize = 12;
+/// Where the normal is in a test's line with points.
+pub const NORMAL_AT: usize = HEAD;
 pub const LONGEST_TEST: usize = test_bytes(2);
 
 pub fn lines(text: &[u8]) -> Vec<&[u8]> {

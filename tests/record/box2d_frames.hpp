@@ -2,6 +2,7 @@
 // Asserts of the library are refusals 1, 3, 4, 5 and 8; the others are tested here.
 #pragma once
 #include "box2d_bytes.hpp"
+#include "box2d_corner.hpp"
 #include "box2d_headings.hpp"
 #include "box2d_kept.hpp"
 #include "box2d_words.hpp"
@@ -168,6 +169,7 @@ struct Program {
             b2CollideCircles(&m, &a.circle, a.place, &b.circle, b.place);
         } else if (a.kind == OUTLINE && b.kind == CIRCLE) {
             b2CollidePolygonAndCircle(&m, &a.outline, a.place, &b.circle, b.place);
+            face_normal(m, a.outline, a.place, b2MulT(a.place, b2Mul(b.place, b.circle.m_p)));
         } else if (a.kind == OUTLINE) {
             b2CollidePolygons(&m, &a.outline, a.place, &b.outline, b.place);
         } else if (b.kind == CIRCLE) {

@@ -1,6 +1,6 @@
 // A second `touches` over Box2D 2.4.1, written from document 01's "The touch record" and document 02's frames 06 and
-// 07, its count of touches, its steps and its ages of points: box2d_touches on a whole input, and box2d_export. A kind
-// of frame is a row of KINDS and a member of Program.
+// 07, its count of touches, its steps, its ages of points and its normals at corners: box2d_touches on a whole input,
+// and box2d_export. A kind of frame is a row of KINDS and a member of Program.
 #include "box2d_frames.hpp"
 
 namespace {

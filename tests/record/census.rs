@@ -3,12 +3,14 @@ use crate::answers::{byte, float, Answered, IDS};
 use crate::chain_census;
 use crate::kinds::{kind, KINDS};
 use crate::ranges::SIZE;
+use crate::second;
 use crate::steps::STEP;
 use crate::support::Tally;
 
 /// A quarter turn in parts of a turn.
 const QUARTER: usize = 1024;
 
+const FACE_NORMALS: [&str; 3] = ["first corner", "second corner", "turned"];
 const STATES: [&str; 4] = ["null", "add", "persist", "remove"];
 
 /// What stands under an id: the shape's name, and how it is turned.
@@ -116,6 +118,15 @@ pub fn pieces(pieces: usize, length: usize, tally: &mut Tally) {
     }
 }
 
+/// Counts what each second program did at corners: see second.rs.
+pub fn face_normals(programs: &[(&str, [usize; 3])], tally: &mut Tally) {
+    for (program, counts) in programs {
+        for (what, count) in FACE_NORMALS.iter().zip(counts) {
+            (0..*count).for_each(|_| tally.met(&format!("normal of the face, {what}, {program}")));
+        }
+    }
+}
+
 /// Counts a line of a test by its ids, its pair, its points, their face, the turns and its states. Its touches: see
 /// rulebook.rs.
 fn tested(line: &[u8], answer: &[u8], bodies: &[Stands; IDS], tally: &mut Tally) {
@@ -220,5 +231,8 @@ pub fn wanted() -> Vec<String> {
         "no line feed at the end",
     ];
     list.extend(others.iter().map(|what| what.to_string()));
+    for (program, _) in second::face_normals() {
+        list.extend(FACE_NORMALS.map(|what| format!("normal of the face, {what}, {program}")));
+    }
     list
 }

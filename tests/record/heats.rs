@@ -185,7 +185,7 @@ impl Heat<'_> {
 }
 
 /// What a heat does next: how often, whether a calm heat does it too, and what.
-const ACTIONS: [(usize, bool, fn(&mut Heat)); 11] = [
+const ACTIONS: [(usize, bool, fn(&mut Heat)); 12] = [
     (2, true, |heat| heat.new_shape()),
     (6, false, |heat| heat.refused()),
     (4, false, |heat| heat.damaged()),
@@ -195,6 +195,7 @@ const ACTIONS: [(usize, bool, fn(&mut Heat)); 11] = [
     (1, true, |heat| heat.bounces()),
     (1, true, |heat| heat.rest()),
     (1, true, |heat| heat.lean()),
+    (2, true, |heat| heat.corner()),
     (3, true, |heat| heat.slide()),
     (2, true, |heat| heat.end_step()),
 ];

@@ -2,7 +2,8 @@
 //! bytes against bytes. Built with `--cfg papers` where the Rust is at hand and `--cfg box2d` where Box2D is.
 //! usage: record heats PROGRAM HEATS LENGTH SEED   compares PROGRAM on HEATS heats of about LENGTH lines, fed in pieces
 //!                                                 and holds the touches to the rulebook, chains to single walls,
-//!                                                 steps to the empty lines, ages to the points that go on
+//!                                                 steps to the empty lines, ages to the points that go on, normals
+//!                                                 of outline and circle to a length of 1
 //!        record export CASES SEED                 compares the export
 //!        record limits CASES SEED                 searches for what docs/LIMITS.md says does not happen
 //!        record store FOLDER HEATS LENGTH SEED    writes heats and their answers for tests/stored, which both share
@@ -16,6 +17,7 @@ mod as_walls;
 mod census;
 mod chain_census;
 mod chains;
+mod corners;
 mod damage;
 mod export;
 mod fixed;
@@ -39,6 +41,7 @@ mod steps;
 #[allow(dead_code)]
 #[path = "../shared/support.rs"]
 mod support;
+mod unit_normals;
 use fixed::fixed;
 use heats::heat;
 use std::io::{Read, Write};
@@ -49,7 +52,7 @@ use support::{Random, Tally};
 fn compare_heats(program: &str, heats: u64, length: usize, seed: u64) -> bool {
     let (mut tally, mut touches) = (Tally::new("heats"), Tally::new("touches by the rulebook"));
     let (mut walls, mut steps) = (Tally::new("chains beside walls"), Tally::new("steps"));
-    let mut ages = Tally::new("ages");
+    let (mut ages, mut normals) = (Tally::new("ages"), Tally::new("normals of outline and circle"));
     let all_fixed = fixed();
     for i in 0..all_fixed.len() as u64 + heats {
         let mut random = Random::new(seed.wrapping_mul(1 << 32).wrapping_add(i));
@@ -58,6 +61,7 @@ fn compare_heats(program: &str, heats: u64, length: usize, seed: u64) -> bool {
         let lines = 1 + random.below(2 * (length * longer) as u64) as usize;
         let input = fixed.map_or_else(|| heat(&mut random, lines), |(_, text)| text.clone());
         let (wanted, agree) = second::touches(&input);
+        let face_normals = second::face_normals();
         let (ours, ended, pieces) = pieces::run(program, &input, &mut random);
         let name = || fixed.map_or_else(|| format!("'record heat {lines}' from seed {seed}, heat {i}"), |f| f.0.into());
         let answered = answers::answered(&input, &wanted);
@@ -73,11 +77,13 @@ fn compare_heats(program: &str, heats: u64, length: usize, seed: u64) -> bool {
             census::add(&input, &answered, &mut tally);
             rulebook::follow(&answered, name, fixed.is_none(), &mut touches);
             if fixed.is_none() {
+                census::face_normals(&face_normals, &mut tally);
                 steps::census(&input, &answered, &mut steps);
             }
         }
         let printed = answers::answered(&input, &ours);
         ages::follow(&printed, name, fixed.is_none(), &mut ages);
+        unit_normals::follow(&printed, name, &mut normals);
         steps::follow(program, (&input, &ours), &mut random, name, &mut steps);
         as_walls::compare(program, (&input, &ours), &mut random, name, &mut walls);
     }
@@ -85,7 +91,8 @@ fn compare_heats(program: &str, heats: u64, length: usize, seed: u64) -> bool {
     let equal = walls.report(&as_walls::wanted());
     let stepped = steps.report(&steps::wanted());
     let aged = ages.report(&ages::WANTED.map(String::from));
-    tally.report(&census::wanted()) && ruled && equal && stepped && aged
+    let unit = normals.report(&unit_normals::WANTED.map(String::from));
+    tally.report(&census::wanted()) && ruled && equal && stepped && aged && unit
 }
 
 /// The fixed heats and random ones, the last of them a hundred times as long, each with its answers.

@@ -105,7 +105,7 @@ pub fn point(random: &mut Random, scale: f32) -> [f32; 2] {
     [number(random, scale), number(random, scale)]
 }
 
-fn pairs(list: &[f32]) -> Vec<[f32; 2]> {
+pub fn pairs(list: &[f32]) -> Vec<[f32; 2]> {
     list.chunks(2).map(|p| [p[0], p[1]]).collect()
 }
 

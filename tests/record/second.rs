@@ -3,11 +3,14 @@
 use crate::rust_touches;
 #[cfg(box2d)]
 use std::ffi::c_void;
+#[cfg(papers)]
+use std::sync::atomic::Ordering::Relaxed;
 
 #[cfg(box2d)]
 extern "C" {
     // tests/record/box2d_touches.cpp; the output is what `put` is handed, a piece at a time, with `out`
     fn box2d_touches(input: *const u8, length: usize, put: Put, out: *mut c_void);
+    static mut box2d_face_normals: [usize; 3];
     fn box2d_export(frames: *const u8, length: usize, out: *mut u8, out_length: usize) -> u32;
 }
 
@@ -17,6 +20,17 @@ type Put = unsafe extern "C" fn(*mut c_void, *const u8, usize);
 #[cfg(box2d)]
 unsafe extern "C" fn put(out: *mut c_void, text: *const u8, length: usize) {
     (*(out as *mut Vec<u8>)).extend(std::slice::from_raw_parts(text, length));
+}
+
+/// How often each program at hand put the normal of a face in, since it was last asked: at a first corner, at a second,
+/// and turned.
+pub fn face_normals() -> Vec<(&'static str, [usize; 3])> {
+    let mut list = Vec::new();
+    #[cfg(papers)]
+    list.push(("over the Rust", [0, 1, 2].map(|i| rust_touches::corner::FACE_NORMALS[i].swap(0, Relaxed))));
+    #[cfg(box2d)]
+    list.push(("over Box2D", unsafe { std::mem::take(&mut *std::ptr::addr_of_mut!(box2d_face_normals)) }));
+    list
 }
 
 /// The whole output for an input, and whether both programs give it.

@@ -67,6 +67,12 @@ pub fn grid(random: &mut Random, steps: u64) -> f32 {
     }
 }
 
+/// The float so many steps after or before it, across 0 too.
+pub fn step(x: f32, steps: i32) -> f32 {
+    let turned = |key: i32| if key < 0 { i32::MIN.wrapping_sub(key) } else { key };
+    f32::from_bits(turned(turned(x.to_bits() as i32) + steps) as u32)
+}
+
 /// From -1 to 1.
 pub fn unit(random: &mut Random) -> f32 {
     random.below(1 << 24) as f32 / (1 << 23) as f32 - 1.0
@@ -126,6 +132,20 @@ pub fn points(random: &mut Random, n: usize) -> Vec<f32> {
         let (from, to) = (random.below(n as u64) as usize, random.below(n as u64) as usize);
         list[2 * to] = list[2 * from] + random.of(&[0.0, 0.0024, 0.0025, 0.0026, 1e-7]);
         list[2 * to + 1] = list[2 * from + 1];
+    }
+    list
+}
+
+/// A point near the origin or on it, and a few that are far from it and to one side: a corner of their outline, and by
+/// rounding it is out of a face now and then.
+pub fn fan(random: &mut Random, near: f32) -> Vec<f32> {
+    let size = random.of(&[4.0, 64.0, 1000.0, 131072.0]);
+    let middle = unit(random) as f64 * 4.0;
+    let mut list = vec![unit(random) * near, unit(random) * near];
+    for _ in 0..2 + random.below(4) {
+        let (s, c) = (middle + unit(random) as f64).sin_cos();
+        let far = size * (0.6 + 0.4 * unit(random));
+        list.extend([c as f32 * far, s as f32 * far]);
     }
     list
 }

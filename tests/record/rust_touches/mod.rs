@@ -1,7 +1,8 @@
 //! A second `touches` over the unmodified Rust, written from document 01's "The touch record", from document 02's
-//! frames 06 and 07, its count of touches, its steps and its ages of points, and from nothing of ours: what the program
-//! prints for an input, and the export. The Rust's panics are refusals 3, 4, 5 and 8; 1, 2, 6, 9 and 10 to 16 are tested
-//! here. A kind of frame is a row of KINDS and a function in the file of its like.
+//! frames 06 and 07, its touches, its steps, its ages of points and its normals at corners, and from nothing of ours:
+//! what the program prints for an input, and the export. The Rust's panics are refusals 3, 4, 5 and 8; 1, 2, 6, 9 and 10
+//! to 16 are tested here. A kind of frame is a row of KINDS and a function in the file of its like.
+pub mod corner;
 mod placing;
 mod shapes;
 mod testing;

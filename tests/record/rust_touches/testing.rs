@@ -1,4 +1,5 @@
 //! Frame 05: the test of a pair.
+use super::corner::no_zero_normal;
 use super::shapes::Shape::{self, Circle, Outline, Wall};
 use super::{Answer, Body, Contact, Line, Pair, Program};
 use crate::ranges::{within, CONTACT, LOCAL_NORMAL, SIZE};
@@ -32,7 +33,8 @@ fn contact(piece: &Shape, a: &Body, b: &Body) -> Result<B2manifold, u8> {
         (Circle(a), Circle(b)) => b2_collide_circles(&mut m, a, xf_a, b, xf_b),
         (Outline(a), Circle(b)) => {
             tested(&[a])?;
-            b2_collide_polygon_and_circle(&mut m, a, xf_a, b, xf_b)
+            b2_collide_polygon_and_circle(&mut m, a, xf_a, b, xf_b);
+            no_zero_normal(&mut m, a, xf_a, b, xf_b)
         }
         (Outline(a), Outline(b)) => {
             tested(&[a, b])?;
