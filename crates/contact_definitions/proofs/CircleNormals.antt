@@ -6,7 +6,7 @@ use lib.Ieee.{Float, le, lt}
 use Rattle.rounding.specs.Literals.{zero32, half32}
 use Rattle.floats.specs.declared.b2_math.B2vec2.{B2vec2}
 use Rattle.floats.specs.B2Common.{b2-epsilon}
-use Rattle.floats.specs.B2Math.{b2-add, b2-sub, b2-scale, b2-dot, b2-normalize, unit-or, unit-or-same}
+use Rattle.floats.specs.B2Math.{b2-add, b2-sub, b2-scale, b2-dot, b2-normalize, unit-or-same}
 use Rattle.shape_definitions.specs.declared.b2_polygon_shape.B2polygonShape.{B2polygonShape}
 use Rattle.contact_definitions.specs.declared.b2_collision.B2manifold.{B2manifold}
 use Rattle.contact_definitions.specs.declared.b2_collision.B2manifoldType.the-variants.{EFaceA}

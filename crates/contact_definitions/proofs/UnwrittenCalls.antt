@@ -1,10 +1,9 @@
 -- The five contact calls leave the impulses and the age at both places as they were given, refused ones too: by cases
 -- of their choices. Assumes nothing.
 use Prim.Native.Nat.{ℕ}
-use mathlib.Core.Path.{_≡_, refl}
-use mathlib.Core.Bool.{Bool, not, cond, _&&_, _||_}
+use mathlib.Core.Path.{_≡_}
+use mathlib.Core.Bool.{Bool, not, _&&_, _||_}
 use lib.Ieee.{Float, binary32, add, div, le, lt}
-use lib.ListN.{length}
 use Rattle.rounding.specs.Literals.{zero32, half32, one32}
 use Rattle.floats.specs.declared.b2_math.B2vec2.{B2vec2}
 use Rattle.floats.specs.declared.b2_math.B2Transform.{B2Transform}

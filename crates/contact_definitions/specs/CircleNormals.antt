@@ -1,5 +1,5 @@
--- Document 02, request 07: the normal of an outline against a circle. What document 01 had at a corner, which is what the
--- Rust hands back; the inputs that leave the comparison with it; and what a normal that pushes is. Definitions only.
+-- Document 02, request 07: the normal of an outline against a circle. What document 01 had at a corner, which is what
+-- the Rust hands back; the inputs that leave the comparison with it; and what a normal that pushes is. Definitions only.
 use mathlib.Core.Path.{_≡_}
 use mathlib.Core.Bool.{Bool, true, false, not, cond, _&&_}
 use mathlib.Core.List.{List}
@@ -64,8 +64,8 @@ manifold-before old poly c radius centre =
     (face-before old (chosen-first poly c) (chosen-second poly c) (chosen-normal poly c) (chosen poly c .value) c radius
     centre)
 
--- ---- the inputs that leave the comparison: c is out of the chosen face, at one of its corners, within the radius of it,
--- and has no length from it
+-- ---- the inputs that leave the comparison: c is out of the chosen face, at one of its corners, within the radius of
+-- it, and has no length from it
 unfoldable pub short-of : B2vec2 → B2vec2 → Float → Bool
 short-of v c radius = not (farther radius c v) && not (b2-normalize (b2-sub c v) .«had_length»)
 

@@ -200,7 +200,8 @@ module _ {v : B2vec2} (h : Moderate v) where
         (mag squared * metre) (mag root * mag root) metre
         (part (mag (v .x) * mag (v .x)) (mag sx) (x-square .near))
         (part (mag (v .y) * mag (v .y)) (mag sy) (y-square .near))
-        (scaled (mag squared) (mag sx) (mag sy) (abs-scale metre (mag sx + mag sy) _ sum-near)) large (root-law some .law)
+        (scaled (mag squared) (mag sx) (mag sy) (abs-scale metre (mag sx + mag sy) _ sum-near)) large
+        (root-law some .law)
       where
         part : (m s : ℕ) → Abs (2 ^ 24 ⊛ (metre ⊛ whole s ⊟ whole m)) (m + 2 ^ 23 * metre)
             → Abs (2 ^ 24 ⊛ (whole (metre * s) ⊟ whole m)) (m + 2 ^ 23 * metre)

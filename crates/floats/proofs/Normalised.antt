@@ -20,7 +20,8 @@ use Rattle.floats.specs.B2Math.{b2-length, times-reciprocal, b2-normaliz
 use Rattle.floats.specs.NearUnit.{NearUnit}
 use Rattle.floats.proofs.Constants.{epsilon-is}
 use Rattle.floats.proofs.Scale.{had-length-is, unit-is}
-use Rattle.floats.proofs.Length.{Moderate, squared, root, root-law, root-high, no-root, root-own, t, t-is, t-near}
+use Rattle.floats.proofs.Length.{Moderate, squared, root, root-law, root-high, no-root, root-own, t, t-is}
+use Rattle.floats.proofs.Length.{t-near}
 use Rattle.floats.proofs.UnitVector.{coordinate-most, quotient-near, normal-within, length-one, times-near}
 
 module _ {v : B2vec2} (h : Moderate v) where

@@ -12,7 +12,8 @@ use Rattle.algebra.proofs.Booleans.{bool-iff, by-test, cond-yes}
 use Rattle.rounding.proofs.TimesOne.{times-one}
 use Rattle.rounding.proofs.Comparison.{le-not-lt}
 use Rattle.floats.specs.B2Common.{b2-epsilon}
-use Rattle.floats.specs.B2Math.{vec2, b2-length-squared, b2-length, times-reciprocal, b2-normalize, unit-or-same, unit-or}
+use Rattle.floats.specs.B2Math.{vec2, b2-length-squared, b2-length, times-reciprocal, b2-normalize}
+use Rattle.floats.specs.B2Math.{unit-or-same, unit-or}
 use Rattle.floats.specs.Unit.{inverse-root, unit-scale}
 
 pub scale-by-square : (a : B2vec2) → inverse-root (b2-length-squared a) ≡ unit-scale a

@@ -97,7 +97,8 @@ module _ (v : B2vec2) (squared : Float) (squared-is : squared ≡ b2-length-squa
 
 -- ---- and so is the turned edge
 pub turned-long : (e : B2vec2) → T (fits binary32 (e .x)) → T (fits binary32 (e .y))
-    → lt epsilon-squared (b2-length-squared e) ≡ true → lt (b2-length (b2-cross-vec-by-scalar e one32)) b2-epsilon ≡ false
+    → lt epsilon-squared (b2-length-squared e) ≡ true
+    → lt (b2-length (b2-cross-vec-by-scalar e one32)) b2-epsilon ≡ false
 turned-long e x-fits y-fits long =
     acts (b2-cross-vec-by-scalar e one32) (b2-length-squared e) (sym (turned-squared e x-fits y-fits)) long
 

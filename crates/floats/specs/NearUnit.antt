@@ -1,5 +1,5 @@
--- How near to unit a vector is that normalising made, by the bounds N0, N1 and N2 of demand 3's proof. Lengths are whole
--- numbers of 2^-149 m, the value 1 is `metre`, and a tick is 2^-25 of it. Definitions only.
+-- How near to unit a vector is that normalising made, by the bounds N0, N1 and N2 of demand 3's proof. Lengths are
+-- whole numbers of 2^-149 m, the value 1 is `metre`, and a tick is 2^-25 of it. Definitions only.
 use Prim.Native.Nat.{ℕ, _+_, _*_}
 use Rattle.algebra.specs.Integer.{whole, _⊞_, _⊟_, _⊠_, Abs}
 use Rattle.rounding.specs.Value.{metre, tick, F32, val}

@@ -1,22 +1,17 @@
 -- Bodies as frames make them have shapes and placements of at most 2^20 m, and skins within the range. Assumes nothing.
-use Prim.Native.Nat.{ℕ, zero, suc, _+_, _*_, _^_, _≤_}
-use mathlib.Core.Path.{_≡_, refl, sym, subst}
+use Prim.Native.Nat.{ℕ, zero, suc, _+_, _^_}
+use mathlib.Core.Path.{_≡_}
 use mathlib.Core.Bool.{true, _&&_}
-use native.Mathlib.Nat.{le-trans, le-of-eq}
 use mathlib.Core.List.{List}
-use lib.Dec.{T, eqb}
+use lib.Dec.{eqb}
 use lib.Ieee.{Float, binary32}
 use lib.Ieee.Bits.{is-true, ofBits-fits}
 use native.Mathlib.Omega.{arith}
 use Rattle.algebra.proofs.Booleans.{both}
-use Rattle.rounding.specs.Literals.{one32}
-use Rattle.rounding.specs.Value.{metre}
-use Rattle.rounding.proofs.Value.{mag-abs}
 use Rattle.floats.specs.declared.b2_math.B2Transform.{B2Transform}
 use Rattle.floats.specs.declared.b2_math.B2vec2.{B2vec2}
 use Rattle.floats.specs.Ranges.{within, point-in-range, radius-in-range, rotation-in-range, transform-in-range}
 use Rattle.floats.specs.B2Common.{b2-polygon-radius}
-use Rattle.floats.proofs.RangeValue.{Bounded, limit-value, limit-vec2, one-limit-is, shape-limit-is}
 use Rattle.headings.specs.Headings.{heading, Component}
 use Rattle.headings.proofs.Theorem.{heading-is}
 use Rattle.lines.specs.Fields.{byte-at, number-at, float-at, vector-at, points-at, rotation-at, placement-at}
@@ -36,14 +31,12 @@ use Rattle.record_definitions.specs.Frame.{circle-at, wall-at, turn-at}
 use Rattle.record_definitions.specs.Frame.{turned-placement}
 use Rattle.record_definitions.proofs.Changes.{by-choice}
 use Rattle.record_ranges.proofs.Caps.{Cap}
-use Rattle.record_ranges.proofs.Vectors.{Caps, Turns}
+use Rattle.record_ranges.proofs.Vectors.{Caps}
 use Rattle.record_ranges.proofs.Shapes.{zero-cap, one-cap, origin-caps, CircleCaps, WallCaps, OutlineCaps}
 use Rattle.record_ranges.proofs.Shapes.{AtPlace}
 use Rattle.record_ranges.proofs.InRange.{point-caps, place-caps}
 use Rattle.record_ranges.proofs.Outlines.{Each, each-at, origins, built-caps, blank-outline-caps}
 use Rattle.record_ranges.proofs.Outlines.{skin-taken}
-use Rattle.floats.specs.B2Common.{b2-polygon-radius}
-use native.Mathlib.Omega.{arith}
 
 pub record CappedBody (body : Body) : Type 0 where
   pub place : AtPlace (body .xf)

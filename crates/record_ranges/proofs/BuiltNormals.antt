@@ -1,16 +1,16 @@
 -- The normals of an outline that the builder accepts, and of a box, are near unit: their edges have a length. Assumes
 -- nothing.
-use Prim.Native.Nat.{ℕ, zero, suc, _+_, _*_, _≤_, _<_}
-use mathlib.Core.Path.{_≡_, sym, subst}
-use mathlib.Core.Bool.{Bool, true, false, not, _&&_, _||_}
+use Prim.Native.Nat.{ℕ, zero, suc, _*_, _<_}
+use mathlib.Core.Path.{_≡_}
+use mathlib.Core.Bool.{true, not, _&&_, _||_}
 use mathlib.Core.List.{List, [], _∷_, map}
 use mathlib.Core.Option.{Option, none, some}
 use native.Mathlib.Omega.{arith}
 use lib.Dec.{T, ltb}
 use lib.Ieee.{Float, binary32, fits, neg, lt}
-use lib.ListN.{length, drop, getD, length-map, List·getD-append}
+use lib.ListN.{length, drop, length-map, List·getD-append}
 use borrow.Author.Tests.{not-false, ltb-false}
-use Rattle.algebra.specs.Integer.{Z, whole, opp, _⊞_, _⊟_, _⊠_, _≐_, Abs}
+use Rattle.algebra.specs.Integer.{Z, whole, _⊞_, _⊟_, _⊠_, _≐_, Abs}
 use Rattle.algebra.specs.Buffer.{over}
 use Rattle.algebra.specs.Loops.{weld}
 use Rattle.algebra.proofs.Booleans.{both}
@@ -20,7 +20,7 @@ use Rattle.rounding.proofs.Value.{neg-f32, val-neg}
 use Rattle.rounding.proofs.Literals.{zero-f32, one-f32, zero-val, one-val}
 use Rattle.floats.specs.declared.b2_math.B2vec2.{B2vec2}
 use Rattle.floats.specs.B2Common.{b2-epsilon, epsilon-squared}
-use Rattle.floats.specs.B2Math.{vec2, b2-cross-vec-by-scalar, b2-length-squared}
+use Rattle.floats.specs.B2Math.{vec2, b2-length-squared}
 use Rattle.floats.specs.NearUnit.{normal-bound, length-error, NearUnit}
 use Rattle.floats.specs.Ranges.{coordinate-in-range, point-in-range}
 use Rattle.floats.proofs.Turned.{turned-long}
@@ -31,10 +31,10 @@ use Rattle.shape_definitions.specs.Outline.{origin, point-at, too-near, welded,
 use Rattle.shape_definitions.specs.Outline.{fan}
 use Rattle.shape_definitions.specs.Polygon.{refused, all-points, outline-of-corners, outline-of-row, outline-of-welded}
 use Rattle.shape_definitions.specs.Polygon.{b2-polygon-shape-set}
-use Rattle.shape_definitions.specs.Boxes.{box-corners, box-normals, box-with, b2-polygon-shape-set-as-box}
+use Rattle.shape_definitions.specs.Boxes.{box-corners, box-normals, b2-polygon-shape-set-as-box}
 use Rattle.shape_definitions.specs.Refusal.{accepted}
 use Rattle.shape_definitions.proofs.Edges.{edges-length}
-use Rattle.contact_definitions.specs.CircleNormals.{Single, Singles}
+use Rattle.contact_definitions.specs.CircleNormals.{Singles}
 use Rattle.contact_definitions.proofs.Counts.{either}
 use Rattle.record_definitions.proofs.Changes.{by-choice}
 use Rattle.record_ranges.proofs.Caps.{Cap, cap-neg}
@@ -87,7 +87,8 @@ module _ (old : B2polygonShape) where
       by-choice BuiltIf (long-enough (edges corners) && lt b2-epsilon (fan corners .area)) _ _
       (λ passed taken. record {
         some = omega arith;
-        corner = λ i i-in. front (λ (p : B2vec2). Caps p 20) corners (old .«m_vertices») i i-in (each-at corners 20 h i);
+        corner = λ i i-in.
+            front (λ (p : B2vec2). Caps p 20) corners (old .«m_vertices») i i-in (each-at corners 20 h i);
         normal = λ i i-in.
             let inside : i < length (edges corners) = rw (edges-length corners) i-in in
             front NearUnit (map normal-of-edge (edges corners)) (old .«m_normals») i
@@ -108,9 +109,10 @@ module _ (old : B2polygonShape) where
   unfolding Each
   each-in-range [] singles taken = tt
   each-in-range (p ∷ points) singles taken =
-      let each = both (point-in-range p) (all-points point-in-range points) taken in
-      (point-caps p (singles 0 (omega arith)) (each .0),
-      each-in-range points (λ i i-in. singles (suc i) (omega arith)) (each .1))
+      let each = both (point-in-range p) (all-points point-in-range points) taken in (
+        point-caps p (singles 0 (omega arith)) (each .0),
+        each-in-range points (λ i i-in. singles (suc i) (omega arith)) (each .1),
+      )
 
   pub set-built : (points : List B2vec2) → Singles points → b2-polygon-shape-set old points .refusal ≡ accepted
       → Built (b2-polygon-shape-set old points .shape)

@@ -11,6 +11,7 @@ pub mod WallCalls
 pub mod Outlines
 pub mod BuiltNormals
 pub mod NoZeroNormal
+pub mod NormalWitness
 pub mod Bodies
 pub mod Chains
 pub mod Kept

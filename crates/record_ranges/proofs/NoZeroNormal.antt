@@ -1,5 +1,5 @@
--- Document 02, request 07: an outline that the builder accepts, or a box, against any circle: a reported local normal is
--- not zero, and its squared length is 1 within 2^-19. At a corner it is a vector made unit that had a length, or the
+-- Document 02, request 07: an outline that the builder accepts, or a box, against any circle: a reported local normal
+-- is not zero, and its squared length is 1 within 2^-19. At a corner it is a vector made unit that had a length, or the
 -- normal of the chosen face. Assumes nothing.
 use Prim.Native.Nat.{ℕ, _*_, _<_}
 use mathlib.Core.Path.{_≡_, refl, ap, subst}
@@ -14,8 +14,8 @@ use borrow.Author.Tests.{not-false}
 use Rattle.algebra.specs.Integer.{Z, whole, _⊞_, _⊟_, _⊠_, _≐_, Abs}
 use Rattle.algebra.proofs.Booleans.{both}
 use Rattle.rounding.specs.Literals.{zero32, half32}
-use Rattle.rounding.specs.Value.{metre, tick, mag, val}
-use Rattle.rounding.proofs.Value.{metre-pos, metre-square, abs-mag}
+use Rattle.rounding.specs.Value.{metre, mag, val}
+use Rattle.rounding.proofs.Value.{metre-pos, metre-square}
 use Rattle.floats.specs.declared.b2_math.B2Transform.{B2Transform}
 use Rattle.floats.specs.declared.b2_math.B2vec2.{B2vec2}
 use Rattle.floats.specs.B2Common.{b2-epsilon}
@@ -35,7 +35,6 @@ use Rattle.shape_definitions.specs.Validate.{polygon-in-range}
 use Rattle.shape_definitions.proofs.Edges.{after-in}
 use Rattle.contact_definitions.specs.declared.b2_collision.B2manifold.{B2manifold}
 use Rattle.contact_definitions.specs.declared.b2_collision.B2manifoldType.the-variants.{EFaceA}
-use Rattle.contact_definitions.specs.declared.b2_collision.ManifoldAnswer.{ManifoldAnswer}
 use Rattle.contact_definitions.specs.Manifold.{default-id, with-count, with-one-point, miscounted}
 use Rattle.contact_definitions.specs.B2CollideCircle.{farther, circle-separation, circle-at-corner, circle-at-face}
 use Rattle.contact_definitions.specs.B2CollideCircle.{circle-at-best, polygon-circle-manifold}
@@ -59,7 +58,8 @@ module _ (m : B2manifold) (c : B2vec2) (c-caps : Caps c 24) (radius : Float) (ce
   unfolding with-one-point
   written normal point unit = inr unit
 
-  from-corner : (v normal : B2vec2) → Caps v 20 → NearUnit normal → NearUnit (unit-or normal (b2-normalize (b2-sub c v)))
+  from-corner : (v normal : B2vec2) → Caps v 20 → NearUnit normal
+      → NearUnit (unit-or normal (b2-normalize (b2-sub c v)))
   from-corner v normal v-caps unit =
       by-test (b2-normalize (b2-sub c v) .«had_length»)
       (made-near-unit (moderate 25 tt (caps-sub c v 24 tt c-caps (caps-widen 20 24 tt v-caps))))

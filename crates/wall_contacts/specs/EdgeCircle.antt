@@ -5,8 +5,8 @@ use Prim.Native.Nat.{ℕ}
 use lib.Ieee.{Float, binary32, div, lt, add}
 use Rattle.rounding.specs.Literals.{zero32, one32}
 use Rattle.floats.specs.declared.b2_math.B2vec2.{B2vec2}
-use Rattle.floats.specs.B2Math.{vec2, b2-add, b2-neg, b2-scale, b2-dot, b2-normalize, unit-or-same, b2-mul-transform-by-vec2}
-use Rattle.floats.specs.B2Math.{b2-mul-t-transform-by-vec2}
+use Rattle.floats.specs.B2Math.{vec2, b2-add, b2-neg, b2-scale, b2-dot, b2-normalize, unit-or-same}
+use Rattle.floats.specs.B2Math.{b2-mul-transform-by-vec2, b2-mul-t-transform-by-vec2}
 use Rattle.floats.specs.declared.b2_math.B2Transform.{B2Transform}
 use Rattle.shape_definitions.specs.declared.b2_edge_shape.B2edgeShape.{B2edgeShape}
 use Rattle.shape_definitions.specs.Outline.{origin}

@@ -1,6 +1,5 @@
 -- Both coordinates times the reciprocal where there is a length of at least 2^-23, else the other vector.
 -- Assumes nothing.
-use mathlib.Core.Path.{sym}
 use borrow.Author.Needs.{needs}
 use Rattle.floats.proofs.Scale.{with-length, without-length}
 use Rattle.floats.proofs.unit.unit_or.Statement.{statement}

@@ -99,8 +99,8 @@ returns-2 c =
     let b2-sub = at-unit .before .b2-sub in
     let args = at-unit .before .before .args in
     with-its-points (args .m) (args .f) (args .total-radius) _ _ _ _
-    (unit .ensures ∙ ap (λ (v : B2vec2). unit-or-same (b2-normalize v)) (b2-sub .ensures)) (placed-face .ensures) (incident-ends
-    .ensures) (clip-to-sides .ensures) (if1 .left) _ _ _ _ _ _ _ _ _
+    (unit .ensures ∙ ap (λ (v : B2vec2). unit-or-same (b2-normalize v)) (b2-sub .ensures)) (placed-face .ensures)
+    (incident-ends .ensures) (clip-to-sides .ensures) (if1 .left) _ _ _ _ _ _ _ _ _
     (within-skins .ensures) (within-skins2 .ensures)
     (placed-end .ensures) (placed-end2 .ensures) (kept-points .ensures) (b2-cross-vec-by-scalar .ensures)
     (b2-scale′ .ensures ∙ ap (b2-scale half32) (b2-add .ensures)) (c .kind-of .ensures)
