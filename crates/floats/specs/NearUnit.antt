@@ -24,3 +24,12 @@ pub record NearUnit (w : B2vec2) : Type 0 where
   pub x-most : Abs (val (w .x)) normal-bound
   pub y-most : Abs (val (w .y)) normal-bound
   pub unit : Abs (val (w .x) ⊠ val (w .x) ⊞ val (w .y) ⊠ val (w .y) ⊟ whole (metre * metre)) (length-error * metre)
+
+-- ---- such a vector turned by a heading, which is on the unit circle within 2^-22: 2^-18
+abbrev pub turned-error : ℕ
+turned-error = 128 * tick
+
+pub record TurnedUnit (w : B2vec2) : Type 0 where
+  pub x-own : F32 (w .x)
+  pub y-own : F32 (w .y)
+  pub unit : Abs (val (w .x) ⊠ val (w .x) ⊞ val (w .y) ⊠ val (w .y) ⊟ whole (metre * metre)) (turned-error * metre)

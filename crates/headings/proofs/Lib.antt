@@ -3,3 +3,4 @@ pub mod Quarters
 pub mod Rule
 pub mod Theorem
 pub mod Controls
+pub mod TurnedNormal

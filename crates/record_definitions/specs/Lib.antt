@@ -3,6 +3,7 @@ pub mod Ages
 pub mod Touch
 pub mod Rulebook
 pub mod AgeLaws
+pub mod PushLaws
 pub mod Answer
 pub mod Frame
 pub mod OneFrame

@@ -1,9 +1,9 @@
 -- Bodies as frames make them have shapes and placements of at most 2^20 m, and skins within the range. Assumes nothing.
 use Prim.Native.Nat.{ℕ, zero, suc, _+_, _^_}
-use mathlib.Core.Path.{_≡_}
-use mathlib.Core.Bool.{true, _&&_}
+use mathlib.Core.Path.{_≡_, subst}
+use mathlib.Core.Bool.{true, not, _&&_}
 use mathlib.Core.List.{List}
-use lib.Dec.{eqb}
+use lib.Dec.{T, eqb}
 use lib.Ieee.{Float, binary32}
 use lib.Ieee.Bits.{is-true, ofBits-fits}
 use native.Mathlib.Omega.{arith}
@@ -20,10 +20,11 @@ use Rattle.shape_definitions.specs.Circle.{circle-in-range}
 use Rattle.shape_definitions.specs.Edge.{b2-set-one-sided, b2-set-two-sided}
 use Rattle.shape_definitions.specs.Polygon.{all-points, b2-polygon-shape-set}
 use Rattle.shape_definitions.specs.Refusal.{accepted}
-use Rattle.contact_definitions.specs.CircleNormals.{Single}
+use Rattle.contact_definitions.specs.CircleNormals.{Single, Singles}
 use Rattle.contact_definitions.proofs.Counts.{either}
 use Rattle.record_definitions.specs.declared.world.Body.{Body}
 use Rattle.record_definitions.specs.declared.world.Chain.{Chain}
+use Rattle.record_definitions.specs.World.{no-body, circle-kind, outline-kind, wall-kind}
 use Rattle.record_definitions.specs.World.{at-origin, blank-outline, blank-wall, blank-body, circle-body, outline-body}
 use Rattle.record_definitions.specs.World.{wall-body, placed, blank-chain, piece-wall}
 use Rattle.record_definitions.specs.Touch.{skin}
@@ -37,6 +38,7 @@ use Rattle.record_ranges.proofs.Shapes.{AtPlace}
 use Rattle.record_ranges.proofs.InRange.{point-caps, place-caps}
 use Rattle.record_ranges.proofs.Outlines.{Each, each-at, origins, built-caps, blank-outline-caps}
 use Rattle.record_ranges.proofs.Outlines.{skin-taken}
+use Rattle.record_ranges.proofs.BuiltNormals.{Built, set-built}
 
 pub record CappedBody (body : Body) : Type 0 where
   pub place : AtPlace (body .xf)
@@ -45,12 +47,19 @@ pub record CappedBody (body : Body) : Type 0 where
   pub wall : WallCaps (body .wall)
   pub chain : (i : ℕ) → WallCaps (piece-wall (body .chain) i)
   pub skin-taken : radius-in-range (skin body) ≡ true
+  pub built : body .kind ≡ outline-kind → Built (body .outline)
 
 -- ---- numbers read from frames
 read-single : (bytes : List ℕ) (at : ℕ) → Single (vector-at bytes at)
 unfolding vector-at
 read-single bytes at =
     (ofBits-fits binary32 (number-at bytes at), ofBits-fits binary32 (number-at bytes (at + 4)))
+
+read-singles : (bytes : List ℕ) (at n : ℕ) → Singles (points-at bytes at n)
+unfolding points-at
+read-singles bytes at zero i in-list = absurd (omega arith)
+read-singles bytes at (suc n) zero in-list = read-single bytes at
+read-singles bytes at (suc n) (suc i) in-list = read-singles bytes (at + 8) n i (omega arith)
 
 read-caps : (bytes : List ℕ) (at : ℕ) → point-in-range (vector-at bytes at) ≡ true → Caps (vector-at bytes at) 20
 read-caps bytes at taken = point-caps (vector-at bytes at) (read-single bytes at) taken
@@ -108,6 +117,10 @@ walls-capped chain points i =
 pub blank-chain-caps : (i : ℕ) → WallCaps (piece-wall blank-chain i)
 blank-chain-caps = walls-capped blank-chain (origins 10 20)
 
+-- a body of another kind is no outline
+pub other-kind : {P : Type 0} (kind : ℕ) → T (not (eqb kind outline-kind)) → kind ≡ outline-kind → P
+other-kind kind other is = absurd (subst (λ (k : ℕ). T (not (eqb k outline-kind))) is other)
+
 pub blank-capped : CappedBody blank-body
 unfolding blank-body skin
 blank-capped = record {
@@ -117,6 +130,7 @@ blank-capped = record {
   wall = blank-wall-caps;
   chain = blank-chain-caps;
   skin-taken = skin-is-taken;
+  built = other-kind no-body tt;
 }
 
 pub circle-capped : (bytes : List ℕ) → circle-in-range (circle-at bytes) ≡ true
@@ -131,6 +145,7 @@ circle-capped bytes taken =
       wall = blank-wall-caps;
       chain = blank-chain-caps;
       skin-taken = each .0;
+      built = other-kind circle-kind tt;
     }
 
 pub outline-capped : (bytes : List ℕ) (n : ℕ)
@@ -145,6 +160,7 @@ outline-capped bytes n taken radius-is = record {
   wall = blank-wall-caps;
   chain = blank-chain-caps;
   skin-taken = rw radius-is skin-is-taken;
+  built = λ is. set-built blank-outline (points-at bytes 3 n) (read-singles bytes 3 n) taken;
 }
 
 -- the walls of a frame
@@ -192,6 +208,7 @@ wall-capped bytes taken =
       wall = caps .0;
       chain = blank-chain-caps;
       skin-taken = caps .1;
+      built = other-kind wall-kind tt;
     }
 
 pub placed-capped : (body : Body) (xf : B2Transform) → CappedBody body → AtPlace xf → CappedBody (placed body xf)
@@ -203,4 +220,5 @@ placed-capped body xf h place = record {
   wall = h .wall;
   chain = h .chain;
   skin-taken = h .skin-taken;
+  built = h .built;
 }

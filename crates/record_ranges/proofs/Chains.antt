@@ -11,7 +11,7 @@ use Rattle.record_definitions.specs.declared.world.Body.{Body}
 use lib.ListN.{replicate}
 use Rattle.shape_definitions.specs.Outline.{origin}
 use Rattle.record_definitions.specs.declared.world.Chain.{Chain}
-use Rattle.record_definitions.specs.World.{wall-body, placed, chain-kind, chain-body, piece-wall, piece-of}
+use Rattle.record_definitions.specs.World.{wall-body, placed, wall-kind, chain-kind, chain-body, piece-wall, piece-of}
 use Rattle.record_definitions.specs.Touch.{skin}
 use Rattle.record_definitions.specs.Frame.{chain-points, chain-at, chain-refusal}
 use Rattle.record_definitions.proofs.Changes.{by-choice}
@@ -20,7 +20,7 @@ use Rattle.record_ranges.proofs.Shapes.{origin-caps}
 use Rattle.record_ranges.proofs.Outlines.{each-over, origins, blank-outline-caps}
 use Rattle.record_ranges.proofs.Outlines.{skin-taken}
 use Rattle.record_ranges.proofs.Bodies.{CappedBody, points-caps, at-origin-caps, blank-wall-caps, skin-is-taken}
-use Rattle.record_ranges.proofs.Bodies.{walls-capped, blank-chain-caps}
+use Rattle.record_ranges.proofs.Bodies.{walls-capped, blank-chain-caps, other-kind}
 
 pub chain-capped : (bytes : List ℕ) → chain-refusal bytes ≡ accepted → CappedBody (chain-body (chain-at bytes))
 unfolding chain-body chain-at skin
@@ -35,6 +35,7 @@ chain-capped bytes accepts =
       chain = walls-capped (chain-at bytes)
           (each-over (chain-points bytes) (replicate 10 origin) 20 points (origins 10 20));
       skin-taken = skin-is-taken;
+      built = other-kind chain-kind tt;
     }
 
 pub piece-capped : (body : Body) (i : ℕ) → CappedBody body → CappedBody (piece-of body i)
@@ -48,6 +49,7 @@ piece-capped body i h =
       wall = h .chain i;
       chain = blank-chain-caps;
       skin-taken = piece-skin (body .chain) i;
+      built = other-kind wall-kind tt;
     })
     (λ other. h)
   where

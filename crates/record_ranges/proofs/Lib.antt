@@ -17,4 +17,5 @@ pub mod Chains
 pub mod Kept
 pub mod Contacts
 pub mod Theorem
+pub mod PrintedNormal
 pub mod ExportReturns

@@ -1,27 +1,27 @@
 -- Document 02, request 07: an outline that the builder accepts, or a box, against any circle: a reported local normal
 -- is not zero, and its squared length is 1 within 2^-19. At a corner it is a vector made unit that had a length, or the
 -- normal of the chosen face. Assumes nothing.
-use Prim.Native.Nat.{ℕ, _*_, _<_}
+use Prim.Native.Nat.{ℕ, _*_, _^_, _<_}
 use mathlib.Core.Path.{_≡_, refl, ap, subst}
-use native.Mathlib.Nat.{mul-pos}
+use native.Mathlib.Nat.{mul-pos, mul-lt-mul-of-pos-right}
 use mathlib.Core.Bool.{Bool, true, false, not, cond, _&&_}
 use mathlib.Core.List.{List}
 use mathlib.Core.Logic.{_⊎_, inl, inr}
 use native.Mathlib.Omega.{arith}
-use lib.Dec.{T}
+use lib.Dec.{T, ltb, ltb→lt}
 use lib.Ieee.{Float, binary32, fits, add, le, lt}
 use borrow.Author.Tests.{not-false}
 use Rattle.algebra.specs.Integer.{Z, whole, _⊞_, _⊟_, _⊠_, _≐_, Abs}
 use Rattle.algebra.proofs.Booleans.{both}
 use Rattle.rounding.specs.Literals.{zero32, half32}
-use Rattle.rounding.specs.Value.{metre, mag, val}
-use Rattle.rounding.proofs.Value.{metre-pos, metre-square}
+use Rattle.rounding.specs.Value.{metre, tick, mag, val}
+use Rattle.rounding.proofs.Value.{metre-pos, tick-pos, metre-square}
 use Rattle.floats.specs.declared.b2_math.B2Transform.{B2Transform}
 use Rattle.floats.specs.declared.b2_math.B2vec2.{B2vec2}
 use Rattle.floats.specs.B2Common.{b2-epsilon}
 use Rattle.floats.specs.B2Math.{b2-add, b2-sub, b2-scale, b2-dot, b2-normalize, unit-or, b2-mul-transform-by-vec2}
 use Rattle.floats.specs.B2Math.{b2-mul-t-transform-by-vec2}
-use Rattle.floats.specs.NearUnit.{length-error, NearUnit}
+use Rattle.floats.specs.NearUnit.{NearUnit}
 use Rattle.floats.specs.Ranges.{point-in-range, radius-in-range, transform-in-range}
 use Rattle.floats.proofs.Normalised.{made-near-unit}
 use Rattle.floats.proofs.Square.{square-is}
@@ -40,7 +40,7 @@ use Rattle.contact_definitions.specs.B2CollideCircle.{farther, circle-separatio
 use Rattle.contact_definitions.specs.B2CollideCircle.{circle-at-best, polygon-circle-manifold}
 use Rattle.contact_definitions.specs.B2CollideCircle.{b2-collide-polygon-and-circle}
 use Rattle.contact_definitions.specs.CircleNormals.{chosen, outside, Pushes, Single, Singles, SinglePlace, NoZeroNormal}
-use Rattle.contact_definitions.proofs.Counts.{Accepted, either, refused, counted}
+use Rattle.contact_definitions.proofs.Counts.{Accepted, either, refused, counted, in-range}
 use Rattle.contact_definitions.proofs.Extremes.{greatest-place-in}
 use Rattle.record_definitions.proofs.Changes.{by-choice}
 use Rattle.record_ranges.proofs.Vectors.{Caps, caps-widen, caps-sub}
@@ -49,14 +49,18 @@ use Rattle.record_ranges.proofs.Normalised.{moderate}
 use Rattle.record_ranges.proofs.CircleCalls.{centre-there}
 use Rattle.record_ranges.proofs.BuiltNormals.{Built, set-built, box-built}
 
--- ---- what a circle makes of a manifold m: m as it was, or one whose normal is near unit
+-- ---- what a circle makes of a manifold m: m as it was, or one of face A whose normal is near unit
+pub record Made (m : B2manifold) : Type 0 where
+  pub normal : NearUnit (m .«local_normal»)
+  pub kind : m .«manifold_type» ≡ EFaceA
+
 module _ (m : B2manifold) (c : B2vec2) (c-caps : Caps c 24) (radius : Float) (centre : B2vec2) where
   abbrev Left : B2manifold → Type 0
-  Left r = (r ≡ m) ⊎ NearUnit (r .«local_normal»)
+  Left r = (r ≡ m) ⊎ Made r
 
   written : (normal point : B2vec2) → NearUnit normal → Left (with-one-point m EFaceA normal point centre default-id)
   unfolding with-one-point
-  written normal point unit = inr unit
+  written normal point unit = inr (record { normal = unit; kind = refl })
 
   from-corner : (v normal : B2vec2) → Caps v 20 → NearUnit normal
       → NearUnit (unit-or normal (b2-normalize (b2-sub c v)))
@@ -94,27 +98,30 @@ module _ (m : B2manifold) (c : B2vec2) (c-caps : Caps c 24) (radius : Float) (ce
       (built .corner _ (after-in (shape .«m_count») (chosen shape c .place) place))
       (built .normal (chosen shape c .place) place))
 
--- ---- a squared length of 1 within 2^-19 is not 0
-near-unit-pushes : {w : B2vec2} → NearUnit w → Pushes w
-near-unit-pushes {w} unit = record {
-  not-zero = λ x-zero y-zero.
-      never (val (w .x) ⊠ val (w .x)) (val (w .y) ⊠ val (w .y)) (mag (w .x)) (mag (w .y)) (square-is (w .x))
-      (square-is (w .y)) x-zero y-zero (unit .unit);
-  near-unit = unit;
-}
+-- ---- a squared length of 1 within some ticks, fewer than 2^25, is not 0
+pub not-both-zero : (w : B2vec2) (n : ℕ) → T (ltb n (2 ^ 25))
+    → Abs (val (w .x) ⊠ val (w .x) ⊞ val (w .y) ⊠ val (w .y) ⊟ whole (metre * metre)) (n * tick * metre)
+    → mag (w .x) ≡ 0 → mag (w .y) ≡ 0 → ⊥
+not-both-zero w n few unit x-zero y-zero =
+    never (val (w .x) ⊠ val (w .x)) (val (w .y) ⊠ val (w .y)) (mag (w .x)) (mag (w .y)) (square-is (w .x))
+    (square-is (w .y)) x-zero y-zero
+    (mul-lt-mul-of-pos-right (ltb→lt n (2 ^ 25) few) (mul-pos tick-pos metre-pos)) unit
   where
-    never : (a b : Z) (m n : ℕ) → a ≐ whole (m * m) → b ≐ whole (n * n) → m ≡ 0 → n ≡ 0
-        → Abs (a ⊞ b ⊟ whole (metre * metre)) (length-error * metre) → ⊥
-    never a b m n a-is b-is m-is n-is h =
-        let m-zero : m * m ≡ 0 * m = ap (λ (k : ℕ). k * m) m-is in
-        let n-zero : n * n ≡ 0 * n = ap (λ (k : ℕ). k * n) n-is in
+    never : (a b : Z) (i j : ℕ) → a ≐ whole (i * i) → b ≐ whole (j * j) → i ≡ 0 → j ≡ 0
+        → n * (tick * metre) < 2 ^ 25 * (tick * metre)
+        → Abs (a ⊞ b ⊟ whole (metre * metre)) (n * tick * metre) → ⊥
+    never a b i j a-is b-is i-is j-is few h =
+        let i-zero : i * i ≡ 0 * i = ap (λ (k : ℕ). k * i) i-is in
+        let j-zero : j * j ≡ 0 * j = ap (λ (k : ℕ). k * j) j-is in
         let e = metre-square in
-        let p : 0 < metre * metre = mul-pos metre-pos metre-pos in
         omega arith
+
+near-unit-pushes : {w : B2vec2} → NearUnit w → Pushes w
+near-unit-pushes {w} unit = record { not-zero = not-both-zero w 64 tt (unit .unit); near-unit = unit }
 
 -- ---- the call
 abbrev Reported : B2manifold → Type 0
-Reported m = 0 < m .«point_count» → Pushes (m .«local_normal»)
+Reported m = 0 < m .«point_count» → Made m
 
 module _ (shape : B2polygonShape) (built : Built shape) (old : B2manifold) (xfA : B2Transform)
     (circleB : B2circleShape) (xfB : B2Transform) where
@@ -129,9 +136,16 @@ module _ (shape : B2polygonShape) (built : Built shape) (old : B2manifold) (xfA 
   unfolding with-count
   reported caps = go (at-outline (with-count old 0) there caps radius (circleB .«m_p») shape built)
     where
-      go : {r : B2manifold} → (r ≡ with-count old 0) ⊎ NearUnit (r .«local_normal») → Reported r
+      go : {r : B2manifold} → (r ≡ with-count old 0) ⊎ Made r → Reported r
       go (inl same) some = absurd (omega (arith, subst (λ (m : B2manifold). 0 < m .«point_count») same some))
-      go (inr unit) some = near-unit-pushes unit
+      go (inr made) some = made
+
+  -- of shapes and placements that are at most 2^20 m, and of numbers that the call takes
+  pub call-made : Caps there 24 → Accepted Reported (b2-collide-polygon-and-circle old shape xfA circleB xfB)
+  unfolding b2-collide-polygon-and-circle
+  call-made caps =
+      counted Reported (miscounted (shape .«m_count»)) old _
+      (in-range Reported (polygon-in-range shape && circle-in-range circleB) xfA xfB old _ (λ taken. reported caps))
 
   call-reports : SinglePlace xfA → Single (circleB .«m_p») → SinglePlace xfB
       → Accepted Reported (b2-collide-polygon-and-circle old shape xfA circleB xfB)
@@ -150,7 +164,10 @@ module _ (shape : B2polygonShape) (built : Built shape) (old : B2manifold) (xfA 
       (place-caps xfB at-single (places .1)) (point-caps (circleB .«m_p») b-single (circle .1))))))
 
 built-pushes : (shape : B2polygonShape) → Built shape → NoZeroNormal shape
-built-pushes shape built = record { pushes = call-reports shape built }
+built-pushes shape built = record {
+  pushes = λ old xfA circleB xfB a-single b-single at-single taken some.
+      near-unit-pushes (call-reports shape built old xfA circleB xfB a-single b-single at-single taken some .normal);
+}
 
 -- ---- an outline from the builder, and a box, whatever the old outline
 pub set-no-zero-normal : (old : B2polygonShape) (points : List B2vec2) → Singles points

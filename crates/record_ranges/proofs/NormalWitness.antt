@@ -16,8 +16,8 @@ use Rattle.floats.specs.Ranges.{normal-in-range}
 use Rattle.floats.proofs.BitPatterns.{float, vector}
 use Rattle.shape_definitions.specs.declared.b2_circle_shape.B2circleShape.{B2circleShape}
 use Rattle.shape_definitions.specs.declared.b2_polygon_shape.B2polygonShape.{B2polygonShape}
-use Rattle.shape_definitions.specs.Outline.{too-near, welded, comes-before, start, closer, next, row, edges, long-enough}
-use Rattle.shape_definitions.specs.Outline.{fan}
+use Rattle.shape_definitions.specs.Outline.{too-near, welded, comes-before, start, closer, next, row, edges}
+use Rattle.shape_definitions.specs.Outline.{long-enough, fan}
 use Rattle.shape_definitions.specs.Circle.{circle-in-range}
 use Rattle.shape_definitions.specs.Polygon.{outline-of-corners, outline-of-welded, b2-polygon-shape-set}
 use Rattle.shape_definitions.specs.Refusal.{accepted}
@@ -68,8 +68,11 @@ singles (suc (suc (suc i))) in-list = absurd (omega arith)
 
 pub corner-pushes : Pushes (vector 0x3f7c_844f 0x3e28_5835)
 corner-pushes =
-    let unturned : SinglePlace at-origin = ((ofBits-fits binary32 0, ofBits-fits binary32 0),
-    ofBits-fits binary32 0, ofBits-fits binary32 0x3f80_0000) in
+    let unturned : SinglePlace at-origin = (
+      (ofBits-fits binary32 0, ofBits-fits binary32 0),
+      ofBits-fits binary32 0,
+      ofBits-fits binary32 0x3f80_0000,
+    ) in
     rw (computed .normal) at (set-no-zero-normal blank-outline points singles (computed .built) .pushes
     default-manifold at-origin on-corner at-origin unturned
     (ofBits-fits binary32 0xbf80_0000, ofBits-fits binary32 0xc000_0000) unturned (computed .taken)
