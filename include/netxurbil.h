@@ -30,7 +30,7 @@ enum netxurbil_refusal {
     NETXURBIL_CHAIN_TOO_NEAR = 16         /* neighbouring points of a chain too near; this call never returns it */
 };
 
-#define NETXURBIL_VERSION "1.5"
+#define NETXURBIL_VERSION "1.6"
 
 /* The longest input: two outlines of eight points, and two placements. */
 #define NETXURBIL_INPUT 170

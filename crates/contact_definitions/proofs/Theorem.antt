@@ -1,6 +1,7 @@
 -- The headline laws of contacts, for every old manifold. Of every input that a call does not refuse: at most two points
 -- are counted; where an outline pair or a wall and an outline report a point, the kind is face A or face B. Of every
--- input: impulses and ages of the points stay; and a clip never leaves three ends. Bodies only cite. Assumes nothing.
+-- input: impulses and ages of the points stay; an outline against a circle is document 01's but for the normal at a
+-- corner without a length; and a clip never leaves three ends. Bodies only cite. Assumes nothing.
 use mathlib.Core.Path.{_≡_, refl}
 use mathlib.Core.List.{List}
 use Prim.Native.Nat.{ℕ, _≤_}
@@ -30,6 +31,8 @@ use Rattle.contact_definitions.specs.Clip.{clipped, clip-in-range}
 use Rattle.contact_definitions.proofs.CircleCounts.{circles-few, polygon-circle-few, edge-circle-few}
 use Rattle.contact_definitions.proofs.FaceCounts.{polygons-on-face, edge-polygon-on-face}
 use Rattle.contact_definitions.specs.Unwritten.{AsGiven, CallsLeave}
+use Rattle.contact_definitions.specs.CircleNormals.{OnlyTheNormal}
+use Rattle.contact_definitions.proofs.CircleNormals.{mended}
 use Rattle.contact_definitions.proofs.UnwrittenCalls.{circles-keep, polygon-and-circle-keep, polygons-keep}
 use Rattle.contact_definitions.proofs.UnwrittenCalls.{edge-and-circle-keep, edge-and-polygon-keep}
 
@@ -66,6 +69,11 @@ calls-leave old two xfA xfB =
       edge-and-circle = edge-and-circle-keep old given xfA xfB;
       edge-and-polygon = edge-and-polygon-keep old given xfA xfB;
     }
+
+-- ---- outline against circle, beside document 01
+pub only-the-normal : (old : B2manifold) (poly : B2polygonShape) (c : B2vec2) (radius : Float) (centre : B2vec2)
+    → OnlyTheNormal old poly c radius centre
+only-the-normal old poly c radius centre = mended old c radius centre poly
 
 -- ---- a clip never leaves three ends: a refused one counts none
 pub clip-count : (old ends : List B2clipVertex) (normal : B2vec2) (offset : Float) (index : ℕ)
