@@ -13,13 +13,13 @@ use Rattle.record_definitions.specs.World.{circle-kind, outline-kind, bo
 use Rattle.record_definitions.specs.OneFrame.{first-place, second-place, said-of-frame}
 
 -- a printed normal points somewhere: it is not zero, and its squared length is 1 within 2^-18
-pub record Points (w : B2vec2) : Type 0 where
+pub record PointsSomewhere (w : B2vec2) : Type 0 where
   pub not-zero : mag (w .x) ≡ 0 → mag (w .y) ≡ 0 → ⊥
   pub near-unit : TurnedUnit w
 
 -- what a frame's test prints in a world, of an outline and a circle, where there is a point: the outline is turned as a
 -- heading turns, or not at all, which is heading 0
 pub record OutlinePushes (w : World) (bytes : List ℕ) : Type 0 where
-  pub points : (t : Touch) → said-of-frame w bytes .answer ≡ Tested t
+  pub pushes : (t : Touch) → said-of-frame w bytes .answer ≡ Tested t
       → body-at w (first-place bytes) .kind ≡ outline-kind → body-at w (second-place bytes) .kind ≡ circle-kind
-      → Heading (body-at w (first-place bytes) .xf .q) → 0 < t .count → Points (t .normal)
+      → Heading (body-at w (first-place bytes) .xf .q) → 0 < t .count → PointsSomewhere (t .normal)

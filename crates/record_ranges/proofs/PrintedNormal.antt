@@ -35,7 +35,7 @@ use Rattle.record_definitions.specs.Ages.{with-ages}
 use Rattle.record_definitions.specs.Touch.{meet-circle, meet, skin, world-points, touch-of, tested-as, tested}
 use Rattle.record_definitions.specs.OneFrame.{first-place, second-place, change-in, said-of-frame}
 use Rattle.record_definitions.specs.Server.{reached}
-use Rattle.record_definitions.specs.PushLaws.{Points, OutlinePushes}
+use Rattle.record_definitions.specs.PushLaws.{PointsSomewhere, OutlinePushes}
 use Rattle.record_definitions.proofs.Changes.{by-choice, was-tested}
 use Rattle.record_definitions.proofs.PieceTests.{each-accepted, only-test, one-piece}
 use Rattle.record_ranges.proofs.Bodies.{CappedBody}
@@ -101,7 +101,7 @@ module _ (a b : Body) (a-caps : CappedBody a) (b-caps : CappedBody b) (is-outlin
           no-way n other is = false≢true (sym other ∙ ap (λ (k : ℕ). eqb k accepted) is)
 
   test-points : tested ida idb a b kept .refusal ≡ accepted → 0 < tested ida idb a b kept .touch .count
-      → Points (tested ida idb a b kept .touch .normal)
+      → PointsSomewhere (tested ida idb a b kept .touch .normal)
   unfolding tested tested-as touch-of with-ages
   test-points taken some =
       let accepts = both-taken taken in
@@ -119,7 +119,7 @@ module _ (a b : Body) (a-caps : CappedBody a) (b-caps : CappedBody b) (is-outlin
 -- ---- after any lines
 pub outline-pushes : (lines : List (List ℕ)) (bytes : List ℕ) → OutlinePushes (reached lines .world) bytes
 unfolding said-of-frame change-in
-outline-pushes lines bytes = record { points = points }
+outline-pushes lines bytes = record { pushes = pushes }
   where
     w : World
     w = reached lines .world
@@ -130,9 +130,9 @@ outline-pushes lines bytes = record { points = points }
     b : Body
     b = body-at w (second-place bytes)
 
-    points : (t : Touch) → said-of-frame w bytes .answer ≡ Tested t → a .kind ≡ outline-kind → b .kind ≡ circle-kind
-        → Heading (a .xf .q) → 0 < t .count → Points (t .normal)
-    points t is is-outline is-circle turned some =
+    pushes : (t : Touch) → said-of-frame w bytes .answer ≡ Tested t → a .kind ≡ outline-kind → b .kind ≡ circle-kind
+        → Heading (a .xf .q) → 0 < t .count → PointsSomewhere (t .normal)
+    pushes t is is-outline is-circle turned some =
         let capped = reached-worlds-capped lines in
         let pair = pair-at w (first-place bytes) (second-place bytes) in
         let was = was-tested a b pair bytes t is in
@@ -145,6 +145,6 @@ outline-pushes lines bytes = record { points = points }
         let taken : tested ida idb a b (kept-of pair 0) .refusal ≡ accepted =
         ap (λ (answer : TestAnswer). answer .refusal) (sym one)
         ∙ each-accepted ida idb a b pair (was .not-refused) 0 (rw (one-piece a other) (omega arith)) in
-        subst (λ (u : Touch). Points (u .normal)) (sym touch-is)
+        subst (λ (u : Touch). PointsSomewhere (u .normal)) (sym touch-is)
         (test-points a b (capped .each (first-place bytes)) (capped .each (second-place bytes)) is-outline is-circle
         turned ida idb (kept-of pair 0) taken (subst (λ (u : Touch). 0 < u .count) touch-is some))
