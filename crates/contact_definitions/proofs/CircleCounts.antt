@@ -3,28 +3,25 @@
 use mathlib.Core.Bool.{Bool, cond, _&&_}
 use Prim.Native.Nat.{ℕ}
 use lib.Ieee.{Float, binary32, add, div, le, lt}
-use Rattle.rounding.specs.Literals.{zero32, half32, one32}
+use Rattle.rounding.specs.Literals.{zero32, one32}
 use Rattle.floats.specs.declared.b2_math.B2vec2.{B2vec2}
 use Rattle.floats.specs.declared.b2_math.B2Transform.{B2Transform}
-use Rattle.floats.specs.B2Common.{b2-epsilon}
-use Rattle.floats.specs.B2Math.{b2-add, b2-sub, b2-neg, b2-scale, b2-dot, b2-normalize, unit-or-same, unit-or}
+use Rattle.floats.specs.B2Math.{b2-add, b2-sub, b2-neg, b2-scale, b2-dot, b2-normalize, unit-or-same}
 use Rattle.floats.specs.B2Math.{b2-mul-transform-by-vec2, b2-mul-t-transform-by-vec2}
 use Rattle.shape_definitions.specs.declared.b2_circle_shape.B2circleShape.{B2circleShape}
 use Rattle.shape_definitions.specs.declared.b2_polygon_shape.B2polygonShape.{B2polygonShape}
 use Rattle.shape_definitions.specs.declared.b2_edge_shape.B2edgeShape.{B2edgeShape}
-use Rattle.shape_definitions.specs.Outline.{origin, point-at, place-after}
+use Rattle.shape_definitions.specs.Outline.{origin}
 use Rattle.shape_definitions.specs.Validate.{polygon-in-range}
-use Rattle.contact_definitions.specs.declared.axis.Best.{Best}
 use Rattle.contact_definitions.specs.declared.b2_collision.B2manifoldType.the-variants.{ECircles, EFaceA}
 use Rattle.contact_definitions.specs.declared.b2_collision.B2manifold.{B2manifold}
 use Rattle.contact_definitions.specs.Manifold.{vertex-feature, face-feature, contact-id, default-id}
 use Rattle.contact_definitions.specs.Manifold.{with-count, with-one-point, manifold-refused}
 use Rattle.contact_definitions.specs.Manifold.{manifold-accepted, miscounted, where-in-range}
-use Rattle.contact_definitions.specs.Searches.{some-below, first-greatest}
 use Rattle.shape_definitions.specs.Circle.{circle-in-range}
 use Rattle.contact_definitions.specs.B2CollideCircle.{farther, circles-manifold}
-use Rattle.contact_definitions.specs.B2CollideCircle.{b2-collide-circles, circle-separation, circle-at-corner}
-use Rattle.contact_definitions.specs.B2CollideCircle.{circle-at-face, circle-at-best, polygon-circle-manifold}
+use Rattle.contact_definitions.specs.B2CollideCircle.{b2-collide-circles}
+use Rattle.contact_definitions.specs.B2CollideCircle.{polygon-circle-manifold}
 use Rattle.contact_definitions.specs.B2CollideCircle.{b2-collide-polygon-and-circle}
 use Rattle.contact_definitions.specs.EdgeAxis.{right-of}
 use Rattle.shape_definitions.specs.Edge.{edge-in-range}
@@ -32,6 +29,7 @@ use Rattle.contact_definitions.specs.B2CollideEdge.{circle-at-end, circl
 use Rattle.contact_definitions.specs.B2CollideEdge.{over-after, edge-circle-answer, b2-collide-edge-and-circle}
 use Rattle.contact_definitions.proofs.Counts.{Few, Accepted, either, refused, counted}
 use Rattle.contact_definitions.proofs.Counts.{in-range, none-few, one-few}
+use Rattle.contact_definitions.proofs.OutlineCircle.{at-outline}
 
 -- ---- circles
 pub circles-few : (old : B2manifold) (circleA : B2circleShape) (xfA : B2Transform) (circleB : B2circleShape)
@@ -48,45 +46,6 @@ circles-few old circleA xfA circleB xfB =
     (one-few none ECircles origin (circleA .«m_p») (circleB .«m_p») default-id))
 
 -- ---- outline and circle
-module _ (m : B2manifold) (m-few : Few m) (c : B2vec2) (radius : Float) (centre : B2vec2) where
-  corner-few : (v normal : B2vec2) → Few (circle-at-corner m v normal c radius centre)
-  unfolding circle-at-corner
-  corner-few v normal =
-      let from-corner = unit-or normal (b2-normalize (b2-sub c v)) in
-      either Few (farther radius c v) m (with-one-point m EFaceA from-corner v centre default-id) m-few
-      (one-few m EFaceA from-corner v centre default-id)
-
-  face-few : (v1 v2 normal : B2vec2) (separation : Float)
-      → Few (circle-at-face m v1 v2 normal separation c radius centre)
-  unfolding circle-at-face
-  face-few v1 v2 normal separation =
-      let middle = b2-scale half32 (b2-add v1 v2) in
-      let at-middle = with-one-point m EFaceA normal middle centre default-id in
-      let middle-few = one-few m EFaceA normal middle centre default-id in
-      let too-far = lt radius (b2-dot (b2-sub c middle) normal) in
-      let over-second = le (b2-dot (b2-sub c v2) (b2-sub v1 v2)) zero32 in
-      let over-first = le (b2-dot (b2-sub c v1) (b2-sub v2 v1)) zero32 in
-      let at-1 = circle-at-corner m v1 normal c radius centre in
-      let at-2 = circle-at-corner m v2 normal c radius centre in
-      let face = cond too-far m at-middle in
-      either Few (lt separation b2-epsilon) at-middle (cond over-first at-1 (cond over-second at-2 face)) middle-few
-      (either Few over-first at-1 (cond over-second at-2 face) (corner-few v1 normal)
-      (either Few over-second at-2 face (corner-few v2 normal) (either Few too-far m at-middle m-few middle-few)))
-
-  best-few : (poly : B2polygonShape) (best : Best) → Few (circle-at-best m poly c radius centre best)
-  unfolding circle-at-best
-  best-few poly best =
-      face-few (point-at (poly .«m_vertices») (best .place))
-      (point-at (poly .«m_vertices») (place-after (poly .«m_count») (best .place)))
-      (point-at (poly .«m_normals») (best .place)) (best .value)
-
-  polygon-circle-manifold-few : (poly : B2polygonShape) → Few (polygon-circle-manifold m poly c radius centre)
-  unfolding polygon-circle-manifold
-  polygon-circle-manifold-few poly =
-      let best = first-greatest (circle-separation poly c) (poly .«m_count») in
-      either Few (some-below (λ i. lt radius (circle-separation poly c i)) (poly .«m_count»)) m
-      (circle-at-best m poly c radius centre best) m-few (best-few poly best)
-
 pub polygon-circle-few : (old : B2manifold) (polyA : B2polygonShape) (xfA : B2Transform) (circleB : B2circleShape)
     (xfB : B2Transform) → Accepted Few (b2-collide-polygon-and-circle old polyA xfA circleB xfB)
 unfolding b2-collide-polygon-and-circle
@@ -98,7 +57,9 @@ polygon-circle-few old polyA xfA circleB xfB =
     let shapes = polygon-in-range polyA && circle-in-range circleB in
     counted Few (miscounted (polyA .«m_count»)) old (where-in-range shapes xfA xfB old answer)
     (in-range Few shapes xfA xfB old answer
-    (λ h. polygon-circle-manifold-few none (none-few old) c radius (circleB .«m_p») polyA))
+    (λ h. at-outline Few none c radius (circleB .«m_p») (none-few old) polyA
+    (one-few none EFaceA _ _ (circleB .«m_p») default-id) (one-few none EFaceA _ _ (circleB .«m_p») default-id)
+    (one-few none EFaceA _ _ (circleB .«m_p») default-id)))
 
 -- ---- wall and circle
 module _ (m : B2manifold) (m-few : Few m) (q : B2vec2) (radius : Float) (centre : B2vec2) where

@@ -15,6 +15,7 @@ pub mod RefusalCases
 pub mod Controls
 pub mod WorldPoints
 pub mod Counts
+pub mod OutlineCircle
 pub mod CircleCounts
 pub mod FaceCounts
 pub mod Unwritten

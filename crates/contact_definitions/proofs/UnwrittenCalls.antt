@@ -4,10 +4,9 @@ use Prim.Native.Nat.{ℕ}
 use mathlib.Core.Path.{_≡_}
 use mathlib.Core.Bool.{Bool, not, _&&_, _||_}
 use lib.Ieee.{Float, binary32, add, div, le, lt}
-use Rattle.rounding.specs.Literals.{zero32, half32, one32}
+use Rattle.rounding.specs.Literals.{zero32, one32}
 use Rattle.floats.specs.declared.b2_math.B2vec2.{B2vec2}
 use Rattle.floats.specs.declared.b2_math.B2Transform.{B2Transform}
-use Rattle.floats.specs.B2Common.{b2-epsilon}
 use Rattle.floats.specs.B2Math.{vec2, b2-add, b2-sub, b2-neg, b2-scale, b2-dot, b2-normalize, b2-mul-transform-by-vec2}
 use Rattle.floats.specs.B2Math.{b2-mul-t-transform, unit-or-same}
 use Rattle.floats.specs.Ranges.{transform-in-range}
@@ -29,9 +28,7 @@ use Rattle.contact_definitions.specs.declared.b2_collision.ManifoldAnswe
 use Rattle.contact_definitions.specs.Manifold.{with-count, with-kind, default-id, swapped-id, miscounted}
 use Rattle.contact_definitions.specs.Manifold.{unless-miscounted, where-in-range}
 use Rattle.contact_definitions.specs.Unwritten.{unwritten, AsGiven}
-use Rattle.contact_definitions.specs.Searches.{some-below}
-use Rattle.contact_definitions.specs.B2CollideCircle.{farther, circles-manifold, circle-separation}
-use Rattle.contact_definitions.specs.B2CollideCircle.{circle-at-corner, circle-at-face, circle-at-best}
+use Rattle.contact_definitions.specs.B2CollideCircle.{farther, circles-manifold}
 use Rattle.contact_definitions.specs.B2CollideCircle.{polygon-circle-manifold, b2-collide-circles}
 use Rattle.contact_definitions.specs.B2CollideCircle.{b2-collide-polygon-and-circle}
 use Rattle.contact_definitions.specs.B2CollidePolygon.{outline-face, b2-find-incident-edge, outline-point}
@@ -45,6 +42,7 @@ use Rattle.contact_definitions.specs.B2CollideEdge.{circle-at-end, circl
 use Rattle.contact_definitions.specs.B2CollideEdge.{edge-circle-answer, edge-polygon-manifold}
 use Rattle.contact_definitions.specs.B2CollideEdge.{b2-collide-edge-and-circle, b2-collide-edge-and-polygon}
 use Rattle.contact_definitions.proofs.Counts.{either, sides-few}
+use Rattle.contact_definitions.proofs.OutlineCircle.{at-outline}
 use Rattle.contact_definitions.proofs.Unwritten.{local-point-written, count-written, kind-written, one-written}
 use Rattle.contact_definitions.proofs.Unwritten.{ends-written}
 
@@ -78,27 +76,12 @@ module _ (old : B2manifold) (given : AsGiven old old) where
 
   -- ---- a circle against an outline, and against a wall
   module _ (c : B2vec2) (radius : Float) (centre : B2vec2) where
-    at-corner : (v normal : B2vec2) → Kept (circle-at-corner none v normal c radius centre)
-    unfolding circle-at-corner
-    at-corner v normal =
-        either Kept (farther radius c v) _ _ none-kept (one-written old none EFaceA _ v centre default-id none-kept)
-
-    at-face : (v1 v2 normal : B2vec2) (separation : Float)
-        → Kept (circle-at-face none v1 v2 normal separation c radius centre)
-    unfolding circle-at-face
-    at-face v1 v2 normal separation =
-        let middle = b2-scale half32 (b2-add v1 v2) in
-        let written = one-written old none EFaceA normal middle centre default-id none-kept in
-        either Kept (lt separation b2-epsilon) _ _ written
-        (either Kept (le (b2-dot (b2-sub c v1) (b2-sub v2 v1)) zero32) _ _ (at-corner v1 normal)
-        (either Kept (le (b2-dot (b2-sub c v2) (b2-sub v1 v2)) zero32) _ _ (at-corner v2 normal)
-        (either Kept (lt radius (b2-dot (b2-sub c middle) normal)) _ _ none-kept written)))
-
-    at-outline : (poly : B2polygonShape) → Kept (polygon-circle-manifold none poly c radius centre)
-    unfolding polygon-circle-manifold circle-at-best
-    at-outline poly =
-        either Kept (some-below (λ i. lt radius (circle-separation poly c i)) (poly .«m_count»)) _ _ none-kept
-        (at-face _ _ _ _)
+    on-outline : (poly : B2polygonShape) → Kept (polygon-circle-manifold none poly c radius centre)
+    on-outline poly =
+        at-outline Kept none c radius centre none-kept poly
+        (one-written old none EFaceA _ _ centre default-id none-kept)
+        (one-written old none EFaceA _ _ centre default-id none-kept)
+        (one-written old none EFaceA _ _ centre default-id none-kept)
 
     at-end : (end : B2vec2) (index : ℕ) (over-neighbour : Bool)
         → Kept (circle-at-end none end index over-neighbour c radius centre)
@@ -189,7 +172,7 @@ module _ (old : B2manifold) (given : AsGiven old old) where
     unfolding b2-collide-polygon-and-circle
     polygon-and-circle-keep polyA circleB =
         unless-wrong (miscounted (polyA .«m_count»)) _
-        (where-ranged (polygon-in-range polyA && circle-in-range circleB) _ (at-outline _ _ (circleB .«m_p») polyA))
+        (where-ranged (polygon-in-range polyA && circle-in-range circleB) _ (on-outline _ _ (circleB .«m_p») polyA))
 
     pub edge-and-circle-keep : (edgeA : B2edgeShape) (circleB : B2circleShape)
         → Keeps (b2-collide-edge-and-circle old edgeA xfA circleB xfB)

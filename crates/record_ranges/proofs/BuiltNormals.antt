@@ -2,61 +2,47 @@
 -- nothing.
 use Prim.Native.Nat.{ℕ, zero, suc, _*_, _<_}
 use mathlib.Core.Path.{_≡_}
-use mathlib.Core.Bool.{true, not, _&&_, _||_}
+use mathlib.Core.Bool.{true, _&&_}
 use mathlib.Core.List.{List, [], _∷_, map}
-use mathlib.Core.Option.{Option, none, some}
+use mathlib.Core.Option.{some}
 use native.Mathlib.Omega.{arith}
-use lib.Dec.{T, ltb}
+use lib.Dec.{T}
 use lib.Ieee.{Float, binary32, fits, neg, lt}
 use lib.ListN.{length, drop, length-map, List·getD-append}
-use borrow.Author.Tests.{not-false, ltb-false}
 use Rattle.algebra.specs.Integer.{Z, whole, _⊞_, _⊟_, _⊠_, _≐_, Abs}
 use Rattle.algebra.specs.Buffer.{over}
-use Rattle.algebra.specs.Loops.{weld}
 use Rattle.algebra.proofs.Booleans.{both}
 use Rattle.rounding.specs.Literals.{zero32, one32}
 use Rattle.rounding.specs.Value.{metre, F32, val}
 use Rattle.rounding.proofs.Value.{neg-f32, val-neg}
 use Rattle.rounding.proofs.Literals.{zero-f32, one-f32, zero-val, one-val}
 use Rattle.floats.specs.declared.b2_math.B2vec2.{B2vec2}
-use Rattle.floats.specs.B2Common.{b2-epsilon, epsilon-squared}
+use Rattle.floats.specs.B2Common.{epsilon-squared}
 use Rattle.floats.specs.B2Math.{vec2, b2-length-squared}
 use Rattle.floats.specs.NearUnit.{normal-bound, length-error, NearUnit}
 use Rattle.floats.specs.Ranges.{coordinate-in-range, point-in-range}
 use Rattle.floats.proofs.Turned.{turned-long}
 use Rattle.floats.proofs.Normalised.{made-near-unit, not-short}
 use Rattle.shape_definitions.specs.declared.b2_polygon_shape.B2polygonShape.{B2polygonShape}
-use Rattle.shape_definitions.specs.declared.b2_polygon_shape.PolygonAnswer.{PolygonAnswer}
-use Rattle.shape_definitions.specs.Outline.{origin, point-at, too-near, welded, row, edges, long-enough, normal-of-edge}
-use Rattle.shape_definitions.specs.Outline.{fan}
-use Rattle.shape_definitions.specs.Polygon.{refused, all-points, outline-of-corners, outline-of-row, outline-of-welded}
+use Rattle.shape_definitions.specs.Outline.{origin, point-at, edges, long-enough, normal-of-edge}
+use Rattle.shape_definitions.specs.Polygon.{all-points}
 use Rattle.shape_definitions.specs.Polygon.{b2-polygon-shape-set}
 use Rattle.shape_definitions.specs.Boxes.{box-corners, box-normals, b2-polygon-shape-set-as-box}
 use Rattle.shape_definitions.specs.Refusal.{accepted}
 use Rattle.shape_definitions.proofs.Edges.{edges-length}
 use Rattle.contact_definitions.specs.CircleNormals.{Singles}
-use Rattle.contact_definitions.proofs.Counts.{either}
 use Rattle.record_definitions.proofs.Changes.{by-choice}
 use Rattle.record_ranges.proofs.Caps.{Cap, cap-neg}
 use Rattle.record_ranges.proofs.Vectors.{Caps}
 use Rattle.record_ranges.proofs.InRange.{coordinate-cap, point-caps}
 use Rattle.record_ranges.proofs.Normalised.{moderate}
-use Rattle.record_ranges.proofs.Outlines.{Each, each-at, each-weld, each-picked, each-edges, turned-caps}
+use Rattle.record_ranges.proofs.Outlines.{Each, each-at, each-edges, turned-caps, set-made, TakenWith, not-taken}
 
 -- ---- an outline with corners of at most 2^20 m and normals that are near unit, at the places that it counts
 pub record Built (shape : B2polygonShape) : Type 0 where
   pub some : 0 < shape .«m_count»
   pub corner : (i : ℕ) → i < shape .«m_count» → Caps (point-at (shape .«m_vertices») i) 20
   pub normal : (i : ℕ) → i < shape .«m_count» → NearUnit (point-at (shape .«m_normals») i)
-
-BuiltIf : PolygonAnswer → Type 0
-BuiltIf answer = answer .refusal ≡ accepted → Built (answer .shape)
-
-refused-built : (n : ℕ) (old : B2polygonShape) → BuiltIf (refused (suc n) old)
-unfolding BuiltIf
-refused-built n old taken =
-    let never : suc n ≡ 0 = taken in
-    absurd (omega arith)
 
 -- a place of the new points
 front : (P : B2vec2 → Type 0) (new old : List B2vec2) (i : ℕ) → i < length new → P (point-at new i)
@@ -79,51 +65,28 @@ normals-unit (e ∷ es) h long (suc i) i-in =
     normals-unit es (h .1) (both (lt epsilon-squared (b2-length-squared e)) (long-enough es) long .1) i (omega arith)
 
 -- ---- the builder, of any points and any old outline
-module _ (old : B2polygonShape) where
-  corners-built : (corners : List B2vec2) → Each corners 20 → 2 < length corners
-      → BuiltIf (outline-of-corners old corners)
-  unfolding outline-of-corners BuiltIf
-  corners-built corners h many =
-      by-choice BuiltIf (long-enough (edges corners) && lt b2-epsilon (fan corners .area)) _ _
-      (λ passed taken. record {
-        some = omega arith;
-        corner = λ i i-in.
-            front (λ (p : B2vec2). Caps p 20) corners (old .«m_vertices») i i-in (each-at corners 20 h i);
-        normal = λ i i-in.
-            let inside : i < length (edges corners) = rw (edges-length corners) i-in in
-            front NearUnit (map normal-of-edge (edges corners)) (old .«m_normals») i
-            (rw (length-map (edges corners) normal-of-edge) inside)
-            (normals-unit (edges corners) (each-edges corners h)
-            (both (long-enough (edges corners)) (lt b2-epsilon (fan corners .area)) passed .0) i inside);
-      })
-      (λ failed. refused-built 4 old)
+each-in-range : (points : List B2vec2) → Singles points → all-points point-in-range points ≡ true → Each points 20
+unfolding Each
+each-in-range [] singles taken = tt
+each-in-range (p ∷ points) singles taken =
+    let each = both (point-in-range p) (all-points point-in-range points) taken in (
+      point-caps p (singles 0 (omega arith)) (each .0),
+      each-in-range points (λ i i-in. singles (suc i) (omega arith)) (each .1),
+    )
 
-  row-built : (ps : List B2vec2) (walked : Option (List ℕ)) → Each ps 20 → BuiltIf (outline-of-row old ps walked)
-  row-built ps none h = refused-built 3 old
-  row-built ps (some places) h =
-      by-choice BuiltIf (ltb (length places) 3) _ _ (λ few. refused-built 3 old)
-      (λ many. corners-built (map (point-at ps) places) (each-picked ps places h)
-      (rw (length-map places (point-at ps)) (ltb-false (length places) 3 many)))
-
-  each-in-range : (points : List B2vec2) → Singles points → all-points point-in-range points ≡ true → Each points 20
-  unfolding Each
-  each-in-range [] singles taken = tt
-  each-in-range (p ∷ points) singles taken =
-      let each = both (point-in-range p) (all-points point-in-range points) taken in (
-        point-caps p (singles 0 (omega arith)) (each .0),
-        each-in-range points (λ i i-in. singles (suc i) (omega arith)) (each .1),
-      )
-
-  pub set-built : (points : List B2vec2) → Singles points → b2-polygon-shape-set old points .refusal ≡ accepted
-      → Built (b2-polygon-shape-set old points .shape)
-  unfolding b2-polygon-shape-set outline-of-welded welded BuiltIf Each
-  set-built points singles =
-      let ps = weld too-near [] points in
-      either BuiltIf (ltb (length points) 3 || ltb 8 (length points)) _ _ (refused-built 0 old)
-      (by-choice BuiltIf (not (all-points point-in-range points)) _ _ (λ out. refused-built 1 old)
-      (λ inside. either BuiltIf (ltb (length ps) 3) _ _ (refused-built 2 old)
-      (row-built ps (row ps) (each-weld [] points tt (each-in-range points singles
-      (not-false (all-points point-in-range points) inside))))))
+pub set-built : (old : B2polygonShape) (points : List B2vec2) → Singles points
+    → b2-polygon-shape-set old points .refusal ≡ accepted → Built (b2-polygon-shape-set old points .shape)
+set-built old points singles = set-made (TakenWith Built) old (not-taken Built old)
+    (λ corners h many long taken. record {
+      some = omega arith;
+      corner = λ i i-in.
+          front (λ (p : B2vec2). Caps p 20) corners (old .«m_vertices») i i-in (each-at corners 20 h i);
+      normal = λ i i-in.
+          let inside : i < length (edges corners) = rw (edges-length corners) i-in in
+          front NearUnit (map normal-of-edge (edges corners)) (old .«m_normals») i
+          (rw (length-map (edges corners) normal-of-edge) inside)
+          (normals-unit (edges corners) (each-edges corners h) long i inside);
+    }) points (each-in-range points singles)
 
 -- ---- a box: its normals are (0, -1), (1, 0), (0, 1) and (-1, 0)
 axis-unit : {a b : Float} → F32 a → F32 b → Abs (val a) metre → Abs (val b) metre
@@ -160,9 +123,9 @@ less-one-zero = axis-unit (neg-f32 one-f32) zero-f32 (rw (val-neg one32, one-val
 
 pub box-built : (old : B2polygonShape) (hx hy : Float) → T (fits binary32 hx) → T (fits binary32 hy)
     → b2-polygon-shape-set-as-box old hx hy .refusal ≡ accepted → Built (b2-polygon-shape-set-as-box old hx hy .shape)
-unfolding b2-polygon-shape-set-as-box BuiltIf
+unfolding b2-polygon-shape-set-as-box
 box-built old hx hy x-single y-single =
-    by-choice BuiltIf (coordinate-in-range hx && coordinate-in-range hy) _ _
+    by-choice (TakenWith Built) (coordinate-in-range hx && coordinate-in-range hy) _ _
     (λ inside taken.
     let each = both (coordinate-in-range hx) (coordinate-in-range hy) inside in
     record {
@@ -170,7 +133,7 @@ box-built old hx hy x-single y-single =
       corner = corners (coordinate-cap hx x-single (each .0)) (coordinate-cap hy y-single (each .1));
       normal = normals;
     })
-    (λ outside. refused-built 1 old)
+    (λ outside. not-taken Built old 1)
   where
     corners : Cap hx 20 → Cap hy 20 → (i : ℕ) → i < 4
         → Caps (point-at (over (box-corners hx hy) (old .«m_vertices»)) i) 20

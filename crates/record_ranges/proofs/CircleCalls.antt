@@ -6,7 +6,6 @@ use lib.Ieee.{Float, binary32, add, div, le, lt}
 use Rattle.rounding.specs.Literals.{zero32, half32, one32}
 use Rattle.floats.specs.declared.b2_math.B2Transform.{B2Transform}
 use Rattle.floats.specs.declared.b2_math.B2vec2.{B2vec2}
-use Rattle.floats.specs.B2Common.{b2-epsilon}
 use Rattle.floats.specs.B2Math.{b2-add, b2-sub, b2-neg, b2-scale, b2-dot, b2-normalize, unit-or-same, unit-or}
 use Rattle.floats.specs.B2Math.{b2-mul-transform-by-vec2, b2-mul-t-transform-by-vec2}
 use Rattle.shape_definitions.specs.declared.b2_circle_shape.B2circleShape.{B2circleShape}
@@ -15,14 +14,15 @@ use Rattle.shape_definitions.specs.declared.b2_polygon_shape.B2polygonShape.{B2
 use Rattle.shape_definitions.specs.Outline.{origin}
 use Rattle.contact_definitions.specs.declared.b2_collision.B2manifold.{B2manifold}
 use Rattle.contact_definitions.specs.declared.b2_collision.B2manifoldType.the-variants.{ECircles, EFaceA}
-use Rattle.contact_definitions.specs.Manifold.{with-count, default-id}
-use Rattle.contact_definitions.specs.Searches.{some-below}
-use Rattle.contact_definitions.specs.B2CollideCircle.{farther, circles-manifold, circle-separation, circle-at-corner}
-use Rattle.contact_definitions.specs.B2CollideCircle.{circle-at-face, circle-at-best, polygon-circle-manifold}
+use Rattle.contact_definitions.specs.Manifold.{with-count, with-one-point, default-id}
+use Rattle.contact_definitions.specs.B2CollideCircle.{farther, circles-manifold}
+use Rattle.contact_definitions.specs.B2CollideCircle.{polygon-circle-manifold}
 use Rattle.contact_definitions.specs.EdgeAxis.{right-of}
 use Rattle.contact_definitions.specs.B2CollideEdge.{circle-at-end, circle-at-wall, over-before, over-after}
 use Rattle.contact_definitions.specs.B2CollideEdge.{edge-circle-answer}
+use Rattle.contact_definitions.specs.CircleNormals.{chosen-normal}
 use Rattle.contact_definitions.proofs.Counts.{Accepted, either, refused}
+use Rattle.contact_definitions.proofs.OutlineCircle.{at-outline}
 use Rattle.record_ranges.proofs.Vectors.{Caps, caps-widen, caps-neg, caps-add, caps-sub, caps-scale}
 use Rattle.record_ranges.proofs.Vectors.{caps-carried, caps-carried-back, placed-widen, right-caps}
 use Rattle.record_ranges.proofs.Normalised.{normalised-caps}
@@ -55,35 +55,24 @@ middle-caps v1 v2 h g = caps-scale half32 (b2-add v1 v2) 0 21 tt half-cap (caps-
 -- ---- outline and circle
 module _ (m : B2manifold) (h : Ranged m) (c : B2vec2) (c-caps : Caps c 24) (radius : Float) (centre : B2vec2)
     (centre-caps : Caps centre 20) where
-  at-corner : (v normal : B2vec2) → Caps v 20 → Caps normal 2 → Ranged (circle-at-corner m v normal c radius centre)
-  unfolding circle-at-corner
-  at-corner v normal v-caps normal-caps =
+  -- a point at the end v of a face with this normal
+  ended : (v normal : B2vec2) → Caps v 20 → Caps normal 2
+      → Ranged (with-one-point m EFaceA (unit-or normal (b2-normalize (b2-sub c v))) v centre default-id)
+  ended v normal v-caps normal-caps =
       let made = b2-normalize (b2-sub c v) in
-      either Ranged (farther radius c v) _ _ h
-      (one-ranged m EFaceA (unit-or normal made) v centre default-id h
+      one-ranged m EFaceA (unit-or normal made) v centre default-id h
       (caps-widen 2 3 tt
       (either (λ (w : B2vec2). Caps w 2) (made .«had_length») (unit-or-same made) normal
       (normalised-caps (b2-sub c v) 25 tt (caps-sub c v 24 tt c-caps (caps-widen 20 24 tt v-caps))) normal-caps))
-      (caps-widen 20 30 tt v-caps) (caps-widen 20 30 tt centre-caps))
-
-  at-face : (v1 v2 normal : B2vec2) (separation : Float) → Caps v1 20 → Caps v2 20 → Caps normal 2
-      → Ranged (circle-at-face m v1 v2 normal separation c radius centre)
-  unfolding circle-at-face
-  at-face v1 v2 normal separation v1-caps v2-caps normal-caps =
-      let middle = b2-scale half32 (b2-add v1 v2) in
-      let written = one-ranged m EFaceA normal middle centre default-id h (caps-widen 2 3 tt normal-caps)
-      (caps-widen 21 30 tt (middle-caps v1 v2 v1-caps v2-caps)) (caps-widen 20 30 tt centre-caps) in
-      either Ranged (lt separation b2-epsilon) _ _ written
-      (either Ranged (le (b2-dot (b2-sub c v1) (b2-sub v2 v1)) zero32) _ _ (at-corner v1 normal v1-caps normal-caps)
-      (either Ranged (le (b2-dot (b2-sub c v2) (b2-sub v1 v2)) zero32) _ _ (at-corner v2 normal v2-caps normal-caps)
-      (either Ranged (lt radius (b2-dot (b2-sub c middle) normal)) _ _ h written)))
+      (caps-widen 20 30 tt v-caps) (caps-widen 20 30 tt centre-caps)
 
   pub outline-circle-ranged : (poly : B2polygonShape) → OutlineCaps poly
       → Ranged (polygon-circle-manifold m poly c radius centre)
-  unfolding polygon-circle-manifold circle-at-best
   outline-circle-ranged poly caps =
-      either Ranged (some-below (λ i. lt radius (circle-separation poly c i)) (poly .«m_count»)) _ _ h
-      (at-face _ _ _ _ (caps .corner _) (caps .corner _) (caps .normal _))
+      at-outline Ranged m c radius centre h poly
+      (one-ranged m EFaceA (chosen-normal poly c) _ centre default-id h (caps-widen 2 3 tt (caps .normal _))
+      (caps-widen 21 30 tt (middle-caps _ _ (caps .corner _) (caps .corner _))) (caps-widen 20 30 tt centre-caps))
+      (ended _ _ (caps .corner _) (caps .normal _)) (ended _ _ (caps .corner _) (caps .normal _))
 
   -- ---- wall and circle
   at-end : (end : B2vec2) (index : ℕ) (over-neighbour : Bool) → Caps end 20

@@ -2,24 +2,22 @@
 -- is not zero, and its squared length is 1 within 2^-19. At a corner it is a vector made unit that had a length, or the
 -- normal of the chosen face. Assumes nothing.
 use Prim.Native.Nat.{ℕ, _*_, _^_, _<_}
-use mathlib.Core.Path.{_≡_, refl, ap, subst}
+use mathlib.Core.Path.{_≡_, refl, sym, ap, subst}
 use native.Mathlib.Nat.{mul-pos, mul-lt-mul-of-pos-right}
-use mathlib.Core.Bool.{Bool, true, false, not, cond, _&&_}
+use mathlib.Core.Bool.{true, not, _&&_}
 use mathlib.Core.List.{List}
 use mathlib.Core.Logic.{_⊎_, inl, inr}
 use native.Mathlib.Omega.{arith}
 use lib.Dec.{T, ltb, ltb→lt}
-use lib.Ieee.{Float, binary32, fits, add, le, lt}
+use lib.Ieee.{Float, binary32, fits, add, lt}
 use borrow.Author.Tests.{not-false}
 use Rattle.algebra.specs.Integer.{Z, whole, _⊞_, _⊟_, _⊠_, _≐_, Abs}
 use Rattle.algebra.proofs.Booleans.{both}
-use Rattle.rounding.specs.Literals.{zero32, half32}
 use Rattle.rounding.specs.Value.{metre, tick, mag, val}
 use Rattle.rounding.proofs.Value.{metre-pos, tick-pos, metre-square}
 use Rattle.floats.specs.declared.b2_math.B2Transform.{B2Transform}
 use Rattle.floats.specs.declared.b2_math.B2vec2.{B2vec2}
-use Rattle.floats.specs.B2Common.{b2-epsilon}
-use Rattle.floats.specs.B2Math.{b2-add, b2-sub, b2-scale, b2-dot, b2-normalize, unit-or, b2-mul-transform-by-vec2}
+use Rattle.floats.specs.B2Math.{b2-sub, b2-normalize, unit-or, b2-mul-transform-by-vec2}
 use Rattle.floats.specs.B2Math.{b2-mul-t-transform-by-vec2}
 use Rattle.floats.specs.NearUnit.{NearUnit}
 use Rattle.floats.specs.Ranges.{point-in-range, radius-in-range, transform-in-range}
@@ -36,12 +34,13 @@ use Rattle.shape_definitions.proofs.Edges.{after-in}
 use Rattle.contact_definitions.specs.declared.b2_collision.B2manifold.{B2manifold}
 use Rattle.contact_definitions.specs.declared.b2_collision.B2manifoldType.the-variants.{EFaceA}
 use Rattle.contact_definitions.specs.Manifold.{default-id, with-count, with-one-point, miscounted}
-use Rattle.contact_definitions.specs.B2CollideCircle.{farther, circle-separation, circle-at-corner, circle-at-face}
-use Rattle.contact_definitions.specs.B2CollideCircle.{circle-at-best, polygon-circle-manifold}
+use Rattle.contact_definitions.specs.B2CollideCircle.{circle-separation}
+use Rattle.contact_definitions.specs.B2CollideCircle.{polygon-circle-manifold}
 use Rattle.contact_definitions.specs.B2CollideCircle.{b2-collide-polygon-and-circle}
-use Rattle.contact_definitions.specs.CircleNormals.{chosen, outside, Pushes, Single, Singles, SinglePlace, NoZeroNormal}
-use Rattle.contact_definitions.proofs.Counts.{Accepted, either, refused, counted, in-range}
+use Rattle.contact_definitions.specs.CircleNormals.{chosen, Pushes, Singles, NoZeroNormal}
+use Rattle.contact_definitions.proofs.Counts.{Accepted, refused, counted}
 use Rattle.contact_definitions.proofs.Extremes.{greatest-place-in}
+use Rattle.contact_definitions.proofs.OutlineCircle.{at-outline}
 use Rattle.record_definitions.proofs.Changes.{by-choice}
 use Rattle.record_ranges.proofs.Vectors.{Caps, caps-widen, caps-sub}
 use Rattle.record_ranges.proofs.InRange.{point-caps, place-caps}
@@ -65,38 +64,19 @@ module _ (m : B2manifold) (c : B2vec2) (c-caps : Caps c 24) (radius : Float) (ce
   from-corner : (v normal : B2vec2) → Caps v 20 → NearUnit normal
       → NearUnit (unit-or normal (b2-normalize (b2-sub c v)))
   from-corner v normal v-caps unit =
-      by-test (b2-normalize (b2-sub c v) .«had_length»)
-      (made-near-unit (moderate 25 tt (caps-sub c v 24 tt c-caps (caps-widen 20 24 tt v-caps))))
-    where
-      by-test : (had : Bool) → (T had → NearUnit (b2-normalize (b2-sub c v) .v))
-          → NearUnit (cond had (b2-normalize (b2-sub c v) .v) normal)
-      by-test true made = made tt
-      by-test false made = unit
+      by-choice NearUnit (b2-normalize (b2-sub c v) .«had_length») _ _
+      (λ had. made-near-unit (moderate 25 tt (caps-sub c v 24 tt c-caps (caps-widen 20 24 tt v-caps)))
+      (subst T (sym had) tt))
+      (λ none. unit)
 
-  at-corner : (v normal : B2vec2) → Caps v 20 → NearUnit normal → Left (circle-at-corner m v normal c radius centre)
-  unfolding circle-at-corner
-  at-corner v normal v-caps unit =
-      either Left (farther radius c v) _ _ (inl refl)
-      (written (unit-or normal (b2-normalize (b2-sub c v))) v (from-corner v normal v-caps unit))
-
-  at-face : (v1 v2 normal : B2vec2) (separation : Float) → Caps v1 20 → Caps v2 20 → NearUnit normal
-      → Left (circle-at-face m v1 v2 normal separation c radius centre)
-  unfolding circle-at-face
-  at-face v1 v2 normal separation v1-caps v2-caps unit =
-      let middle = b2-scale half32 (b2-add v1 v2) in
-      either Left (lt separation b2-epsilon) _ _ (written normal middle unit)
-      (either Left (le (b2-dot (b2-sub c v1) (b2-sub v2 v1)) zero32) _ _ (at-corner v1 normal v1-caps unit)
-      (either Left (le (b2-dot (b2-sub c v2) (b2-sub v1 v2)) zero32) _ _ (at-corner v2 normal v2-caps unit)
-      (either Left (lt radius (b2-dot (b2-sub c middle) normal)) _ _ (inl refl) (written normal middle unit))))
-
-  at-outline : (shape : B2polygonShape) → Built shape → Left (polygon-circle-manifold m shape c radius centre)
-  unfolding polygon-circle-manifold circle-at-best
-  at-outline shape built =
+  left-by : (shape : B2polygonShape) → Built shape → Left (polygon-circle-manifold m shape c radius centre)
+  left-by shape built =
       let place = greatest-place-in (circle-separation shape c) (shape .«m_count») (built .some) in
-      either Left (outside shape c radius) _ _ (inl refl)
-      (at-face _ _ _ _ (built .corner (chosen shape c .place) place)
-      (built .corner _ (after-in (shape .«m_count») (chosen shape c .place) place))
-      (built .normal (chosen shape c .place) place))
+      let unit = built .normal (chosen shape c .place) place in
+      let first = built .corner (chosen shape c .place) place in
+      let second = built .corner _ (after-in (shape .«m_count») (chosen shape c .place) place) in
+      at-outline Left m c radius centre (inl refl) shape (written _ _ unit)
+      (written _ _ (from-corner _ _ first unit)) (written _ _ (from-corner _ _ second unit))
 
 -- ---- a squared length of 1 within some ticks, fewer than 2^25, is not 0
 pub not-both-zero : (w : B2vec2) (n : ℕ) → T (ltb n (2 ^ 25))
@@ -134,23 +114,17 @@ module _ (shape : B2polygonShape) (built : Built shape) (old : B2manifold) (xfA 
   reported : Caps there 24
       → Reported (polygon-circle-manifold (with-count old 0) shape there radius (circleB .«m_p»))
   unfolding with-count
-  reported caps = go (at-outline (with-count old 0) there caps radius (circleB .«m_p») shape built)
+  reported caps = go (left-by (with-count old 0) there caps radius (circleB .«m_p») shape built)
     where
       go : {r : B2manifold} → (r ≡ with-count old 0) ⊎ Made r → Reported r
       go (inl same) some = absurd (omega (arith, subst (λ (m : B2manifold). 0 < m .«point_count») same some))
       go (inr made) some = made
 
-  -- of shapes and placements that are at most 2^20 m, and of numbers that the call takes
-  pub call-made : Caps there 24 → Accepted Reported (b2-collide-polygon-and-circle old shape xfA circleB xfB)
-  unfolding b2-collide-polygon-and-circle
-  call-made caps =
-      counted Reported (miscounted (shape .«m_count»)) old _
-      (in-range Reported (polygon-in-range shape && circle-in-range circleB) xfA xfB old _ (λ taken. reported caps))
-
-  call-reports : SinglePlace xfA → Single (circleB .«m_p») → SinglePlace xfB
-      → Accepted Reported (b2-collide-polygon-and-circle old shape xfA circleB xfB)
+  -- where the circle's centre is at most 2^24 m off, by what the call has found in range
+  pub call-made : (point-in-range (circleB .«m_p») ≡ true → transform-in-range xfA ≡ true
+      → transform-in-range xfB ≡ true → Caps there 24) → Accepted Reported (b2-collide-polygon-and-circle old shape xfA circleB xfB)
   unfolding b2-collide-polygon-and-circle circle-in-range
-  call-reports a-single b-single at-single =
+  call-made caps =
       counted Reported (miscounted (shape .«m_count»)) old _
       (by-choice (Accepted Reported) (not (polygon-in-range shape && circle-in-range circleB)) _ _
       (λ out. refused Reported 1 old)
@@ -160,13 +134,14 @@ module _ (shape : B2polygonShape) (built : Built shape) (old : B2manifold) (xfA 
       let shapes = both (polygon-in-range shape) (circle-in-range circleB) (not-false _ inside) in
       let circle = both (radius-in-range (circleB .«m_radius»)) (point-in-range (circleB .«m_p»)) (shapes .1) in
       let places = both (transform-in-range xfA) (transform-in-range xfB) (not-false _ placed) in
-      reported (centre-there xfA xfB (circleB .«m_p») (place-caps xfA a-single (places .0))
-      (place-caps xfB at-single (places .1)) (point-caps (circleB .«m_p») b-single (circle .1))))))
+      reported (caps (circle .1) (places .0) (places .1)))))
 
 built-pushes : (shape : B2polygonShape) → Built shape → NoZeroNormal shape
 built-pushes shape built = record {
   pushes = λ old xfA circleB xfB a-single b-single at-single taken some.
-      near-unit-pushes (call-reports shape built old xfA circleB xfB a-single b-single at-single taken some .normal);
+      near-unit-pushes (call-made shape built old xfA circleB xfB
+      (λ centre first second. centre-there xfA xfB (circleB .«m_p») (place-caps xfA a-single first)
+      (place-caps xfB at-single second) (point-caps (circleB .«m_p») b-single centre)) taken some .normal);
 }
 
 -- ---- an outline from the builder, and a box, whatever the old outline

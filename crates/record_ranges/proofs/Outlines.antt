@@ -1,6 +1,6 @@
 -- An outline that the builder accepts has corners of at most 2^20 m and normals of at most 4 m, past its count too.
 -- Assumes nothing.
-use Prim.Native.Nat.{ℕ, zero, suc, _*_, _^_}
+use Prim.Native.Nat.{ℕ, zero, suc, _*_, _^_, _<_}
 use mathlib.Core.Path.{_≡_, refl}
 use mathlib.Core.Bool.{Bool, true, false, not, _&&_, _||_}
 use mathlib.Core.List.{List, [], _∷_, _++_, map}
@@ -9,9 +9,10 @@ use native.Mathlib.Omega.{arith}
 use lib.Dec.{T, ltb}
 use lib.Ieee.{binary32, ofBits, le, lt}
 use lib.Ieee.Bits.{ofBits-fits}
-use lib.ListN.{length, drop, replicate}
-use borrow.Author.Tests.{not-false}
+use lib.ListN.{length, drop, replicate, length-map}
+use borrow.Author.Tests.{not-false, ltb-false}
 use Rattle.algebra.specs.Integer.{Z, whole, _≼_, Abs}
+use Rattle.algebra.proofs.Booleans.{both}
 use Rattle.algebra.specs.Buffer.{over}
 use Rattle.algebra.specs.Loops.{near-any, keep-unless, weld}
 use Rattle.rounding.specs.Value.{metre, val}
@@ -26,7 +27,8 @@ use Rattle.shape_definitions.specs.declared.b2_polygon_shape.B2polygonShape.{B2
 use Rattle.shape_definitions.specs.declared.b2_polygon_shape.PolygonAnswer.{PolygonAnswer}
 use Rattle.shape_definitions.specs.Outline.{origin, point-at, too-near, welded, row, edges-from, edges, long-enough}
 use Rattle.shape_definitions.specs.Outline.{normal-of-edge, fan}
-use Rattle.shape_definitions.specs.Polygon.{refused, all-points, outline-of-corners, outline-of-row, outline-of-welded}
+use Rattle.shape_definitions.specs.Polygon.{refused, all-points, finished, outline-of-corners, outline-of-row}
+use Rattle.shape_definitions.specs.Polygon.{outline-of-welded}
 use Rattle.shape_definitions.specs.Polygon.{b2-polygon-shape-set}
 use Rattle.shape_definitions.specs.Refusal.{accepted}
 use Rattle.contact_definitions.proofs.Counts.{either}
@@ -73,14 +75,14 @@ unfolding Each
 each-kept true kept p h g = h
 each-kept false kept p h g = each-append kept (p ∷ []) 20 h (g, tt)
 
-pub each-weld : (kept points : List B2vec2) → Each kept 20 → Each points 20 → Each (weld too-near kept points) 20
+each-weld : (kept points : List B2vec2) → Each kept 20 → Each points 20 → Each (weld too-near kept points) 20
 unfolding Each
 each-weld kept [] h g = h
 each-weld kept (p ∷ points) h g =
     let near = near-any too-near p kept in
     each-weld (keep-unless near kept p) points (each-kept near kept p h (g .0)) (g .1)
 
-pub each-picked : (ps : List B2vec2) (places : List ℕ) → Each ps 20 → Each (map (point-at ps) places) 20
+each-picked : (ps : List B2vec2) (places : List ℕ) → Each ps 20 → Each (map (point-at ps) places) 20
 unfolding Each
 each-picked ps [] h = tt
 each-picked ps (i ∷ places) h = (each-at ps 20 h i, each-picked ps places h)
@@ -109,13 +111,43 @@ unfolding Each
 each-normal [] h = tt
 each-normal (e ∷ es) h = (normal-caps e (h .0), each-normal es (h .1))
 
--- ---- the outline
-CapsIf : PolygonAnswer → Type 0
-CapsIf answer = answer .refusal ≡ accepted → OutlineCaps (answer .shape)
+-- ---- the builder: what holds of the old outline, refused, and of each row of three corners or more, at most 2^20 m
+-- and with edges that are long enough, holds of its answer
+module _ (P : PolygonAnswer → Type 0) (old : B2polygonShape) (turned-down : (n : ℕ) → P (refused (suc n) old))
+    (of-corners : (corners : List B2vec2) → Each corners 20 → 2 < length corners → long-enough (edges corners) ≡ true
+    → P (finished old corners (fan corners))) where
+  corners-made : (corners : List B2vec2) → Each corners 20 → 2 < length corners → P (outline-of-corners old corners)
+  unfolding outline-of-corners
+  corners-made corners h many =
+      by-choice P (long-enough (edges corners) && lt b2-epsilon (fan corners .area)) _ _
+      (λ passed. of-corners corners h many
+      (both (long-enough (edges corners)) (lt b2-epsilon (fan corners .area)) passed .0))
+      (λ failed. turned-down 4)
 
-refused-caps : (n : ℕ) (old : B2polygonShape) → CapsIf (refused (suc n) old)
-unfolding CapsIf
-refused-caps n old taken =
+  row-made : (ps : List B2vec2) (walked : Option (List ℕ)) → Each ps 20 → P (outline-of-row old ps walked)
+  row-made ps none h = turned-down 3
+  row-made ps (some places) h =
+      by-choice P (ltb (length places) 3) _ _ (λ few. turned-down 3)
+      (λ many. corners-made (map (point-at ps) places) (each-picked ps places h)
+      (rw (length-map places (point-at ps)) (ltb-false (length places) 3 many)))
+
+  -- of points that are at most 2^20 m where they are within the range
+  pub set-made : (points : List B2vec2) → (all-points point-in-range points ≡ true → Each points 20)
+      → P (b2-polygon-shape-set old points)
+  unfolding b2-polygon-shape-set outline-of-welded welded Each
+  set-made points given =
+      let ps = weld too-near [] points in
+      either P (ltb (length points) 3 || ltb 8 (length points)) _ _ (turned-down 0)
+      (by-choice P (not (all-points point-in-range points)) _ _ (λ out. turned-down 1)
+      (λ inside. either P (ltb (length ps) 3) _ _ (turned-down 2)
+      (row-made ps (row ps) (each-weld [] points tt (given (not-false (all-points point-in-range points) inside))))))
+
+-- ---- the outline
+abbrev pub TakenWith : (B2polygonShape → Type 0) → PolygonAnswer → Type 0
+TakenWith P answer = answer .refusal ≡ accepted → P (answer .shape)
+
+pub not-taken : (P : B2polygonShape → Type 0) (old : B2polygonShape) (n : ℕ) → TakenWith P (refused (suc n) old)
+not-taken P old n taken =
     let never : suc n ≡ 0 = taken in
     absurd (omega arith)
 
@@ -132,11 +164,11 @@ skin-cap =
     sized : (a : Z) → whole 0 ≼ a → a ≼ whole (2 ^ 20 * metre) → Abs a (2 ^ 20 * metre)
     sized a g f = omega arith
 
-corners-caps : (corners : List B2vec2) → Each corners 20 → CapsIf (outline-of-corners blank-outline corners)
-unfolding outline-of-corners CapsIf
-corners-caps corners h =
-    either CapsIf (long-enough (edges corners) && lt b2-epsilon (fan corners .area)) _ _
-    (λ taken. record {
+pub built-caps : (points : List B2vec2) → (all-points point-in-range points ≡ true → Each points 20)
+    → b2-polygon-shape-set blank-outline points .refusal ≡ accepted
+    → OutlineCaps (b2-polygon-shape-set blank-outline points .shape)
+built-caps = set-made (TakenWith OutlineCaps) blank-outline (not-taken OutlineCaps blank-outline)
+    (λ corners h many long taken. record {
       radius = skin-cap;
       corner = each-at (over corners (replicate 8 origin)) 20
           (each-over corners (replicate 8 origin) 20 h (origins 8 20));
@@ -144,25 +176,6 @@ corners-caps corners h =
           (each-over (map normal-of-edge (edges corners)) (replicate 8 origin) 2
           (each-normal (edges corners) (each-edges corners h)) (origins 8 2));
     })
-    (refused-caps 4 blank-outline)
-
-row-caps : (ps : List B2vec2) (walked : Option (List ℕ)) → Each ps 20 → CapsIf (outline-of-row blank-outline ps walked)
-row-caps ps none h = refused-caps 3 blank-outline
-row-caps ps (some places) h =
-    either CapsIf (ltb (length places) 3) _ _ (refused-caps 3 blank-outline)
-    (corners-caps (map (point-at ps) places) (each-picked ps places h))
-
--- of points that are at most 2^20 m where they are within the range
-pub built-caps : (points : List B2vec2) → (all-points point-in-range points ≡ true → Each points 20)
-    → b2-polygon-shape-set blank-outline points .refusal ≡ accepted
-    → OutlineCaps (b2-polygon-shape-set blank-outline points .shape)
-unfolding b2-polygon-shape-set outline-of-welded welded CapsIf Each
-built-caps points given =
-    let ps = weld too-near [] points in
-    either CapsIf (ltb (length points) 3 || ltb 8 (length points)) _ _ (refused-caps 0 blank-outline)
-    (by-choice CapsIf (not (all-points point-in-range points)) _ _ (λ out. refused-caps 1 blank-outline)
-    (λ inside. either CapsIf (ltb (length ps) 3) _ _ (refused-caps 2 blank-outline)
-    (row-caps ps (row ps) (each-weld [] points tt (given (not-false (all-points point-in-range points) inside))))))
 
 pub blank-outline-caps : OutlineCaps blank-outline
 blank-outline-caps = record {

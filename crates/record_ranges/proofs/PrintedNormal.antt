@@ -80,7 +80,8 @@ module _ (a b : Body) (a-caps : CappedBody a) (b-caps : CappedBody b) (is-outlin
   met-made : meet a b .refusal ≡ accepted → 0 < m .«point_count» → Made m
   met-made = subst Told (sym meets)
       (call-made (a .outline) (a-caps .built is-outline) default-manifold (a .xf) (b .circle) (b .xf)
-      (centre-there (a .xf) (b .xf) (b .circle .«m_p») (a-caps .place) (b-caps .place) (b-caps .circle .centre)))
+      (λ centre first second.
+      centre-there (a .xf) (b .xf) (b .circle .«m_p») (a-caps .place) (b-caps .place) (b-caps .circle .centre)))
     where
       Told : ManifoldAnswer → Type 0
       Told answer = answer .refusal ≡ accepted → 0 < answer .manifold .«point_count» → Made (answer .manifold)
