@@ -122,7 +122,8 @@ module _ (shape : B2polygonShape) (built : Built shape) (old : B2manifold) (xfA 
 
   -- where the circle's centre is at most 2^24 m off, by what the call has found in range
   pub call-made : (point-in-range (circleB .«m_p») ≡ true → transform-in-range xfA ≡ true
-      → transform-in-range xfB ≡ true → Caps there 24) → Accepted Reported (b2-collide-polygon-and-circle old shape xfA circleB xfB)
+      → transform-in-range xfB ≡ true → Caps there 24)
+      → Accepted Reported (b2-collide-polygon-and-circle old shape xfA circleB xfB)
   unfolding b2-collide-polygon-and-circle circle-in-range
   call-made caps =
       counted Reported (miscounted (shape .«m_count»)) old _
