@@ -6,7 +6,7 @@ use contact_definitions::b2_collision::{
 use floats::b2_math::B2vec2;
 
 #[repr(C)]
-#[derive(Drop)]
+#[derive(Clone, Copy)]
 pub struct Point {
     pub local_point: B2vec2,
     pub normal_impulse: f32,
@@ -19,7 +19,7 @@ pub struct Point {
 
 // kind: 0 circles, 1 face A, 2 face B.
 #[repr(C)]
-#[derive(Drop)]
+#[derive(Clone, Copy)]
 pub struct Manifold {
     pub first: Point,
     pub second: Point,

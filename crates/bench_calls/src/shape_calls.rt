@@ -6,7 +6,7 @@ use shape_definitions::b2_polygon_shape::{B2polygonShape, PolygonAnswer};
 use shapes::{b2_edge_shape, b2_polygon_shape};
 
 #[repr(C)]
-#[derive(Drop)]
+#[derive(Clone, Copy)]
 pub struct Wall {
     pub radius: f32,
     pub vertex0: B2vec2,

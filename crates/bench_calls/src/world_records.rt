@@ -12,7 +12,7 @@ use floats::b2_math::{B2Transform, B2vec2};
 const NUMBERS: usize = 18;
 
 #[repr(C)]
-#[derive(Drop)]
+#[derive(Clone, Copy)]
 pub struct World {
     pub normal: B2vec2,
     pub first: B2vec2,
@@ -22,7 +22,7 @@ pub struct World {
     pub refusal: u32,
 }
 
-#[derive(Drop)]
+#[derive(Clone, Copy)]
 pub struct Question {
     pub m: B2manifold,
     pub xf_a: B2Transform,

@@ -12,7 +12,7 @@ use floats::b2_math::B2vec2;
 const SEGMENT: usize = 7;
 
 // A segment and the line that it is clipped to, whose vertex has an index.
-#[derive(Drop)]
+#[derive(Clone, Copy)]
 struct Segment {
     ends: [B2clipVertex; 2],
     normal: B2vec2,

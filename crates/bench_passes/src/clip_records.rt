@@ -3,7 +3,7 @@ use contact_definitions::b2_collision::{B2clipVertex, B2contactFeature, B2contac
 use floats::b2_math::B2vec2;
 
 #[repr(C)]
-#[derive(Drop)]
+#[derive(Clone, Copy)]
 pub struct ClipVertex {
     pub v: B2vec2,
     pub index_a: u8,
@@ -13,7 +13,7 @@ pub struct ClipVertex {
 }
 
 #[repr(C)]
-#[derive(Drop)]
+#[derive(Clone, Copy)]
 pub struct Clip {
     pub first: ClipVertex,
     pub second: ClipVertex,

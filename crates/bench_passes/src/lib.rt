@@ -1,5 +1,8 @@
 // The passes of the benchmark: cases stand in arrays, made from numbers, and a pass makes one call after another, each
 // on the answer of the last. Nothing but safety is promised: the benchmark compares the answers with the references.
+
+#![tactic(auto)]
+
 pub mod numbers;
 
 // Contact calls of two shapes, and the shapes with their placements.

@@ -15,19 +15,19 @@ const EDGE: usize = 13;
 
 const POLYGON: usize = 39;
 
-#[derive(Drop)]
+#[derive(Clone, Copy)]
 pub struct PlacedCircle {
     pub shape: B2circleShape,
     pub place: B2Transform,
 }
 
-#[derive(Drop)]
+#[derive(Clone, Copy)]
 pub struct PlacedEdge {
     pub shape: B2edgeShape,
     pub place: B2Transform,
 }
 
-#[derive(Drop)]
+#[derive(Clone, Copy)]
 pub struct PlacedPolygon {
     pub shape: B2polygonShape,
     pub place: B2Transform,

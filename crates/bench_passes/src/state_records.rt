@@ -3,7 +3,7 @@ use contact_definitions::b2_collision::{B2pointState, PointStates, PointStatesAn
 
 // States by their numbers: 0 null, 1 add, 2 persist, 3 remove.
 #[repr(C)]
-#[derive(Drop)]
+#[derive(Clone, Copy)]
 pub struct States {
     pub old0: u8,
     pub old1: u8,

@@ -12,7 +12,7 @@ use floats::{b2_math, unit};
 use shape_ranges::places;
 
 // How a circle meets an outline: not, or with the normal's and a point's coordinates.
-#[derive(Drop)]
+#[derive(Clone, Copy)]
 pub enum Meeting {
     Nothing,
     Point(f32, f32, f32, f32),
@@ -20,7 +20,7 @@ pub enum Meeting {
 
 // The face that a circle's centre is farthest out of: its ends, its normal, and by how much; outside where the centre
 // is out of some face by more than the radius, and then the rest is free.
-#[derive(Drop)]
+#[derive(Clone, Copy)]
 pub struct Side {
     pub outside: bool,
     pub separation: f32,

@@ -8,7 +8,7 @@ use contact_definitions::b2_collision::{B2clipVertex, B2contactFeatureType};
 use floats::b2_math::{B2vec2, b2_add, b2_dot, b2_scale, b2_sub};
 
 // The output places, and how many ends were written there.
-#[derive(Drop)]
+#[derive(Clone, Copy)]
 pub struct Clip {
     pub out: [B2clipVertex; 2],
     pub count: usize,

@@ -1,5 +1,8 @@
 // Box2D's b2_collision.cpp: clipping, point states and world points. Each call tests its input, refuses what document
 // 01 turns down, and answers as its definition says.
+
+#![tactic(auto)]
+
 pub mod b2_collision;
 pub mod b2_world_manifold;
 pub mod clip;

@@ -170,7 +170,7 @@ pub fn point_of(old: B2manifoldPoint, local_point: B2vec2, id: B2contactId) -> B
 }
 
 // The two places, and how many points were written there.
-#[derive(Drop)]
+#[derive(Clone, Copy)]
 pub struct Kept {
     pub points: [B2manifoldPoint; 2],
     pub count: usize,

@@ -58,7 +58,7 @@ pub fn world_of_circles(
 }
 
 // The middle between two surfaces, and how far they are apart there.
-#[derive(Drop)]
+#[derive(Clone, Copy)]
 pub struct WorldPoint {
     pub middle: B2vec2,
     pub separation: f32,

@@ -1,7 +1,7 @@
 // Searches for the place that keeps two shapes apart.
 
 // A place and its value: the best of a search so far. Of b2_find_max_separation: the face and its separation.
-#[derive(Drop)]
+#[derive(Clone, Copy)]
 pub struct Best {
     pub place: usize,
     pub value: f32,
@@ -9,7 +9,7 @@ pub struct Best {
 
 // What the axis search answers: apart with its separation, or a face of A or of B with its separation, its normal's x
 // and y, and its place. For a wall, A has one face with two sides, 0 and 1; B is the outline.
-#[derive(Drop)]
+#[derive(Clone, Copy)]
 pub enum Axis {
     Apart(f32),
     FaceA(f32, f32, f32, usize),

@@ -3,7 +3,7 @@ use floats::b2_math::B2vec2;
 
 // A reference face for clipping, of outlines too: the places and positions of its ends, its normal, and the lines at
 // its two sides.
-#[derive(Drop)]
+#[derive(Clone, Copy)]
 pub struct B2referenceFace {
     pub i1: usize,
     pub i2: usize,
@@ -18,7 +18,7 @@ pub struct B2referenceFace {
 
 // Where the Gauss map of a one-sided wall puts a normal: no contact, the axis as it is, or the wall's own axis in its
 // place.
-#[derive(Drop)]
+#[derive(Clone, Copy)]
 pub enum GaussRegion {
     Skip,
     Admit,

@@ -2,14 +2,14 @@
 use floats::b2_math::B2vec2;
 
 // What of a shape meets another in a contact point.
-#[derive(Drop)]
+#[derive(Clone, Copy)]
 pub enum B2contactFeatureType {
     EVertex,
     EFace,
 }
 
 // The two features that meet in a contact point: a place on each shape, and the number of its feature's type.
-#[derive(Drop)]
+#[derive(Clone, Copy)]
 pub struct B2contactFeature {
     pub index_a: u8,
     pub index_b: u8,
@@ -17,13 +17,13 @@ pub struct B2contactFeature {
     pub type_b: u8,
 }
 
-#[derive(Drop)]
+#[derive(Clone, Copy)]
 pub struct B2contactId {
     pub cf: B2contactFeature,
 }
 
 // The age is document 02's, request 06: at how many tests the point has persisted. No contact call sets it.
-#[derive(Drop)]
+#[derive(Clone, Copy)]
 pub struct B2manifoldPoint {
     pub local_point: B2vec2,
     pub normal_impulse: f32,
@@ -32,14 +32,14 @@ pub struct B2manifoldPoint {
     pub age: u32,
 }
 
-#[derive(Drop)]
+#[derive(Clone, Copy)]
 pub enum B2manifoldType {
     ECircles,
     EFaceA,
     EFaceB,
 }
 
-#[derive(Drop)]
+#[derive(Clone, Copy)]
 pub struct B2manifold {
     pub points: [B2manifoldPoint; 2],
     pub local_normal: B2vec2,
@@ -48,14 +48,14 @@ pub struct B2manifold {
     pub point_count: usize,
 }
 
-#[derive(Drop)]
+#[derive(Clone, Copy)]
 pub struct B2worldManifold {
     pub normal: B2vec2,
     pub points: [B2vec2; 2],
     pub separations: [f32; 2],
 }
 
-#[derive(Drop)]
+#[derive(Clone, Copy)]
 pub enum B2pointState {
     B2NullState,
     B2AddState,
@@ -63,14 +63,14 @@ pub enum B2pointState {
     B2RemoveState,
 }
 
-#[derive(Drop)]
+#[derive(Clone, Copy)]
 pub struct B2clipVertex {
     pub v: B2vec2,
     pub id: B2contactId,
 }
 
 // The states of both points of an old and of a new manifold.
-#[derive(Drop)]
+#[derive(Clone, Copy)]
 pub struct PointStates {
     pub old0: B2pointState,
     pub old1: B2pointState,
@@ -80,7 +80,7 @@ pub struct PointStates {
 
 // The ids of the points that a manifold counts, where the points themselves are not kept; those past the count are
 // none. The count is a byte: the touch record keeps many of these.
-#[derive(Drop)]
+#[derive(Clone, Copy)]
 pub struct CountedIds {
     pub count: u8,
     pub first: B2contactId,
@@ -88,7 +88,7 @@ pub struct CountedIds {
 }
 
 // What a contact call answers: the manifold and 0, or the manifold that it was given and the refusal.
-#[derive(Drop)]
+#[derive(Clone, Copy)]
 pub struct ManifoldAnswer {
     pub manifold: B2manifold,
     pub refusal: u8,
@@ -96,7 +96,7 @@ pub struct ManifoldAnswer {
 
 // What a clip answers: the output places, the number of points and 0, or the places that it was given, 0 and the
 // refusal.
-#[derive(Drop)]
+#[derive(Clone, Copy)]
 pub struct ClipAnswer {
     pub points: [B2clipVertex; 2],
     pub count: usize,
@@ -104,14 +104,14 @@ pub struct ClipAnswer {
 }
 
 // What the world points answer: the world manifold and 0, or the one that was given and the refusal.
-#[derive(Drop)]
+#[derive(Clone, Copy)]
 pub struct WorldAnswer {
     pub world: B2worldManifold,
     pub refusal: u8,
 }
 
 // What the point states answer: the states and 0, or the states that were given and the refusal.
-#[derive(Drop)]
+#[derive(Clone, Copy)]
 pub struct PointStatesAnswer {
     pub states: PointStates,
     pub refusal: u8,

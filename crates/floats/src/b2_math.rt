@@ -14,7 +14,7 @@ use crate::b2_common::B2_EPSILON;
 use sqrt::root;
 
 #[repr(C)]
-#[derive(Drop)]
+#[derive(Clone, Copy)]
 pub struct B2vec2 {
     pub x: f32,
     pub y: f32,
@@ -22,7 +22,7 @@ pub struct B2vec2 {
 
 // A vector made unit, with the length that it had, and whether that was at least B2_EPSILON: where it was below, 0 and
 // the vector as it was.
-#[derive(Drop)]
+#[derive(Clone, Copy)]
 pub struct Normalized {
     pub had_length: bool,
     pub length: f32,
@@ -30,14 +30,14 @@ pub struct Normalized {
 }
 
 // A rotation: sine and cosine.
-#[derive(Drop)]
+#[derive(Clone, Copy)]
 pub struct B2Rot {
     pub s: f32,
     pub c: f32,
 }
 
 // A placement: position and rotation.
-#[derive(Drop)]
+#[derive(Clone, Copy)]
 pub struct B2Transform {
     pub p: B2vec2,
     pub q: B2Rot,

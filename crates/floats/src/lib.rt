@@ -1,5 +1,8 @@
 // f32 arithmetic of the collision code: constants, vectors, rotations and transforms, under the Rust's file names. Each
 // function equals its definition in specs/ on every input.
+
+#![tactic(auto)]
+
 pub mod b2_common;
 pub mod b2_math;
 pub mod b2_settings;

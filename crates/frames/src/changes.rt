@@ -51,7 +51,7 @@ pub fn said_alone(answer: Answer) -> Said
 }
 
 // What a frame that is no test makes of its body, and whether the body's pairs are forgotten.
-#[derive(Drop)]
+#[derive(Clone, Copy)]
 pub struct BodyMade {
     pub answer: Answer,
     pub body: Body,
@@ -59,7 +59,7 @@ pub struct BodyMade {
 }
 
 // What a test of a body that is no chain makes of the pair.
-#[derive(Drop)]
+#[derive(Clone, Copy)]
 pub struct TestMade {
     pub answer: Answer,
     pub pair: Pair,

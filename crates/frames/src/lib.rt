@@ -1,5 +1,7 @@
 // Frames: what any frame makes of the bodies and the pair that it names, and what is said of it.
 
+#![tactic(auto)]
+
 // Bodies, their pieces, pairs and the world; counts; and what a frame changes.
 pub mod changes;
 pub mod counts;

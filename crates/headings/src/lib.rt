@@ -1,5 +1,7 @@
 // Headings by turn number: sine and cosine of 4,096ths of a turn.
 
+#![tactic(auto)]
+
 // The quarter wave.
 mod sines;
 

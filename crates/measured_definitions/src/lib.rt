@@ -1,19 +1,21 @@
 // Document 02, request 08: circles and unturned boxes measured with a tolerance, in whole numbers of 1/256 m. Their
 // records, and what each call answers (specs/). No functions.
 
+#![tactic(auto)]
+
 // Coordinates are from -1,024 to 1,024, radii and half-widths from 0 to it.
 pub const MEASURE_LIMIT: i32 = 1024;
 
 // A number measured as something from lowest to highest.
 #[repr(C)]
-#[derive(Drop)]
+#[derive(Clone, Copy)]
 pub struct Span {
     pub lowest: i32,
     pub highest: i32,
 }
 
 #[repr(C)]
-#[derive(Drop)]
+#[derive(Clone, Copy)]
 pub struct MeasuredCircle {
     pub x: Span,
     pub y: Span,
@@ -21,7 +23,7 @@ pub struct MeasuredCircle {
 }
 
 #[repr(C)]
-#[derive(Drop)]
+#[derive(Clone, Copy)]
 pub struct MeasuredBox {
     pub x: Span,
     pub y: Span,
@@ -31,7 +33,7 @@ pub struct MeasuredBox {
 
 // One choice of whole numbers.
 #[repr(C)]
-#[derive(Drop)]
+#[derive(Clone, Copy)]
 pub struct WholeCircle {
     pub x: i32,
     pub y: i32,
@@ -39,7 +41,7 @@ pub struct WholeCircle {
 }
 
 #[repr(C)]
-#[derive(Drop)]
+#[derive(Clone, Copy)]
 pub struct WholeBox {
     pub x: i32,
     pub y: i32,
@@ -48,28 +50,28 @@ pub struct WholeBox {
 }
 
 #[repr(C)]
-#[derive(Drop)]
+#[derive(Clone, Copy)]
 pub struct CirclePair {
     pub a: WholeCircle,
     pub b: WholeCircle,
 }
 
 #[repr(C)]
-#[derive(Drop)]
+#[derive(Clone, Copy)]
 pub struct BoxPair {
     pub a: WholeBox,
     pub b: WholeBox,
 }
 
 // A choice on one axis: a number of A and one of B.
-#[derive(Drop)]
+#[derive(Clone, Copy)]
 pub struct AxisChoice {
     pub a: i32,
     pub b: i32,
 }
 
 // The number of a refusal, or a verdict. Either comes with a pair that touches and then one that is apart.
-#[derive(Drop)]
+#[derive(Clone, Copy)]
 pub enum CirclesVerdict {
     Refused(u8),
     SurelyTouching,
@@ -77,7 +79,7 @@ pub enum CirclesVerdict {
     Either(CirclePair, CirclePair),
 }
 
-#[derive(Drop)]
+#[derive(Clone, Copy)]
 pub enum BoxesVerdict {
     Refused(u8),
     SurelyTouching,
@@ -96,7 +98,7 @@ pub const EITHER: u32 = 3;
 
 // What a host gets: 0 and the verdict, or the refusal and no verdict; pairs of zeros where there are none.
 #[repr(C)]
-#[derive(Drop)]
+#[derive(Clone, Copy)]
 pub struct CirclesAnswer {
     pub refusal: u32,
     pub verdict: u32,
@@ -105,7 +107,7 @@ pub struct CirclesAnswer {
 }
 
 #[repr(C)]
-#[derive(Drop)]
+#[derive(Clone, Copy)]
 pub struct BoxesAnswer {
     pub refusal: u32,
     pub verdict: u32,

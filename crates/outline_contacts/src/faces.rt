@@ -17,7 +17,7 @@ use floats::b2_math::{
 use shape_ranges::places;
 
 // A corner of an outline and its place.
-#[derive(Drop)]
+#[derive(Clone, Copy)]
 pub struct Corner {
     pub index: usize,
     pub v: B2vec2,
@@ -25,7 +25,7 @@ pub struct Corner {
 
 // The reference face from v11 to v12 of outline 1, and the incident edge from w1 to w2 of outline 2, each in its own
 // frame. flip where outline 1 is B.
-#[derive(Drop)]
+#[derive(Clone, Copy)]
 pub struct Face {
     pub v11: B2vec2,
     pub v12: B2vec2,

@@ -1,5 +1,8 @@
 // Box2D's b2_collide_polygon.cpp. The call tests its input, refuses what document 01 turns down, and answers as its
 // definition says.
+
+#![tactic(auto)]
+
 pub mod b2_collide_polygon;
 
 // How far each face of an outline keeps the corners of another off.

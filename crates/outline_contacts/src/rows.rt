@@ -9,7 +9,7 @@ use floats::b2_common::B2_MAX_FLOAT;
 use floats::b2_math::{B2Transform, B2vec2, b2_min, b2_mul_rot_by_vec2, b2_mul_transform_by_vec2};
 
 // A face of an outline with its separation and its normal, in the outline's own frame.
-#[derive(Drop)]
+#[derive(Clone, Copy)]
 pub struct FarthestFace {
     pub place: usize,
     pub value: f32,

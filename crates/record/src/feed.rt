@@ -40,7 +40,7 @@ fn place(bytes: &[u8], at: usize) -> usize
 }
 
 // A line that was read: the bytes that it says, their kind, and the places of the two bodies that they name.
-#[derive(Drop)]
+#[derive(Clone, Copy)]
 pub struct Names {
     pub count: usize,
     pub kind: u8,

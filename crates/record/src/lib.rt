@@ -1,5 +1,7 @@
 // The touch record: answers written, input fed in pieces, and the export for a C match server.
 
+#![tactic(auto)]
+
 // Answers as bytes and as lines.
 pub mod answer;
 

@@ -6,7 +6,7 @@ use lines::hex::LINE_LIMIT;
 pub const KEPT_LENGTH: usize = LINE_LIMIT + 1;
 
 // The state after some input: the server, and the first characters of a line that has not ended.
-#[derive(Drop)]
+#[derive(Clone, Copy)]
 pub struct Reader {
     pub server: Server,
     pub line: [u8; KEPT_LENGTH],
@@ -14,7 +14,7 @@ pub struct Reader {
 }
 
 // What was taken of a piece of input, and how much was written.
-#[derive(Drop)]
+#[derive(Clone, Copy)]
 pub struct Fed {
     pub reader: Reader,
     pub taken: usize,

@@ -24,13 +24,13 @@ pub const LARGEST_ID: u8 = 7;
 pub const LARGEST_TURN: usize = 4095;
 
 // A chain of walls: the point before, count points, the point after; places past them hold the origin.
-#[derive(Drop)]
+#[derive(Clone, Copy)]
 pub struct Chain {
     pub points: [B2vec2; 10],
     pub count: usize,
 }
 
-#[derive(Drop)]
+#[derive(Clone, Copy)]
 pub struct Body {
     pub kind: u8,
     pub xf: B2Transform,
@@ -41,14 +41,14 @@ pub struct Body {
 }
 
 // The ages of a contact's points; those past the count are none.
-#[derive(Drop)]
+#[derive(Clone, Copy)]
 pub struct Ages {
     pub first: u32,
     pub second: u32,
 }
 
 // What is kept of a test: the ids of the contact's points and their ages, and the touches.
-#[derive(Drop)]
+#[derive(Clone, Copy)]
 pub struct Kept {
     pub ids: CountedIds,
     pub ages: Ages,
@@ -57,13 +57,13 @@ pub struct Kept {
 
 // What a pair keeps: for each piece of its first body, its last test. A chain has up to seven pieces, any other body is
 // its own first one.
-#[derive(Drop)]
+#[derive(Clone, Copy)]
 pub struct Pair {
     pub pieces: [Kept; 7],
 }
 
 // The pair of bodies a and b stands at 8 * a + b.
-#[derive(Drop)]
+#[derive(Clone, Copy)]
 pub struct World {
     pub bodies: [Body; 8],
     pub pairs: [Pair; 64],

@@ -2,7 +2,7 @@
 // after it.
 use floats::b2_math::B2vec2;
 
-#[derive(Drop)]
+#[derive(Clone, Copy)]
 pub struct B2edgeShape {
     pub m_radius: f32,
     pub m_vertex0: B2vec2,
@@ -13,7 +13,7 @@ pub struct B2edgeShape {
 }
 
 // What a call that makes a wall answers: 0 and the new wall, or the refusal and the wall that it was given.
-#[derive(Drop)]
+#[derive(Clone, Copy)]
 pub struct EdgeAnswer {
     pub refusal: u8,
     pub shape: B2edgeShape,

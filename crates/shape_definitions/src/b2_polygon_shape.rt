@@ -2,7 +2,7 @@
 use floats::b2_math::B2vec2;
 
 #[repr(C)]
-#[derive(Drop)]
+#[derive(Clone, Copy)]
 pub struct B2polygonShape {
     pub m_radius: f32,
     pub m_centroid: B2vec2,
@@ -13,7 +13,7 @@ pub struct B2polygonShape {
 
 // What a call that makes an outline answers: 0 and the new outline, or the refusal and the outline that it was given.
 #[repr(C)]
-#[derive(Drop)]
+#[derive(Clone, Copy)]
 pub struct PolygonAnswer {
     pub refusal: u8,
     pub shape: B2polygonShape,
@@ -21,14 +21,14 @@ pub struct PolygonAnswer {
 
 // What the convexity test answers: the refusal, 0 for none, and whether the outline is convex (no, where it is
 // refused).
-#[derive(Drop)]
+#[derive(Clone, Copy)]
 pub struct ValidateAnswer {
     pub refusal: u8,
     pub valid: bool,
 }
 
 // The sum of some triangles: their area, and their centroids, each times its area.
-#[derive(Drop)]
+#[derive(Clone, Copy)]
 pub struct FanSum {
     pub area: f32,
     pub moment: B2vec2,

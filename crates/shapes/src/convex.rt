@@ -20,7 +20,7 @@ fn right_of(p: B2vec2, e: B2vec2, v: B2vec2) -> bool
 }
 
 // The coordinates of eight points, those of one kind side by side.
-#[derive(Drop)]
+#[derive(Clone, Copy)]
 struct Coordinates {
     xs: [f32; 8],
     ys: [f32; 8],

@@ -1,4 +1,7 @@
 // Outlines, boxes and walls; each call tests its input and refuses what document 01 turns down.
+
+#![tactic(auto)]
+
 pub mod b2_edge_shape;
 pub mod b2_polygon_shape;
 

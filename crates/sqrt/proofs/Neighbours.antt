@@ -1,6 +1,6 @@
 -- The root is the nearest number of the format, and there is no tie: √x lies strictly on its side of the middle
 -- between it and any other number of the format. Assumes nothing.
-use Rattle.std.proofs.Common.{◌≡◌, ℕ, suc, ◌+◌, ◌-◌, ◌*◌, ◌/◌, ◌^◌, ◌<◌, ◌≤◌, sym, refl, ap, ◌∙◌, subst, ap₂, inl, inr, le_trans, le_of_eq, lt_of_lt_of_le, lt_of_le_of_lt, le_of_lt, mul-le-mul_right, mul_assoc, mul-le-mul, lt_of_mul-lt-mul_right, eq-or-lt_of_le, mul-le-mul_left, mul-lt-mul_of_pos_right, mul-pos, one-mul, lt_of_not-le, not-le_of_lt, le_of_mul-le-mul_right, arith, pow_pos, pow_mono, pow-add, shl_lt}
+use Rattle.std.proofs.Common.{◌≡◌, ℕ, zero, suc, ◌+◌, ◌-◌, ◌*◌, ◌/◌, ◌^◌, ◌<◌, ◌≤◌, sym, refl, ap, ◌∙◌, subst, ap₂, inl, inr, le_trans, le_of_eq, lt_of_lt_of_le, lt_of_le_of_lt, le_of_lt, mul-le-mul_right, mul_assoc, mul-le-mul, lt_of_mul-lt-mul_right, eq-or-lt_of_le, mul-le-mul_left, mul-lt-mul_of_pos_right, mul-pos, one-mul, lt_of_not-le, not-le_of_lt, le_of_mul-le-mul_right, arith, pow_pos, pow_mono, pow-add, shl_lt}
 use native.Mathlib.Nat.{mul-mul-mul_comm}
 use native.Mathlib.Decide.{dec_le}
 use lib.Ieee.{Float, binary32, size}
@@ -43,6 +43,7 @@ module _ (n r s : ℕ) (s_pos : 0 < s) (nearest : NearestRoot n r) where
           lt_of_le_of_lt (mul-le-mul d d) (odd_square r (omega arith) over)
         where
           odd_square : (r : ℕ) → 0 < r → r * r < n + r → (2 * r - 1) * (2 * r - 1) < 4 * n
+          odd_square zero r_pos over = omega arith
           odd_square (suc t) r_pos over =
               let is : 2 * suc t - 1 ≡ 2 * t + 1 = omega arith in
               rw is (omega arith)

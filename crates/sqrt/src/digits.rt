@@ -90,7 +90,7 @@ fn radicand(u: u64) -> u64
 
 // The digits of a root: n, the number whose root is taken, the whole number nearest to √n, and the exponent that the
 // result's pattern has.
-#[derive(Drop)]
+#[derive(Clone, Copy)]
 pub struct Found {
     pub n: u64,
     pub root: u64,

@@ -2,7 +2,7 @@
 // the table. Nothing is proved of its numbers.
 
 // The height, which has the bend in its last 16 binary digits, and the slope.
-#[derive(Drop)]
+#[derive(Clone, Copy)]
 pub struct Parabola(pub u64, pub u32);
 
 // The parabola of segment k, from 0 to 127.

@@ -9,7 +9,7 @@ use crate::digits;
 use crate::digits::{Found, LEADING};
 
 // The step that an operand takes, and its root.
-#[derive(Drop)]
+#[derive(Clone, Copy)]
 pub enum Rooted {
     Special(f32),
     Exact(f32),

@@ -1,4 +1,7 @@
 // The C entry points for tests: every call behind a number, on byte slices.
+
+#![tactic(auto)]
+
 ghost use Rattle.wire.specs.Words.{Written};
 ghost use Rattle.test_calls.specs.Entries.{answer};
 

@@ -1,5 +1,8 @@
 // The program `touches`: frames on standard input, a line each, and their answers on standard output. Where a read or a
 // write fails it ends, and says so on standard error.
+
+#![tactic(auto)]
+
 mod pause;
 mod say;
 
@@ -37,7 +40,7 @@ fn put<'a>(s: Reader, input: &'a [u8], done: usize, rest: &'a [u8]) -> usize
 }
 
 // The answers written so far, and whether the last output was written whole.
-#[derive(Drop)]
+#[derive(Clone, Copy)]
 pub struct Written {
     pub answers: u64,
     pub whole: bool,
@@ -65,7 +68,7 @@ fn put_out<'a>(s: Reader, input: &'a [u8], output: &'a [u8], before: u64) -> Wri
 }
 
 // The state after a piece of input, the answers so far, and whether to go on.
-#[derive(Drop)]
+#[derive(Clone, Copy)]
 pub struct Going {
     pub reader: Reader,
     pub answers: u64,
@@ -104,7 +107,7 @@ fn piece(mut s: Reader, chunk: &[u8], out: &mut [u8], before: u64) -> Going
 }
 
 // What a read brought: so many bytes, and whether more can follow.
-#[derive(Drop)]
+#[derive(Clone, Copy)]
 pub struct Got {
     pub count: usize,
     pub more: bool,

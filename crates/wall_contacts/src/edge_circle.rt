@@ -19,7 +19,7 @@ use shape_definitions::refusal;
 
 // How a circle meets a wall: not, at the end of an index with its place, along the face with its normal, or over the
 // middle of a wall whose squared length is not above 0 (refusal 8).
-#[derive(Drop)]
+#[derive(Clone, Copy)]
 pub enum Touch {
     Nothing,
     End(u8, f32, f32),

@@ -26,7 +26,7 @@ fn row_point(xs: &[f32; 8], ys: &[f32; 8], i: usize) -> B2vec2
 }
 
 // A corner of the outline and its place.
-#[derive(Drop)]
+#[derive(Clone, Copy)]
 struct Corner {
     index: usize,
     v: B2vec2,
@@ -68,7 +68,7 @@ fn most_against(
 
 // What is clipped against what: the reference face, the ends of the edge that is clipped to it, the normal and the
 // point of the manifold, and whether the face is the outline's.
-#[derive(Drop)]
+#[derive(Clone, Copy)]
 pub struct Reference {
     pub face: B2referenceFace,
     pub a: B2clipVertex,

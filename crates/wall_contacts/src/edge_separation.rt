@@ -62,7 +62,7 @@ fn side_rows(
 }
 
 // The least distance in front and the least behind.
-#[derive(Drop)]
+#[derive(Clone, Copy)]
 struct Least {
     front: f32,
     back: f32,

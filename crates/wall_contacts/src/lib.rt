@@ -1,5 +1,8 @@
 // Box2D's b2_collide_edge.cpp. Each call tests its input, refuses what document 01 turns down, and answers as its
 // definition says.
+
+#![tactic(auto)]
+
 pub mod b2_collide_edge;
 
 // Wall against circle, in the wall's frame.
