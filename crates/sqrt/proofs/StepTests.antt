@@ -1,5 +1,5 @@
 -- The code's tests tell the definition's special operands, and x < 0 what they give. Assumes nothing.
-use Rattle.std.proofs.Common.{◌≡◌, zero, suc, ◌<◌, ◌≤◌, true, false, not, T, sym, refl, ap, ◌∙◌, subst, true≢false, arith}
+use Rattle.std.proofs.Common.{◌≡◌, zero, suc, ◌≤◌, true, false, not, T, sym, refl, ap, ◌∙◌, subst, true≢false, arith}
 use lib.Ieee.{Float, nan, inf, fin, binary32, fits, is_nan, lt, eq, ne, of_bits, to_bits}
 use lib.Ieee.Bits.{of_bits-to_bits, is_true}
 use Rattle.algebra.specs.Integer.{Z, ◌≺◌}
@@ -11,7 +11,6 @@ use Rattle.rounding.proofs.Nan.{nan_of_differs, not_nan_of_same}
 use Rattle.rounding.proofs.Null.{null_zero, null_not_below}
 use Rattle.sqrt.specs.declared.root.Rooted.TheVariants as rooted
 use Rattle.sqrt.specs.Sqrt.{special, special_root, root_by_steps}
-use Rattle.sqrt.specs.Steps.{Special}
 use Rattle.sqrt.proofs.SpecialOperands.{minus_below}
 
 -- ---- x == x, and the pattern 0

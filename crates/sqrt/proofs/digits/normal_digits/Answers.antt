@@ -1,11 +1,10 @@
 -- `normal_digits` meets its contract: what the code takes the root of, and the exponent of its result, are those of
 -- f * 2^(g - 277), f being the significand and g the exponent and 127. Assumes nothing.
-use Rattle.std.proofs.Common.{◌≡◌, ℕ, ◌+◌, ◌-◌, ◌*◌, ◌/◌, ◌%◌, ◌^◌, ◌<◌, ◌≤◌, sym, ap, ◌∙◌, subst, arith, rules}
+use Rattle.std.proofs.Common.{◌≡◌, ℕ, ◌+◌, ◌-◌, ◌*◌, ◌/◌, ◌%◌, ◌^◌, ◌<◌, ◌≤◌, sym, ap, ◌∙◌, subst, arith}
 use Rattle.sqrt.specs.Root.{NearestRoot, DigitsOf}
 use Rattle.sqrt.proofs.RootPattern.{widened, widened_bounds}
 use Rattle.sqrt.proofs.RootDigits.{significand, scale, normal_digits_of}
-use Rattle.sqrt.proofs.digits.normal_digits.Statement.{statement}
-use Rattle.sqrt.proofs.digits.normal_digits.Tie as tie
+use Rattle.sqrt.proofs.digits.normal_digits.Goals as goal
 
 -- the last 24 digits of the pattern above which the code has g - 2
 abbrev last_digits : ℕ → ℕ
@@ -45,30 +44,15 @@ found b n k r b_low b_high n_is k_is r_nearest =
     subst (λ (e : ℕ). DigitsOf b n r e) (sym k_is)
     (subst (λ (m : ℕ). DigitsOf b m r (scale b / 2 - 1)) same (normal_digits_of b r b_low b_high nearest))
 
-add_s : tie.Need_overflow_add_s
-add_s c = search rules
-
-radicand_requires : tie.Need_radicand_requires
-radicand_requires c κs = search rules
-
-candidate_requires : tie.Need_candidate_requires
-candidate_requires c κs = search rules
-
-nearest_root_requires : tie.Need_nearest_root_requires
-nearest_root_requires c κs =
-    let given = c.before in
-    let n_bounds = bounds given.before.args.b given.radicand.result given.radicand.ensures in
+pub nearest_root-requires : goal.nearest_root-requires
+nearest_root-requires c =
+    let n_bounds = bounds c.args.b c.radicand-n.result c.radicand-n.ensures in
     (omega arith, n_bounds.1, c.candidate.ensures)
 
-returns : tie.Need_returns
+pub returns : goal.returns
 returns c =
-    let given = c.before.before in
-    found given.before.args.b given.radicand.result _ c.nearest_root.result (omega arith)
+    found c.args.b c.radicand-n.result _ c.nearest_root.result (omega arith)
     (omega arith)
-    given.radicand.ensures
+    c.radicand-n.ensures
     (omega arith)
     c.nearest_root.ensures
-
-pub normal_digits_spec : {M : Type 1} → statement M
-normal_digits_spec =
-    tie.close (tie.spec add_s radicand_requires candidate_requires nearest_root_requires returns)

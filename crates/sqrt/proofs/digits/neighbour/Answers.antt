@@ -1,0 +1,12 @@
+-- `neighbour` meets its contract. Of the side it says nothing. Assumes nothing.
+use Rattle.std.proofs.Common.{ℕ, ◌*◌, ◌^◌, ◌<◌, ◌≤◌, le_of_lt, mul-le-mul, arith}
+use Rattle.sqrt.proofs.digits.neighbour.Goals as goal
+
+square_fits : (r : ℕ) → r < 2 ^ 25 → r * r ≤ 2 ^ 50
+square_fits r h = mul-le-mul (le_of_lt h) (le_of_lt h)
+
+pub overflow_mul-r : goal.overflow_mul-r
+overflow_mul-r c = omega (arith, square_fits c.args.r (omega arith))
+
+pub overflow_add-r : goal.overflow_add-r
+overflow_add-r c = omega (arith, square_fits c.args.r (omega arith))
