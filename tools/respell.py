@@ -30,7 +30,7 @@ def kept(text, crates):
 
 def respelled(piece, names, modules):
     def turn(m):
-        if m.group(0) in names:
+        if m.group(0) in names or m.group(0)[0].isdigit():
             return m.group(0)
         before = re.search(r"([\w'-]+)\.$", piece[:m.start()])
         if before and before.group(1) in modules:

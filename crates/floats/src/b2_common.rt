@@ -9,7 +9,7 @@ use crate::b2_settings::B2_LENGTH_UNITS_PER_METER;
 pub const B2_MAX_FLOAT: f32 = 3.4028234663852886e38;
 
 // The distance from 1 to the next f32: 1/2^23.
-pub const B2_EPSILON: f32 = 1.1920928955078125e_7;
+pub const B2_EPSILON: f32 = 1.1920928955078125e-7;
 
 // The most points of a manifold.
 pub const B2_MAX_MANIFOLD_POINTS: usize = 2;

@@ -1,0 +1,8 @@
+-- `b2_mul_t_transform` computes its definition from those of its parts. Assumes nothing.
+use Rattle.floats.specs.B2Math.{b2_mul_t_transform}
+use Rattle.floats.proofs.b2_math.b2_mul_t_transform.Goals as goal
+
+pub returns : goal.returns
+unfolding b2_mul_t_transform
+returns c =
+    simp (c.b2_mul_t_rot_by_vec2-p.ensures, c.b2_sub.ensures, c.b2_mul_t_rot-q.ensures)
