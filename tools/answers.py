@@ -164,16 +164,10 @@ def invariant(p, code, m, of):
     eq = text.index('=')
     binders = text[:eq].split()[1:]
     changed = of['changed'][k]
-    targets, live_all = [], list(live)
-    n = len(live_all)
-    # the old form takes each variable once, and before those that the loop changes their first values
-    order = []
-    for v, c in zip(live_all, changed):
-        if not c:
-            order.append('l.' + v)
-    firsts = ['l.initial.' + v for v, c in zip(live_all, changed) if c]
-    nows = ['l.' + v for v, c in zip(live_all, changed) if c]
-    targets = order + firsts + nows
+    live_all = list(live)
+    # the old form takes each variable, by its first value where the loop changes it, and then those that it changes
+    targets = [('l.initial.' if c else 'l.') + v for v, c in zip(live_all, changed)]
+    targets += ['l.' + v for v, c in zip(live_all, changed) if c]
     if len(binders) != len(targets):
         targets = ['?%d' % i for i in range(len(binders))]
     table = {b: t for b, t in zip(binders, targets) if b != '_'}

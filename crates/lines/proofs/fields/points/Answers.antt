@@ -1,0 +1,21 @@
+-- The first k points are read. Assumes nothing.
+use Prim.Native.Nat.{◌-◌}
+use mathlib.Core.Path.{refl}
+use native.Mathlib.Omega.{arith}
+use Rattle.lines.specs.Fields.{points_at}
+use Rattle.lines.proofs.Points.{PointsSoFar, point_read, points_read}
+use borrow.Author.Rules.{rules}
+use Rattle.lines.proofs.fields.points.Goals as goal
+
+pub loop-k-init : goal.loop-k-init
+unfolding points_at
+loop-k-init c =
+    record { within = omega arith; few = omega arith; room = omega arith; eight = refl; read = refl }
+
+pub loop-k-preserved : goal.loop-k-preserved
+loop-k-preserved c =
+    let loop' = c.loop-k in
+    point_read _ _ _ loop'.ps loop'.k _ (omega arith) c.vector.ensures loop'.invariant
+
+pub returns : goal.returns
+returns c = points_read _ _ _ c.loop-k.ps c.loop-k.k c.loop-k-test.false c.loop-k.invariant

@@ -1,0 +1,10 @@
+-- The sine, then the cosine. Assumes nothing.
+use Rattle.lines.specs.Fields.{rotation_at}
+use borrow.Author.Rules.{rules}
+use Rattle.lines.proofs.fields.rotation.Goals as goal
+
+pub returns : goal.returns
+unfolding rotation_at
+returns c =
+    let float' = c.float-s in
+    simp (c.float-c.ensures, float'.ensures)

@@ -1,0 +1,13 @@
+-- The loop: the bytes so far, and what the rest of the line says, make what the whole line says. Assumes nothing.
+use Prim.Native.Nat.{◌-◌}
+use native.Mathlib.Omega.{arith}
+use Rattle.lines.proofs.Reading.{ReadSoFar, read_none_yet, byte_read}
+use Rattle.lines.proofs.Reading.{overlong, odd, other_character, only_digits}
+use borrow.Author.Rules.{rules}
+use Rattle.lines.proofs.hex.unhex.Given as goal
+
+abbrev pub invariant-loop-i : goal.invariant-loop-i
+invariant-loop-i l = ReadSoFar l.line l.initial.bytes l.n l.bytes l.digits l.i
+
+abbrev pub decreases-loop-i : goal.decreases-loop-i
+decreases-loop-i l = l.n - l.i
