@@ -75,8 +75,23 @@ class Places:
         return place
 
 
+def parameters(crate, path):
+    """The names of a function's parameters: the old form called those of some types t1, t2, .."""
+    file, fn = path.rsplit('/', 1) if '/' in path else ('lib', path)
+    for at in (file + '.rt', file.split('/')[0] + '.rt', 'lib.rt', 'main.rt'):
+        try:
+            text = open(os.path.join(crate, 'src', at)).read()
+        except FileNotFoundError:
+            continue
+        m = re.search(r"\bfn %s(?:<[^(]*>)?\(([^)]*)\)" % re.escape(fn), text)
+        if m:
+            return re.findall(r"(\w+)\s*:[^:]", m.group(1))
+    return []
+
+
 def turn(path, of, text, crate, name):
     places = Places(of)
+    places.params = parameters(crate, path)
     dotted = path.replace('/', '.')
     uses, pieces, header = [], [], []
     for p in declarations(text):
@@ -243,9 +258,15 @@ def contexts(body, env, places):
                     break
                 q = places.parent[q]
         tail = words[k + 1:]
+        if new == 'args' and tail and re.fullmatch(r"t\d+", tail[0]) and 0 < int(tail[0][1:]) <= len(places.params):
+            tail[0] = places.params[int(tail[0][1:]) - 1]
+        if tail and re.fullmatch(r"keys\d+", tail[0]) and new.startswith('in-'):
+            tail[0] = 'is'
         return '.'.join(['c', new] + tail)
 
-    return CHAIN.sub(sub, body)
+    body = CHAIN.sub(sub, body)
+    # the test of `if !x` now says what x is
+    return re.sub(r"not-(true|false)\s+_\s+(c\.if-not-[\w'₀-₉+-]+\.\1)", r"\2", body)
 
 
 main(sys.argv[1], sys.argv[2], sys.argv[3], sys.argv[4:])

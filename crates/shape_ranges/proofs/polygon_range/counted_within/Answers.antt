@@ -18,25 +18,25 @@ loop-i-init c = (omega arith, c.well_formed.1.0.1.0.1, refl)
 
 pub returns-then-i-n : goal.returns-then-i-n
 returns-then-i-n c =
-    let first = take c.args.n c.args.t2 in
+    let first = take c.args.n c.args.ps in
     let few : length first ≤ c.args.n = simp length-take (min-le_left _ _) in
     all_passed (vec2_within c.args.limit) first c.loop-i.i (omega arith) c.loop-i.invariant.2
 
 pub returns-then-not-vec2_within : goal.returns-then-not-vec2_within
 returns-then-not-vec2_within c =
     let n = c.args.n in
-    let ps = c.args.t2 in
+    let ps = c.args.ps in
     let i = c.loop-i.i in
     let size = c.loop-i.invariant.1 in
     let below : i < n = omega arith in
     let within : i < length (take n ps) = simp length-take (le-min below (omega arith)) in
     all_failed (vec2_within c.args.limit) (take n ps) i _ _ within (sym (get_or-take n ps i _ below))
-    c.loop-i.invariant.2 (sym c.vec2_within.ensures ∙ not-true _ c.if-not-vec2_within.true)
+    c.loop-i.invariant.2 (sym c.vec2_within.ensures ∙ c.if-not-vec2_within.true)
 
 pub loop-i-preserved : goal.loop-i-preserved
 loop-i-preserved c =
     let n = c.args.n in
-    let ps = c.args.t2 in
+    let ps = c.args.ps in
     let i = c.loop-i.i in
     let size = c.loop-i.invariant.1 in
     let below : i < n = omega arith in
@@ -44,12 +44,12 @@ loop-i-preserved c =
       omega arith,
       size,
       all_next (vec2_within c.args.limit) (take n ps) i _ _ within (sym (get_or-take n ps i _ below))
-          c.loop-i.invariant.2 (sym c.vec2_within.ensures ∙ not-false _ c.if-not-vec2_within.false),
+          c.loop-i.invariant.2 (sym c.vec2_within.ensures ∙ c.if-not-vec2_within.false),
     )
 
 pub returns : goal.returns
 returns c =
     let size = c.loop-i.invariant.1 in
-    let first = take c.args.n c.args.t2 in
-    let few : length first ≤ length c.args.t2 = simp length-take (min-le_right _ _) in
+    let first = take c.args.n c.args.ps in
+    let few : length first ≤ length c.args.ps = simp length-take (min-le_right _ _) in
     all_passed (vec2_within c.args.limit) first c.loop-i.i (omega arith) c.loop-i.invariant.2

@@ -19,12 +19,12 @@ loop-j-preserved c =
       omega arith,
       omega arith,
       size,
-      one_more (vec2_within c.args.limit) c.args.t2 c.args.from c.loop-j.j _ _ _
+      one_more (vec2_within c.args.limit) c.args.ps c.args.from c.loop-j.j _ _ _
           (omega arith) inv.3 c.vec2_within-ok.ensures,
     )
 
 pub returns : goal.returns
 returns c =
     let all : c.loop-j.j ≡ 4 = omega arith in
-    let rest = drop c.args.from c.args.t2 in
+    let rest = drop c.args.from c.args.ps in
     c.loop-j.invariant.3 ∙ ap (λ (k : ℕ). all_points (vec2_within c.args.limit) (take k rest)) all

@@ -19,7 +19,7 @@ pub returns-then-not-points_within : goal.returns-then-not-points_within
 unfolding polygon_in_range point_in_range normal_in_range
 returns-then-not-points_within c =
     fails_before _ _
-    (sym (not-true _ c.if-not-points_within.true) ∙ c.points_within.ensures
+    (sym (c.if-not-points_within.true) ∙ c.points_within.ensures
     ∙ first_holds _ _ _ (ap₂ ◌&&◌ c.radius_in_range-radius.ensures
     c.point_in_range-centroid.ensures) c.if-not-radius-centroid.false)
 
