@@ -1,0 +1,42 @@
+-- The corners below j, and no more than count, are asked so far. Assumes nothing.
+use mathlib.Core.Path.{◌≡◌, ◌∙◌, ap}
+use mathlib.Core.Bool.{not}
+use mathlib.Core.List.{zip_with}
+use Prim.Native.Nat.{◌≤◌, ◌-◌, min}
+use native.Mathlib.Nat.{min-eq_left, min-eq_right}
+use native.Mathlib.Omega.{arith}
+use lib.ListN.{length}
+use borrow.Author.Rules.{rules}
+use Rattle.floats.specs.B2Math.{vec2}
+use Rattle.shape_definitions.specs.Validate.{corners_not_right}
+use Rattle.shapes.proofs.Sides.{corners_next, right_is}
+use Rattle.shapes.proofs.convex.some_right.Goals as goal
+
+pub loop-j-init : goal.loop-j-init
+unfolding corners_not_right
+loop-j-init c =
+    let none = min-eq_left {n = 0} {m = c.args.count} (omega arith) in
+    (omega arith, c.requires.2, c.requires.3, omega arith, simp none)
+
+pub loop-j-preserved : goal.loop-j-preserved
+loop-j-preserved c =
+    let vs = zip_with vec2 c.args.xs.now c.args.ys.now in
+    let count = c.args.count in
+    let i = c.args.i in (
+      omega arith,
+      c.loop-j.invariant.1,
+      c.loop-j.invariant.2,
+      omega arith,
+      corners_next vs count i c.loop-j.j _ _ c.loop-j.invariant.4
+          (right_is vs count i c.loop-j.j _ _ _ _ _ _ c.corner-p.ensures
+          c.after.ensures.1 c.corner.ensures c.b2_sub-e.ensures
+          c.corner-in-loop-j.ensures c.right_of-here.ensures),
+    )
+
+pub returns : goal.returns
+returns c =
+    let loop = c.loop-j in
+    let args = c.args in
+    loop.invariant.4
+    ∙ ap (λ k. not (corners_not_right (zip_with vec2 args.xs.now args.ys.now) args.count args.i k))
+    (min-eq_right {n = args.count} {m = loop.j} (omega arith))

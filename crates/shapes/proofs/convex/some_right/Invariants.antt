@@ -1,0 +1,21 @@
+-- The corners below j, and no more than count, are asked so far. Assumes nothing.
+use mathlib.Core.Path.{◌≡◌, ◌∙◌, ap}
+use mathlib.Core.Bool.{not}
+use mathlib.Core.List.{zip_with}
+use Prim.Native.Nat.{◌≤◌, ◌-◌, min}
+use native.Mathlib.Nat.{min-eq_left, min-eq_right}
+use native.Mathlib.Omega.{arith}
+use lib.ListN.{length}
+use borrow.Author.Rules.{rules}
+use Rattle.floats.specs.B2Math.{vec2}
+use Rattle.shape_definitions.specs.Validate.{corners_not_right}
+use Rattle.shapes.proofs.Sides.{corners_next, right_is}
+use Rattle.shapes.proofs.convex.some_right.Given as goal
+
+abbrev pub invariant-loop-j : goal.invariant-loop-j
+invariant-loop-j l =
+    (l.j ≤ 8) × (length l.xs ≡ 8) × (length l.ys ≡ 8) × (l.count ≤ 8)
+    × (l.right ≡ not (corners_not_right (zip_with vec2 l.xs l.ys) l.count l.i (min l.j l.count)))
+
+abbrev pub decreases-loop-j : goal.decreases-loop-j
+decreases-loop-j l = 8 - l.j

@@ -1,0 +1,17 @@
+-- The coordinates below j are copied so far. Assumes nothing.
+use mathlib.Core.Path.{◌≡◌, refl}
+use mathlib.Core.List.{map}
+use Prim.Native.Nat.{◌≤◌, ◌-◌}
+use native.Mathlib.Omega.{arith}
+use lib.ListN.{length, take, length-set}
+use Rattle.algebra.proofs.Lists.{mapped_next, mapped}
+use borrow.Author.Rules.{rules}
+use Rattle.shapes.proofs.convex.split_coordinates.Given as goal
+
+abbrev pub invariant-loop-j : goal.invariant-loop-j
+invariant-loop-j l =
+    (l.j ≤ 8) × (length l.vs ≡ 8) × (length l.xs ≡ 8) × (length l.ys ≡ 8) × (take l.j l.xs ≡ map (λ v. v.x) (take l.j l.vs))
+    × (take l.j l.ys ≡ map (λ v. v.y) (take l.j l.vs))
+
+abbrev pub decreases-loop-j : goal.decreases-loop-j
+decreases-loop-j l = 8 - l.j

@@ -1,0 +1,16 @@
+-- The points stored so far are the first ones. Assumes nothing.
+use mathlib.Core.Path.{◌≡◌, refl, ◌∙◌, ap}
+use Prim.Native.Nat.{◌+◌, ◌-◌, ◌≤◌}
+use native.Mathlib.Omega.{arith}
+use lib.ListN.{length, take}
+use Rattle.shapes.specs.Coordinates.{points_in, EightPoints}
+use Rattle.shapes.proofs.CoordinatePoints.{eight_stored}
+use Rattle.algebra.proofs.Lists.{copied_next, copied}
+use borrow.Author.Rules.{rules}
+use Rattle.shapes.proofs.coordinates.coordinates.Given as goal
+
+abbrev pub invariant-loop-i : goal.invariant-loop-i
+invariant-loop-i l = (l.i ≤ 8) × (length l.vs ≡ 8) × EightPoints l.xs × (take l.i (points_in l.xs) ≡ take l.i l.vs)
+
+abbrev pub decreases-loop-i : goal.decreases-loop-i
+decreases-loop-i l = 8 - l.i

@@ -1,0 +1,15 @@
+-- The points read so far are the first ones. Assumes nothing.
+use mathlib.Core.Path.{◌≡◌, refl}
+use Prim.Native.Nat.{◌≤◌, ◌-◌}
+use native.Mathlib.Omega.{arith}
+use lib.ListN.{length, take, length-set}
+use Rattle.shapes.specs.Coordinates.{points_in, EightPoints}
+use Rattle.algebra.proofs.Lists.{copied_next, copied}
+use borrow.Author.Rules.{rules}
+use Rattle.shapes.proofs.coordinates.points.Given as goal
+
+abbrev pub invariant-loop-i : goal.invariant-loop-i
+invariant-loop-i l = (l.i ≤ 8) × EightPoints l.xs × (length l.vs ≡ 8) × (take l.i l.vs ≡ take l.i (points_in l.xs))
+
+abbrev pub decreases-loop-i : goal.decreases-loop-i
+decreases-loop-i l = 8 - l.i

@@ -1,0 +1,66 @@
+-- The sum so far, and the triangles that are left. Assumes nothing.
+use mathlib.Core.Path.{◌≡◌, sym, ◌∙◌}
+use Prim.Native.Nat.{◌≤◌, ◌-◌}
+use native.Mathlib.Omega.{arith}
+use lib.ListN.{length, take, drop}
+use lib.Seq.{length-take-le}
+use Rattle.floats.specs.B2Math.{b2_sub}
+use Rattle.shape_definitions.specs.Outline.{point_at, fan}
+use Rattle.shapes.specs.Coordinates.{points_in, EightPoints}
+use Rattle.shapes.proofs.Tests.{at_first_place}
+use Rattle.shapes.proofs.Around.{from_corner, from_following, fan_rest, fan_start, fan_next, fan_ended}
+use borrow.Author.Rules.{rules}
+use Rattle.shapes.proofs.outline.fan.Goals as goal
+
+pub at-s-requires : goal.at-s-requires
+at-s-requires c = (omega arith, c.requires.2)
+
+pub loop-i-init : goal.loop-i-init
+loop-i-init c =
+    let vs = points_in c.args.vs.now in
+    let m = c.args.m in
+    let eight = c.requires.2 in
+    let count : length (take m vs) ≡ m = length-take-le m vs (omega arith) in (
+      omega arith,
+      omega arith,
+      eight,
+      c.at-s.ensures ∙ sym (at_first_place vs m 0 (omega arith)),
+      c.b2_sub-p1.ensures,
+      fan_start (take m vs) (omega arith),
+    )
+
+pub at-requires : goal.at-requires
+at-requires c = (omega arith, c.loop-i.invariant.2)
+
+pub at-requires-in-loop-i : goal.at-requires-in-loop-i
+at-requires-in-loop-i c = (omega (arith, c.after.ensures.0), c.loop-i.invariant.2)
+
+pub loop-i-preserved : goal.loop-i-preserved
+loop-i-preserved c =
+    let vs = points_in c.args.vs.now in
+    let m = c.args.m in
+    let i = c.loop-i.i in
+    let inv = c.loop-i.invariant in
+    let eight = inv.2 in
+    let count : length (take m vs) ≡ m = length-take-le m vs (omega arith) in
+    let p2_is = from_corner vs m i (omega arith) (omega arith) _ _ _ c.at.ensures
+    c.b2_sub-p2.ensures in
+    let p3_is =
+    from_following vs m i (omega arith) (omega arith) _ c.after.ensures.0 c.after.ensures.1 _ _ _
+    c.at-in-loop-i.ensures c.b2_sub-p3.ensures in (
+      omega arith,
+      omega arith,
+      inv.2,
+      inv.3,
+      inv.4,
+      fan_next (take m vs) i _ _ _ _ _ _ (omega arith) inv.3 inv.4 p2_is p3_is c.with_triangle-sum.ensures
+          inv.5,
+    )
+
+pub returns : goal.returns
+returns c =
+    let vs = points_in c.args.vs.now in
+    let m = c.args.m in
+    let eight = c.loop-i.invariant.2 in
+    let count : length (take m vs) ≡ m = length-take-le m vs (omega arith) in
+    fan_ended (take m vs) c.loop-i.i _ (omega arith) c.loop-i.invariant.5

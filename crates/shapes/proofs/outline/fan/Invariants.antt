@@ -1,0 +1,21 @@
+-- The sum so far, and the triangles that are left. Assumes nothing.
+use mathlib.Core.Path.{◌≡◌, sym, ◌∙◌}
+use Prim.Native.Nat.{◌≤◌, ◌-◌}
+use native.Mathlib.Omega.{arith}
+use lib.ListN.{length, take, drop}
+use lib.Seq.{length-take-le}
+use Rattle.floats.specs.B2Math.{b2_sub}
+use Rattle.shape_definitions.specs.Outline.{point_at, fan}
+use Rattle.shapes.specs.Coordinates.{points_in, EightPoints}
+use Rattle.shapes.proofs.Tests.{at_first_place}
+use Rattle.shapes.proofs.Around.{from_corner, from_following, fan_rest, fan_start, fan_next, fan_ended}
+use borrow.Author.Rules.{rules}
+use Rattle.shapes.proofs.outline.fan.Given as goal
+
+abbrev pub invariant-loop-i : goal.invariant-loop-i
+invariant-loop-i l =
+    (l.i ≤ l.m) × (l.m ≤ 8) × EightPoints l.vs × (l.s ≡ point_at (take l.m (points_in l.vs)) 0) × (l.p1 ≡ b2_sub l.s l.s)
+    × (fan_rest (point_at (take l.m (points_in l.vs)) 0) (drop l.i (take l.m (points_in l.vs))) l.sum ≡ fan (take l.m (points_in l.vs)))
+
+abbrev pub decreases-loop-i : goal.decreases-loop-i
+decreases-loop-i l = l.m - l.i

@@ -1,0 +1,62 @@
+-- What the scan keeps from here is what it keeps of all places; best is the point kept. Assumes nothing.
+use mathlib.Core.Path.{◌≡◌, ◌∙◌, ap₂}
+use mathlib.Core.Logic.{⊎_elim}
+use Prim.Native.Nat.{◌≤◌, ◌<◌, ◌-◌}
+use native.Mathlib.Omega.{arith}
+use lib.ListN.{take}
+use Rattle.algebra.specs.Loops.{places, scan}
+use Rattle.algebra.proofs.Loops.{scan_ended}
+use Rattle.shape_definitions.specs.Outline.{point_at, comes_before, earlier, start}
+use Rattle.shapes.specs.Coordinates.{points_in, EightPoints}
+use Rattle.shapes.proofs.Tests.{earlier_first, scanned_next, scanned_from_one}
+use Rattle.algebra.proofs.Booleans.{chosen, unchosen}
+use borrow.Author.Rules.{rules}
+use Rattle.shapes.proofs.outline.start.Goals as goal
+
+pub at-best-requires : goal.at-best-requires
+at-best-requires c = (omega arith, c.requires.2)
+
+pub loop-i-init : goal.loop-i-init
+unfolding start
+loop-i-init c =
+    let ps = points_in c.args.ps.now in
+    let n = c.args.n in
+    let eight = c.requires.2 in
+    (omega arith, omega arith, omega arith, eight, c.at-best.ensures, scanned_from_one _ ps n (omega arith))
+
+pub at-p-requires : goal.at-p-requires
+at-p-requires c = (omega arith, c.loop-i.invariant.3)
+
+pub loop-i-preserved : goal.loop-i-preserved
+loop-i-preserved c =
+    let ps = points_in c.args.ps.now in
+    let n = c.args.n in
+    let i0 = c.loop-i.i0 in
+    let i = c.loop-i.i in
+    let inv = c.loop-i.invariant in
+    let test_is = c.comes_before.ensures ∙ ap₂ comes_before inv.4 c.at-p.ensures in
+    let same = earlier_first ps n i0 i (omega arith) (omega arith) in
+    ⊎_elim
+    (λ w. rw (w.1, w.2) (
+      omega arith,
+      omega arith,
+      omega arith,
+      inv.3,
+      c.at-p.ensures,
+      scanned_next (earlier ps i0 i) i i0 i n (chosen _ _ i i0 w.0.taken test_is) (omega arith)
+          (earlier (take n ps)) _ same inv.5,
+    ))
+    (λ w. rw (w.1, w.2) (
+      omega arith,
+      omega arith,
+      omega arith,
+      inv.3,
+      inv.4,
+      scanned_next (earlier ps i0 i) i0 i0 i n (unchosen _ _ i i0 w.0.left test_is) (omega arith)
+          (earlier (take n ps)) _ same inv.5,
+    ))
+    c.if-comes_before.branch
+
+pub returns : goal.returns
+returns c =
+    (omega arith, scan_ended _ _ c.loop-i.i _ _ (omega arith) c.loop-i.invariant.5)

@@ -1,0 +1,21 @@
+-- The corners done, and the row they begin. Assumes nothing.
+use mathlib.Core.Path.{◌≡◌, refl, sym, ◌∙◌, subst}
+use Prim.Native.Nat.{◌+◌, ◌-◌, ◌≤◌, ◌<◌}
+use native.Mathlib.Omega.{arith}
+use lib.ListN.{take}
+use Rattle.shape_definitions.specs.Outline.{start}
+use Rattle.shapes.specs.Coordinates.{points_in, EightPoints}
+use Rattle.shapes.proofs.Tests.{at_first_place}
+use Rattle.shapes.proofs.CoordinatePoints.{eight_stored}
+use Rattle.shapes.proofs.Walking.{Walking, walking_starts, walking_next, walking_back, walking_lost}
+use borrow.Author.Rules.{rules}
+use Rattle.shapes.proofs.outline.walk.Given as goal
+
+abbrev pub invariant-loop-m : goal.invariant-loop-m
+invariant-loop-m l =
+    (l.m ≤ 8) × (l.n ≤ 8) × (l.ih < l.n) × (l.i0 ≡ start (take l.n (points_in l.ps))) × EightPoints l.ps × EightPoints l.initial.corners
+    × EightPoints l.corners
+    × Walking (take l.n (points_in l.ps)) (points_in l.initial.corners) l.m l.ih (points_in l.corners)
+
+abbrev pub decreases-loop-m : goal.decreases-loop-m
+decreases-loop-m l = 8 - l.m
