@@ -111,7 +111,7 @@ crossing_near {e} {k} {f} {i} {v0} {v1} unit f_most low near0 near1 =
     let at_most_one = unit.top in
     let i_is : val i ≐ whole a = omega arith in
     let sum : a + b ≡ metre = omega arith in
-    let i_cap : Capped i 1 = record { own = unit.own_val; cap = (omega arith, omega arith) } in
+    let i_cap : Capped i 1 = record { own = unit.own; cap = (omega arith, omega arith) } in
     let size0 = vec_capped f_most low near0 in
     let size1 = vec_capped f_most low near1 in
     let x = blend_near a b sum i_cap i_is size0.0 size1.0 in

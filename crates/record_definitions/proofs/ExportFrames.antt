@@ -146,3 +146,4 @@ module _ (input : List ℕ) (ordered : in_order input ≡ true) where
       test_bytes b (Memᴰ.head is) = omega arith
       test_bytes b (Memᴰ.tail (Memᴰ.head is)) = omega arith
       test_bytes b (Memᴰ.tail (Memᴰ.tail (Memᴰ.head is))) = omega arith
+      test_bytes b (Memᴰ.tail (Memᴰ.tail (Memᴰ.tail more))) = elim more [ ]
