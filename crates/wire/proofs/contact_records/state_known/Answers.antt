@@ -1,0 +1,6 @@
+-- The word is below four. Assumes nothing.
+use borrow.Author.Rules.{rules}
+use Rattle.wire.proofs.contact_records.state_known.Goals as goal
+
+pub returns : goal.returns
+returns c = simp c.word.ensures

@@ -1,0 +1,6 @@
+-- The word is below two. Assumes nothing.
+use borrow.Author.Rules.{rules}
+use Rattle.wire.proofs.records.edge_known.Goals as goal
+
+pub returns : goal.returns
+returns c = simp c.word.ensures
