@@ -21,6 +21,7 @@ use mathlib.Core.List.Memᴰ
 use Rattle.closed_cases.proofs.ExportCases.{export_cases}
 
 all_bytes : (l : List ℕ) → all_of (λ (b : ℕ). ltb b 256) l ≡ true → (b : ℕ) → Memᴰ b l → b < 256
+all_bytes [] are b m = elim m [ ]
 all_bytes (x ∷ l) are b (Memᴰ.head is) =
     let first : x < 256 = ltb-true x 256 (both (ltb x 256) (all_of (λ (c : ℕ). ltb c 256) l) are).0 in
     omega arith
