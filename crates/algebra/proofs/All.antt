@@ -3,7 +3,6 @@
 use mathlib.Core.Path.{◌≡◌, refl, sym, ◌∙◌, ap}
 use mathlib.Core.Bool.{Bool, true, false, ◌&&◌}
 use mathlib.Core.List.{List, [], ◌∷◌, Memᴰ}
-use mathlib.Core.List as L
 use Prim.Native.Nat.{ℕ, suc, ◌+◌, ◌<◌}
 use native.Mathlib.Numerals.{add-one}
 use native.Mathlib.Omega.{arith}
@@ -11,7 +10,6 @@ use lib.ListN.{length, get_or, drop}
 use lib.Dec.{T}
 use lib.Seq.{drop-cons, drop-length}
 use mir.Facts.{yes_and}
-use mathlib.Core.List.Memᴰ
 use Rattle.algebra.specs.Lists.{all_of}
 
 module _ {A : Type 0} where

@@ -1,7 +1,7 @@
 -- Signed numbers of the code: their sums, differences, products and tests are those of `Z`, and small ones fit an i32.
 -- Assumes nothing.
 use mathlib.Core.Path.{◌≡◌, refl, sym, ap, subst, ◌∙◌}
-use mathlib.Core.Bool.{true, false, false≢true}
+use mathlib.Core.Bool.{false, false≢true}
 use Prim.Native.Nat.{ℕ, zero, suc, ◌+◌, ◌*◌, ◌≤◌}
 use native.Mathlib.Omega.{arith}
 use borrow.Author.Tests.{ltb-true, ltb-false, leb-true, leb-false}
@@ -11,7 +11,7 @@ use lib.Signed.{lt_z, le_z}
 use mir.Syntax.{w32}
 use mir.Val.{SFits, to_z, of_z}
 use mir.Facts.{to_z-of_z}
-use Rattle.algebra.specs.Integer.{Z, whole, opp, ◌⊞◌, ◌⊟◌, ◌⊠◌, ◌≐◌, ◌≼◌, ◌≺◌, Abs}
+use Rattle.algebra.specs.Integer.{whole, opp, ◌⊞◌, ◌⊟◌, ◌⊠◌, ◌≐◌, ◌≼◌, ◌≺◌, Abs}
 use Rattle.algebra.specs.Signed.{number}
 use Rattle.algebra.proofs.Magnitude.{abs_widen, abs_same, abs_product}
 use Rattle.algebra.proofs.Integer.{same_sym}

@@ -7,7 +7,6 @@ use mathlib.Core.List.{
   ◌∷◌,
   Memᴰ,
 }
-use mathlib.Core.List as L
 use mathlib.Core.Logic.{◌⊎◌, inl, inr}
 use mathlib.Core.Bool.{Bool, true, false, not}
 use Prim.Native.Nat.{◌+◌, ◌≤◌}

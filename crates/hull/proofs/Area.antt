@@ -2,7 +2,6 @@
 -- above 0. Assumes nothing.
 use mathlib.Core.Path.{◌≡◌, refl, sym}
 use mathlib.Core.List.{List, [], ◌∷◌, Memᴰ}
-use mathlib.Core.List as L
 use mathlib.Core.Logic.{◌⊎◌, inl, inr}
 use Prim.Native.Nat.{◌≤◌}
 use native.Mathlib.Omega.{arith}
@@ -15,7 +14,6 @@ use Rattle.algebra.proofs.Plane.{orientation_cyclic}
 use Rattle.hull.specs.Hull.{Left, Between, Linked, IsHull, fan_area, FanPositive}
 use Rattle.hull.proofs.Directions.{same_way}
 use Rattle.hull.proofs.Corners.{Corner, Side, corner_of_first}
-use mathlib.Core.List.Memᴰ
 use Rattle.hull.proofs.Unique.{hull_sides}
 
 -- a side q r that does not touch the corner p

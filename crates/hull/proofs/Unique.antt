@@ -1,7 +1,6 @@
 -- A list has at most one exact hull: its first corner is one point, and each corner has one next. Assumes nothing.
 use mathlib.Core.Path.{◌≡◌, refl, sym, subst, ap₂}
 use mathlib.Core.List.{List, [], ◌∷◌, Memᴰ}
-use mathlib.Core.List as L
 use mathlib.Core.Logic.{◌⊎◌, inl, inr}
 use Prim.Native.Nat.{◌≤◌}
 use native.Mathlib.Omega.{arith}
@@ -10,7 +9,6 @@ use Rattle.algebra.specs.Integer.{◌≐◌, ◌≺◌}
 use Rattle.algebra.specs.Plane.{Point}
 use Rattle.algebra.specs.Lists.{Once}
 use Rattle.hull.specs.Hull.{Edge, First, Linked, IsHull}
-use mathlib.Core.List.Memᴰ
 use Rattle.hull.proofs.Corners.{Side, side_out}
 
 -- ---- the edges of a row without repeats are sides

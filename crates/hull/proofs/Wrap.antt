@@ -2,7 +2,6 @@
 -- line, and otherwise with the exact hull. Assumes nothing.
 use mathlib.Core.Path.{◌≡◌, refl, sym, ◌∙◌, subst}
 use mathlib.Core.List.{List, [], ◌∷◌, Memᴰ}
-use mathlib.Core.List as L
 use mathlib.Core.Logic.{◌⊎◌, inl, inr}
 use mathlib.Core.Option.{some}
 use Prim.Native.Nat.{ℕ, ◌≤◌}
@@ -17,7 +16,6 @@ use Rattle.hull.proofs.Walk.{Walked, walk_returns}
 use Rattle.hull.proofs.Corners.{Corner, Side, corner_of_first, corner_of_side, side_in}
 use Rattle.hull.proofs.Next.{next_side}
 use Rattle.hull.proofs.Start.{start_mem, start_first}
-use mathlib.Core.List.Memᴰ
 use Rattle.hull.proofs.Line.{there_and_back, no_third_corner}
 
 linked_edges : (s row : List Point) (end p : Point) → Linked (Side s) end p row → Linked (Edge s) end p row

@@ -6,7 +6,6 @@ use mathlib.Core.Path.{◌≡◌, refl, sym, ◌∙◌, ap, subst}
 use mathlib.Core.List.{List}
 use lib.ListN.{length}
 use Rattle.lines.specs.Fields.{byte_at}
-use Rattle.contact_definitions.specs.declared.b2_collision.B2contactId.{B2contactId}
 use Rattle.contact_definitions.specs.declared.b2_collision.B2manifold.{B2manifold}
 use Rattle.contact_definitions.specs.Manifold.{manifold_point}
 use Rattle.contact_definitions.specs.PointStates.{ids_of}
@@ -18,7 +17,7 @@ use Rattle.record_definitions.specs.declared.touch.Touch.{Touch}
 use Rattle.record_definitions.specs.declared.frame.Answer.TheVariants.{Tested}
 use Rattle.record_definitions.specs.World.{pieces_of, piece_of, kept_of, body_at, pair_at}
 use Rattle.record_definitions.specs.Ages.{ages_of}
-use Rattle.record_definitions.specs.Touch.{meet, tested}
+use Rattle.record_definitions.specs.Touch.{meet}
 use Rattle.record_definitions.specs.Answer.{result_of}
 use Rattle.record_definitions.specs.OneFrame.{after_frame, said_of_frame}
 use Rattle.record_definitions.specs.AgeLaws.{PointAge}

@@ -4,7 +4,6 @@ use Prim.Native.Nat.{ℕ, ◌+◌, ◌-◌, ◌≤◌, ◌<◌}
 use mathlib.Core.Path.{◌≡◌, refl, ◌∙◌, ap₂}
 use mathlib.Core.Bool.{true}
 use mathlib.Core.List.{List, Memᴰ}
-use mathlib.Core.List as L
 use native.Mathlib.Omega.{arith}
 use lib.Dec.{eqb}
 use lib.ListN.{length, take, drop, length-take, length-drop}
@@ -18,7 +17,6 @@ use Rattle.record_definitions.specs.Export.{test_frame, FourFrames, first_placem
 use Rattle.record_definitions.specs.Export.{second_placement, begin_all, in_order, between}
 use Rattle.record_definitions.specs.ExportLaws.{export_frames}
 use Rattle.record_definitions.proofs.Exported.{length_at_most, four_frames, first_size, second_size}
-use mathlib.Core.List.Memᴰ
 use Rattle.record_definitions.proofs.ExportLines.{Sendable, AllSendable, in_front, in_rest}
 
 -- ---- a part of the input

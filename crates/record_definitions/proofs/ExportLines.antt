@@ -3,7 +3,6 @@
 use Prim.Native.Nat.{ℕ, ◌≤◌, ◌<◌}
 use mathlib.Core.Path.{◌≡◌, refl, ◌∙◌, ap}
 use mathlib.Core.List.{List, [], ◌∷◌, ◌++◌, map, Memᴰ}
-use mathlib.Core.List as L
 use lib.ListN.{length, take, drop, take-append-drop}
 use Rattle.lines.specs.Hex.{largest_frame, hex, line_of}
 use Rattle.lines.proofs.Theorem.{frame_of_hex}

@@ -20,7 +20,7 @@ use Rattle.record_definitions.specs.declared.world.World.{World}
 use Rattle.record_definitions.specs.declared.frame.Change.{Change}
 use Rattle.record_definitions.specs.World.{fresh_pair, forget_below, blank_outline, blank_body, pieces_of}
 use Rattle.record_definitions.specs.World.{piece_of, fresh_kept, kept_of, fresh_world, body_at, pair_at}
-use Rattle.record_definitions.specs.World.{pair_place, forget}
+use Rattle.record_definitions.specs.World.{pair_place}
 use Rattle.record_definitions.specs.Frame.{well_formed, frame_refusal, circle_at, circle_change, outline_change}
 use Rattle.record_definitions.specs.Frame.{wall_at, wall_change, place_change, turn_change, test_refusal}
 use Rattle.record_definitions.specs.Frame.{frame_length, chain_at, chain_refusal, chain_change, all_tests, keep}

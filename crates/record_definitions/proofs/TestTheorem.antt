@@ -32,7 +32,6 @@ use Rattle.record_definitions.specs.Answer.{touch_bytes, said_line, blank_touch,
 use Rattle.record_definitions.specs.Answer.{result_of}
 use Rattle.record_definitions.specs.OneFrame.{after_frame, said_of_frame}
 use Rattle.record_definitions.proofs.PieceTests.{nth_test, each_accepted, piece_kept, past_kept, all_said}
-use Rattle.record_definitions.specs.Touches.{touches}
 use Rattle.record_definitions.proofs.Pairs.{test_seen, said_at, test_keeps_bodies}
 use Rattle.record_definitions.proofs.Pairs.{test_keeps_other_pairs, test_writes_its_pair}
 use Rattle.record_definitions.proofs.States.{count_of, states_are_box2ds, first_state, second_state, no_first_state}

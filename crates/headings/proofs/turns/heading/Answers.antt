@@ -1,6 +1,5 @@
 -- `heading` goes by the quarter, as its definition does. Assumes nothing.
 use native.Mathlib.Omega.{arith}
-use borrow.Author.Rules.{rules}
 use Rattle.headings.proofs.Table.{lent_length}
 use Rattle.headings.proofs.Quarters.{first_is, second_is, third_is, fourth_is}
 use Rattle.headings.proofs.turns.heading.Goals as goal

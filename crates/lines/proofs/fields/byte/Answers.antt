@@ -1,7 +1,6 @@
 -- Past the end a byte is 0. Assumes nothing.
 use mathlib.Core.Path.{sym}
 use lib.ListN.{get_or-eq_default}
-use borrow.Author.Rules.{rules}
 use Rattle.lines.proofs.fields.byte.Goals as goal
 
 pub returns : goal.returns

@@ -1,7 +1,6 @@
 -- The bits of a number. Assumes nothing.
 use mathlib.Core.Path.{◌∙◌, ap}
 use lib.Ieee.{binary32, of_bits}
-use borrow.Author.Rules.{rules}
 use Rattle.lines.proofs.fields.float.Goals as goal
 
 pub returns : goal.returns

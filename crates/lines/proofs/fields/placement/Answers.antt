@@ -1,6 +1,5 @@
 -- The position, then the rotation. Assumes nothing.
 use Rattle.lines.specs.Fields.{placement_at}
-use borrow.Author.Rules.{rules}
 use Rattle.lines.proofs.fields.placement.Goals as goal
 
 pub returns : goal.returns

@@ -1,10 +1,8 @@
 -- The first k points are read. Assumes nothing.
-use Prim.Native.Nat.{◌-◌}
 use mathlib.Core.Path.{refl}
 use native.Mathlib.Omega.{arith}
 use Rattle.lines.specs.Fields.{points_at}
-use Rattle.lines.proofs.Points.{PointsSoFar, point_read, points_read}
-use borrow.Author.Rules.{rules}
+use Rattle.lines.proofs.Points.{point_read, points_read}
 use Rattle.lines.proofs.fields.points.Goals as goal
 
 pub loop-k-init : goal.loop-k-init

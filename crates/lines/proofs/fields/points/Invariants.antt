@@ -1,10 +1,6 @@
 -- The first k points are read. Assumes nothing.
 use Prim.Native.Nat.{◌-◌}
-use mathlib.Core.Path.{refl}
-use native.Mathlib.Omega.{arith}
-use Rattle.lines.specs.Fields.{points_at}
-use Rattle.lines.proofs.Points.{PointsSoFar, point_read, points_read}
-use borrow.Author.Rules.{rules}
+use Rattle.lines.proofs.Points.{PointsSoFar}
 use Rattle.lines.proofs.fields.points.Given as goal
 
 abbrev pub invariant-loop-k : goal.invariant-loop-k

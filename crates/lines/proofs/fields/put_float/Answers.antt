@@ -3,7 +3,6 @@ use Prim.Native.Nat.{ℕ}
 use mathlib.Core.Path.{◌∙◌, ap}
 use Rattle.algebra.specs.Buffer.{over}
 use Rattle.lines.specs.Fields.{number_bytes}
-use borrow.Author.Rules.{rules}
 use Rattle.lines.proofs.fields.put_float.Goals as goal
 
 pub returns : goal.returns

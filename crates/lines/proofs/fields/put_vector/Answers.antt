@@ -2,7 +2,6 @@
 use mathlib.Core.Path.{refl}
 use Rattle.algebra.proofs.Buffer.{over_next}
 use Rattle.lines.specs.Fields.{float_bytes}
-use borrow.Author.Rules.{rules}
 use Rattle.lines.proofs.fields.put_vector.Goals as goal
 
 pub returns : goal.returns

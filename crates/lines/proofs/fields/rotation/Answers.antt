@@ -1,6 +1,5 @@
 -- The sine, then the cosine. Assumes nothing.
 use Rattle.lines.specs.Fields.{rotation_at}
-use borrow.Author.Rules.{rules}
 use Rattle.lines.proofs.fields.rotation.Goals as goal
 
 pub returns : goal.returns

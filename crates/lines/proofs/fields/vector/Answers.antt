@@ -1,6 +1,5 @@
 -- x, then y. Assumes nothing.
 use Rattle.lines.specs.Fields.{vector_at}
-use borrow.Author.Rules.{rules}
 use Rattle.lines.proofs.fields.vector.Goals as goal
 
 pub returns : goal.returns

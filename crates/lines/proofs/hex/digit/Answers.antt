@@ -1,6 +1,5 @@
 -- Below 10, and from 10 on. Assumes nothing.
 use borrow.Author.Tests.{lt-ltb, le-ltb}
-use borrow.Author.Rules.{rules}
 use Rattle.lines.proofs.hex.digit.Goals as goal
 
 pub returns-then-n-lt10 : goal.returns-then-n-lt10

@@ -2,7 +2,6 @@
 use Prim.Native.Nat.{◌≤◌}
 use native.Mathlib.Omega.{arith}
 use Rattle.lines.proofs.Reading.{between}
-use borrow.Author.Rules.{rules}
 use Rattle.lines.proofs.hex.nibble.Goals as goal
 
 pub overflow_sub-result : goal.overflow_sub-result

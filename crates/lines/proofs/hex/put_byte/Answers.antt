@@ -2,7 +2,6 @@
 use mathlib.Core.Path.{◌∙◌}
 use mathlib.Core.List.{[], ◌∷◌}
 use Rattle.algebra.proofs.Buffer.{over_stores}
-use borrow.Author.Rules.{rules}
 use Rattle.lines.proofs.hex.put_byte.Goals as goal
 
 pub returns : goal.returns

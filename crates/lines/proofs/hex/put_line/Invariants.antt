@@ -1,8 +1,6 @@
 -- The loop: the digits of the first i bytes stand at the front. Assumes nothing.
 use Prim.Native.Nat.{◌-◌}
-use native.Mathlib.Omega.{arith}
-use Rattle.lines.proofs.Writing.{WrittenSoFar, written_none_yet, byte_written, line_written}
-use borrow.Author.Rules.{rules}
+use Rattle.lines.proofs.Writing.{WrittenSoFar}
 use Rattle.lines.proofs.hex.put_line.Given as goal
 
 abbrev pub invariant-loop-i : goal.invariant-loop-i

@@ -1,9 +1,7 @@
 -- The loop: the bytes so far, and what the rest of the line says, make what the whole line says. Assumes nothing.
-use Prim.Native.Nat.{◌-◌}
 use native.Mathlib.Omega.{arith}
-use Rattle.lines.proofs.Reading.{ReadSoFar, read_none_yet, byte_read}
+use Rattle.lines.proofs.Reading.{read_none_yet, byte_read}
 use Rattle.lines.proofs.Reading.{overlong, odd, other_character, only_digits}
-use borrow.Author.Rules.{rules}
 use Rattle.lines.proofs.hex.unhex.Goals as goal
 
 pub returns-then-line-gt-LINE_LIMIT : goal.returns-then-line-gt-LINE_LIMIT

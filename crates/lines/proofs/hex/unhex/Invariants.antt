@@ -1,9 +1,6 @@
 -- The loop: the bytes so far, and what the rest of the line says, make what the whole line says. Assumes nothing.
 use Prim.Native.Nat.{◌-◌}
-use native.Mathlib.Omega.{arith}
-use Rattle.lines.proofs.Reading.{ReadSoFar, read_none_yet, byte_read}
-use Rattle.lines.proofs.Reading.{overlong, odd, other_character, only_digits}
-use borrow.Author.Rules.{rules}
+use Rattle.lines.proofs.Reading.{ReadSoFar}
 use Rattle.lines.proofs.hex.unhex.Given as goal
 
 abbrev pub invariant-loop-i : goal.invariant-loop-i
