@@ -8,5 +8,3 @@ pub mod Distance
 pub mod WorldOfFaces
 pub mod KeptEnds
 pub mod WorldRanges
-pub mod CoreCall
-pub mod LentWorld

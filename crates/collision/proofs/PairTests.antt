@@ -105,10 +105,10 @@ module _ (a : B2polygonShape) (b : B2circleShape) (radii four : Bool)
   unfolding polygon_in_range circle_in_range
   joined = last_before (outline_head a) (head b.m_radius b.m_p) (corners a) (normals a)
 
-  pub with_circle_fails : not (radii && four) ≡ true → false ≡ polygon_in_range a && circle_in_range b
+  pub with_circle_fails : radii && four ≡ false → false ≡ polygon_in_range a && circle_in_range b
   with_circle_fails fails = first_fails (radii && four) _ (points a) tested fails ∙ joined
 
-  pub with_circle_holds : (r : Bool) → r ≡ points a → not (radii && four) ≡ false
+  pub with_circle_holds : (r : Bool) → r ≡ points a → radii && four ≡ true
       → r ≡ polygon_in_range a && circle_in_range b
   with_circle_holds r r_is holds = r_is ∙ first_holds (radii && four) _ (points a) tested holds ∙ joined
 
@@ -122,10 +122,10 @@ module _ (a b : B2polygonShape) (radii four : Bool)
   unfolding polygon_in_range
   both_joined = both_before (outline_head a) (outline_head b) (corners a) (normals a) (corners b) (normals b)
 
-  pub both_fail : not (radii && four) ≡ true → false ≡ polygon_in_range a && polygon_in_range b
+  pub both_fail : radii && four ≡ false → false ≡ polygon_in_range a && polygon_in_range b
   both_fail fails = first_fails (radii && four) _ (points a && points b) both_tested fails ∙ both_joined
 
-  pub both_hold : (r : Bool) → r ≡ (points a && points b) → not (radii && four) ≡ false
+  pub both_hold : (r : Bool) → r ≡ (points a && points b) → radii && four ≡ true
       → r ≡ polygon_in_range a && polygon_in_range b
   both_hold r r_is holds = r_is ∙ first_holds (radii && four) _ (points a && points b) both_tested holds ∙ both_joined
 
@@ -141,10 +141,10 @@ module _ (a : B2edgeShape) (b : B2polygonShape) (t : Bool)
   unfolding polygon_in_range
   wall_joined = points_last (edge_in_range a) (outline_head b) (corners b) (normals b)
 
-  pub by_wall_fails : not t ≡ true → false ≡ edge_in_range a && polygon_in_range b
+  pub by_wall_fails : t ≡ false → false ≡ edge_in_range a && polygon_in_range b
   by_wall_fails fails = first_fails t (edge_in_range a && outline_head b) (points b) wall_tested fails ∙ wall_joined
 
-  pub by_wall_holds : (r : Bool) → r ≡ points b → not t ≡ false → r ≡ edge_in_range a && polygon_in_range b
+  pub by_wall_holds : (r : Bool) → r ≡ points b → t ≡ true → r ≡ edge_in_range a && polygon_in_range b
   by_wall_holds r r_is holds =
       r_is ∙ first_holds t (edge_in_range a && outline_head b) (points b) wall_tested holds ∙ wall_joined
 
@@ -192,11 +192,11 @@ module _ (a : B2edgeShape) (rb px py : Float) (radii ends x y : Bool)
       ghosts_last (radius_in_range a.m_radius) (radius_in_range rb) (point_in_range a.m_vertex1)
       (point_in_range a.m_vertex2) place (ghosts a)
 
-  pub wall_fails : not (radii && ends && (x && y)) ≡ true
+  pub wall_fails : radii && ends && (x && y) ≡ false
       → false ≡ edge_in_range a && (radius_in_range rb && (coordinate_in_range px && coordinate_in_range py))
   wall_fails fails = first_fails (radii && ends && (x && y)) parts (ghosts a) ends_tested fails ∙ ends_joined
 
-  pub wall_holds : (r : Bool) → r ≡ ghosts a → not (radii && ends && (x && y)) ≡ false
+  pub wall_holds : (r : Bool) → r ≡ ghosts a → radii && ends && (x && y) ≡ true
       → r ≡ edge_in_range a && (radius_in_range rb && (coordinate_in_range px && coordinate_in_range py))
   wall_holds r r_is holds =
       r_is ∙ first_holds (radii && ends && (x && y)) parts (ghosts a) ends_tested holds ∙ ends_joined

@@ -1,7 +1,6 @@
 -- What is left, or 9. Assumes nothing.
 use mathlib.Core.Path.{sym, ◌∙◌}
 use Rattle.contact_definitions.specs.Clip.{b2_clip_segment_to_line}
-use borrow.Author.Rules.{rules}
 use Rattle.collision.proofs.b2_collision.b2_clip_segment_to_line.Goals as goal
 
 pub returns-then-clip_in_range : goal.returns-then-clip_in_range

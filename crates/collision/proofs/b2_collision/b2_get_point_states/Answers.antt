@@ -1,10 +1,7 @@
 -- `b2_get_point_states` meets its contract: 7, or the states. Assumes nothing.
-use mathlib.Core.Path.{sym, ◌∙◌}
-use lib.ListN.{length-map}
 use borrow.Author.Tests.{lt-ltb, le-ltb}
 use Rattle.collision.proofs.States.{ids_of_two}
 use Rattle.contact_definitions.specs.PointStates.{b2_get_point_states}
-use borrow.Author.Rules.{rules}
 use Rattle.collision.proofs.b2_collision.b2_get_point_states.Goals as goal
 
 pub returns-then-count1-gt-B2_MAX_MANIFOLD_POINTS : goal.returns-then-count1-gt-B2_MAX_MANIFOLD_POINTS
@@ -26,8 +23,8 @@ returns c =
       c.states_of_ids-states.ensures,
       c.counted_ids.ensures,
       c.counted_ids-2.ensures,
-      ids_of_two m1 (sym (length-map m1.points _) ∙ c.well_formed.1.0.1.1.0.1.0.1)
+      ids_of_two m1 c.well_formed.1.0.1.1.0.1.0.1
           c.if-count1-gt-B2_MAX_MANIFOLD_POINTS.false,
-      ids_of_two m2 (sym (length-map m2.points _) ∙ c.well_formed.1.1.0.1.1.0.1.0.1)
+      ids_of_two m2 c.well_formed.1.1.0.1.1.0.1.0.1
           c.if-count2-gt-B2_MAX_MANIFOLD_POINTS.false,
     )

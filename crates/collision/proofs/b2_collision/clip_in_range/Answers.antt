@@ -1,6 +1,5 @@
 -- Both ends, the normal and the offset. Assumes nothing.
 use Rattle.collision.proofs.Clips.{ends_in_range}
-use borrow.Author.Rules.{rules}
 use Rattle.collision.proofs.b2_collision.clip_in_range.Goals as goal
 
 pub returns : goal.returns

@@ -1,6 +1,5 @@
 -- By the count and by whether the id is among the others. Assumes nothing.
 use Rattle.collision.proofs.States.{no_first_state, first_state_is}
-use borrow.Author.Rules.{rules}
 use Rattle.collision.proofs.b2_collision.first_state.Goals as goal
 
 pub returns-then-mine-eq0 : goal.returns-then-mine-eq0

@@ -1,6 +1,5 @@
 -- By how many the others are. Assumes nothing.
 use Rattle.collision.proofs.States.{among_none, among_one, among_two}
-use borrow.Author.Rules.{rules}
 use Rattle.collision.proofs.b2_collision.id_among.Goals as goal
 
 pub returns-then-count-eq0 : goal.returns-then-count-eq0

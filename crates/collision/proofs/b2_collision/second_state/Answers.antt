@@ -1,6 +1,5 @@
 -- By the count and by whether the id is among the others. Assumes nothing.
 use Rattle.collision.proofs.States.{no_second_state, second_of_one, second_state_is}
-use borrow.Author.Rules.{rules}
 use Rattle.collision.proofs.b2_collision.second_state.Goals as goal
 
 pub returns-then-count-eq0 : goal.returns-then-count-eq0

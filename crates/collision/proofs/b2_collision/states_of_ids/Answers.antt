@@ -1,6 +1,5 @@
 -- The four states. Assumes nothing.
 use Rattle.contact_definitions.specs.PointStates.{states_of_ids}
-use borrow.Author.Rules.{rules}
 use Rattle.collision.proofs.b2_collision.states_of_ids.Goals as goal
 
 pub returns : goal.returns

@@ -2,10 +2,7 @@
 use mathlib.Core.Path.{sym}
 use borrow.Author.Tests.{lt-ltb, le-ltb, eq-eqb, ne_eqb}
 use Rattle.contact_definitions.specs.WorldManifold.{b2_world_manifold_initialize}
-use borrow.Author.Rules.{rules}
 use Rattle.collision.proofs.b2_world_manifold.b2_world_manifold_initialize_core.Goals as goal
-
-}
 
 pub returns-then-count-gt-B2_MAX_MANIFOLD_POINTS : goal.returns-then-count-gt-B2_MAX_MANIFOLD_POINTS
 unfolding b2_world_manifold_initialize

@@ -1,13 +1,10 @@
 -- All but the second point, then that one. Assumes nothing.
-use lib.ListN.{length-map}
-use borrow.Author.Tests.{not-true, not-false}
 use Rattle.collision.proofs.WorldRanges.{numbers_out, one_in, second_decides}
-use borrow.Author.Rules.{rules}
 use Rattle.collision.proofs.b2_world_manifold.numbers_in_range.Goals as goal
 
 pub returns-then-not-normal-point : goal.returns-then-not-normal-point
 returns-then-not-normal-point c =
-    let size = simp length-map at c.well_formed.0.1.1.0.1.0.1 in
+    let size = c.well_formed.0.1.1.0.1.0.1 in
     numbers_out c.args.m _ size c.requires.0 c.requires.1 _ _ _ _ _ _ _
     c.local_normal_in_range-normal.ensures c.contact_point_in_range-point.ensures
     c.contact_point_in_range-first.ensures c.radius_in_range-a_in.ensures c.radius_in_range-b_in.ensures
@@ -15,7 +12,7 @@ returns-then-not-normal-point c =
 
 pub returns-then-m-eq1 : goal.returns-then-m-eq1
 returns-then-m-eq1 c =
-    let size = simp length-map at c.well_formed.0.1.1.0.1.0.1 in
+    let size = c.well_formed.0.1.1.0.1.0.1 in
     one_in c.args.m _ size c.requires.0 c.requires.1 _ _ _ _ _ _ _
     c.local_normal_in_range-normal.ensures c.contact_point_in_range-point.ensures
     c.contact_point_in_range-first.ensures c.radius_in_range-a_in.ensures c.radius_in_range-b_in.ensures
@@ -23,7 +20,7 @@ returns-then-m-eq1 c =
 
 pub returns : goal.returns
 returns c =
-    let size = simp length-map at c.well_formed.0.1.1.0.1.0.1 in
+    let size = c.well_formed.0.1.1.0.1.0.1 in
     second_decides c.args.m _ size c.requires.0 c.requires.1 _ _ _ _ _ _ _
     c.local_normal_in_range-normal.ensures c.contact_point_in_range-point.ensures
     c.contact_point_in_range-first.ensures c.radius_in_range-a_in.ensures c.radius_in_range-b_in.ensures _ _

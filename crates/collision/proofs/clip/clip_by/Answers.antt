@@ -3,7 +3,6 @@ use mathlib.Core.Path.{refl}
 use Rattle.contact_definitions.proofs.Clipping.{both_left, first_and_crossing, first_left, second_and_crossing}
 use Rattle.contact_definitions.proofs.Clipping.{second_left, none_left}
 use Rattle.collision.proofs.Clips.{two_left, one_left, nothing_left}
-use borrow.Author.Rules.{rules}
 use Rattle.collision.proofs.clip.clip_by.Goals as goal
 
 pub returns-then-d1 : goal.returns-then-d1

@@ -1,6 +1,5 @@
 -- The dot product less the offset. Assumes nothing.
 use Rattle.contact_definitions.specs.Clip.{clip_distance}
-use borrow.Author.Rules.{rules}
 use Rattle.collision.proofs.clip.clip_distance.Goals as goal
 
 pub returns : goal.returns

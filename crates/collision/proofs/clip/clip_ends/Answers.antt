@@ -1,6 +1,5 @@
 -- From the distances of both ends. Assumes nothing.
 use Rattle.collision.proofs.Clips.{clipped_of}
-use borrow.Author.Rules.{rules}
 use Rattle.collision.proofs.clip.clip_ends.Goals as goal
 
 pub returns : goal.returns

@@ -1,6 +1,5 @@
 -- By what the first clip leaves. Assumes nothing.
 use Rattle.collision.proofs.Clips.{none_after, clipped_again}
-use borrow.Author.Rules.{rules}
 use Rattle.collision.proofs.clip.clip_to_sides.Goals as goal
 
 pub returns-then-first-lt2 : goal.returns-then-first-lt2

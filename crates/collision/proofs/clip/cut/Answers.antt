@@ -1,6 +1,5 @@
 -- The crossing and its features. Assumes nothing.
 use Rattle.contact_definitions.specs.Clip.{crossing}
-use borrow.Author.Rules.{rules}
 use Rattle.collision.proofs.clip.cut.Goals as goal
 
 pub returns : goal.returns

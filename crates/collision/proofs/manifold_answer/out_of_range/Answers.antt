@@ -1,5 +1,4 @@
 -- 2 or 6. Assumes nothing.
-use borrow.Author.Rules.{rules}
 use Rattle.collision.proofs.manifold_answer.out_of_range.Goals as goal
 
 pub returns-then-shapes : goal.returns-then-shapes

@@ -1,5 +1,4 @@
 -- The numbers of both types. Assumes nothing.
-use borrow.Author.Rules.{rules}
 use Rattle.collision.proofs.manifolds.contact_id.Goals as goal
 
 pub returns : goal.returns

@@ -1,5 +1,4 @@
 -- By the flag. Assumes nothing.
-use borrow.Author.Rules.{rules}
 use Rattle.collision.proofs.manifolds.flipped.Goals as goal
 
 pub returns-then-flip : goal.returns-then-flip

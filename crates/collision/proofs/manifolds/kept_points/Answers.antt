@@ -2,7 +2,6 @@
 use Rattle.contact_definitions.specs.Manifold.{default_point}
 use Rattle.collision.specs.KeptPoints.{point_at_end}
 use Rattle.collision.proofs.KeptEnds.{both_near, first_near, second_near, none_near}
-use borrow.Author.Rules.{rules}
 use Rattle.collision.proofs.manifolds.kept_points.Goals as goal
 
 pub returns-then-near1 : goal.returns-then-near1
@@ -12,7 +11,7 @@ returns-then-near1 c =
     let if1 = c.if-near0 in
     let args = c.args in
     let good = c.well_formed in
-    both_near point_at_end args.t1 _ good.0.1.0.1 args.near0
+    both_near point_at_end args.old _ good.0.1.0.1 args.near0
     args.near1
     args.e0 args.e1 if1.true if2.true _ _ at_end'.ensures c.point_at_end-then-near1.ensures
 
@@ -22,7 +21,7 @@ returns-then-near0 c =
     let if1 = c.if-near0 in
     let args = c.args in
     let good = c.well_formed in
-    first_near point_at_end args.t1 _ good.0.1.0.1 args.near0
+    first_near point_at_end args.old _ good.0.1.0.1 args.near0
     args.near1
     args.e0 args.e1 if1.true if2.false _ c.point_at_end-then-near0.ensures
 
@@ -32,7 +31,7 @@ returns-then-near1-2 c =
     let if1 = c.if-near0 in
     let args = c.args in
     let good = c.well_formed in
-    second_near point_at_end args.t1 _ good.0.1.0.1 args.near0
+    second_near point_at_end args.old _ good.0.1.0.1 args.near0
     args.near1
     args.e0 args.e1 if1.false if3.true _ c.point_at_end-then-near1-2.ensures
 
@@ -41,6 +40,6 @@ returns c =
     let if1 = c.if-near0 in
     let args = c.args in
     let good = c.well_formed in
-    none_near point_at_end args.t1 default_point good.0.1.0.1
+    none_near point_at_end args.old default_point good.0.1.0.1
     args.near0 args.near1
     args.e0 args.e1 if1.false c.if-near1-2.false

@@ -1,6 +1,5 @@
 -- The kind is its own. Assumes nothing.
 use Rattle.contact_definitions.specs.Manifold.{with_count, with_kind}
-use borrow.Author.Rules.{rules}
 use Rattle.collision.proofs.manifolds.no_points.Goals as goal
 
 pub returns : goal.returns

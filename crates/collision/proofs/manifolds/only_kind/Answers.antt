@@ -1,5 +1,4 @@
 -- The kind by the flag. Assumes nothing.
-use borrow.Author.Rules.{rules}
 use Rattle.collision.proofs.manifolds.only_kind.Goals as goal
 
 pub returns : goal.returns

@@ -1,5 +1,4 @@
 -- The end's place and id over the old point. Assumes nothing.
-use borrow.Author.Rules.{rules}
 use Rattle.collision.proofs.manifolds.point_at_end.Goals as goal
 
 pub returns : goal.returns

@@ -1,7 +1,6 @@
 -- Radii and centres of both. Assumes nothing.
 use Rattle.shape_definitions.specs.Circle.{circle_in_range}
 use Rattle.collision.proofs.PairTests.{heads}
-use borrow.Author.Rules.{rules}
 use Rattle.collision.proofs.pair_ranges.circles_in_range.Goals as goal
 
 pub returns : goal.returns

@@ -1,6 +1,5 @@
 -- Radii, the wall's ends and the place, then the wall's ghost points. Assumes nothing.
 use Rattle.collision.proofs.PairTests.{ghosts_count, ghosts_pass, wall_fails, wall_holds}
-use borrow.Author.Rules.{rules}
 use Rattle.collision.proofs.pair_ranges.edge_and_head_in_range.Goals as goal
 
 pub returns-then-not-radii-ends : goal.returns-then-not-radii-ends

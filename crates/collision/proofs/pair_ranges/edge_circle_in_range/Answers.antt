@@ -1,7 +1,6 @@
 -- A circle is a radius and a place. Assumes nothing.
 use Rattle.floats.specs.Ranges.{point_in_range, coordinate_in_range}
 use Rattle.shape_definitions.specs.Circle.{circle_in_range}
-use borrow.Author.Rules.{rules}
 use Rattle.collision.proofs.pair_ranges.edge_circle_in_range.Goals as goal
 
 pub returns : goal.returns

@@ -1,6 +1,5 @@
 -- The wall and what heads the outline, then the outline's points. Assumes nothing.
 use Rattle.collision.proofs.PairTests.{by_wall_fails, by_wall_holds}
-use borrow.Author.Rules.{rules}
 use Rattle.collision.proofs.pair_ranges.edge_polygon_in_range.Goals as goal
 
 pub returns-then-not-edge_and_head_in_range : goal.returns-then-not-edge_and_head_in_range

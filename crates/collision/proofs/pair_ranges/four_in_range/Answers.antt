@@ -1,7 +1,6 @@
 -- All four numbers. Assumes nothing.
 use mathlib.Core.Path.{ap₂}
 use mathlib.Core.Bool.{◌&&◌}
-use borrow.Author.Rules.{rules}
 use Rattle.collision.proofs.pair_ranges.four_in_range.Goals as goal
 
 pub returns : goal.returns

@@ -1,7 +1,6 @@
 -- Both placements. Assumes nothing.
 use mathlib.Core.Path.{ap₂}
 use mathlib.Core.Bool.{◌&&◌}
-use borrow.Author.Rules.{rules}
 use Rattle.collision.proofs.pair_ranges.placements_in_range.Goals as goal
 
 pub returns : goal.returns

@@ -3,7 +3,6 @@ use mathlib.Core.Path.{sym, ◌∙◌, ap₂}
 use mathlib.Core.Bool.{◌&&◌}
 use Rattle.floats.specs.Ranges.{point_in_range, normal_in_range}
 use Rattle.collision.proofs.PairTests.{first_decide, all_decide}
-use borrow.Author.Rules.{rules}
 use Rattle.collision.proofs.pair_ranges.points_by_circle.Goals as goal
 
 pub returns-then-count-le4 : goal.returns-then-count-le4

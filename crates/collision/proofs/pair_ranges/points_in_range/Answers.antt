@@ -2,7 +2,6 @@
 use mathlib.Core.Path.{◌∙◌}
 use Rattle.floats.specs.Ranges.{point_in_range, normal_in_range}
 use Rattle.shape_ranges.proofs.InTurn.{first_fails, first_holds}
-use borrow.Author.Rules.{rules}
 use Rattle.collision.proofs.pair_ranges.points_in_range.Goals as goal
 
 pub returns-then-not-counted_within : goal.returns-then-not-counted_within

@@ -4,7 +4,6 @@ use mathlib.Core.Bool.{◌&&◌, and-eq-true_iff}
 use native.Mathlib.Omega.{arith}
 use Rattle.floats.specs.Ranges.{point_in_range, normal_in_range}
 use Rattle.collision.proofs.PairTests.{first_decide, all_decide}
-use borrow.Author.Rules.{rules}
 use Rattle.collision.proofs.pair_ranges.points_of_both.Goals as goal
 
 pub returns-then-greater_count-le4 : goal.returns-then-greater_count-le4

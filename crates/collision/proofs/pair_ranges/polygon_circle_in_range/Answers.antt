@@ -1,6 +1,5 @@
 -- Radii and centres of both, then the outline's points. Assumes nothing.
 use Rattle.collision.proofs.PairTests.{with_circle_fails, with_circle_holds}
-use borrow.Author.Rules.{rules}
 use Rattle.collision.proofs.pair_ranges.polygon_circle_in_range.Goals as goal
 
 pub returns-then-not-radii-centres : goal.returns-then-not-radii-centres

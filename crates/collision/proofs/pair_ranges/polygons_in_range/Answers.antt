@@ -1,6 +1,5 @@
 -- Radii and centroids of both, then the points of both. Assumes nothing.
 use Rattle.collision.proofs.PairTests.{both_fail, both_hold}
-use borrow.Author.Rules.{rules}
 use Rattle.collision.proofs.pair_ranges.polygons_in_range.Goals as goal
 
 pub returns-then-not-radii-centres : goal.returns-then-not-radii-centres

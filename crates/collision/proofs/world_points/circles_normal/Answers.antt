@@ -8,7 +8,6 @@ use Rattle.floats.specs.B2Math.{b2_sub, b2_dot, b2_sqrt, b2_length_squared, b2_d
 use Rattle.floats.proofs.Turned.{long_is}
 use Rattle.contact_definitions.specs.WorldManifold.{circles_normal}
 use Rattle.collision.proofs.Distance.{distance_from_either}
-use borrow.Author.Rules.{rules}
 use Rattle.collision.proofs.world_points.circles_normal.Goals as goal
 
 module _ (a b d : B2vec2) (q : Float) (d_is : d ≡ b2_sub b a) (q_is : q ≡ b2_dot d d) where

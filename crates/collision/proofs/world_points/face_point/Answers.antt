@@ -1,6 +1,5 @@
 -- The two surfaces, their middle and their separation. Assumes nothing.
 use Rattle.contact_definitions.specs.WorldManifold.{on_face, on_other, plane_middle, plane_separation}
-use borrow.Author.Rules.{rules}
 use Rattle.collision.proofs.world_points.face_point.Goals as goal
 
 pub returns : goal.returns

@@ -1,16 +1,14 @@
 -- The first point over its place, the second by the count; the normal turned round. Assumes nothing.
 use mathlib.Core.Bool.{true}
-use lib.ListN.{length-map}
 use Rattle.collision.proofs.WorldOfFaces.{face_is}
-use borrow.Author.Rules.{rules}
 use Rattle.collision.proofs.world_points.world_of_face_b.Goals as goal
 
 pub returns : goal.returns
 returns c =
     let good = c.well_formed in
-    let m_two = simp length-map at good.1.0.1.1.0.1.0.1 in
-    let points_two = simp length-map at good.0.1.1.1.0.1.0.1 in
-    let separations_two = simp length-map at good.0.1.1.1.1.0.1.0.1 in
+    let m_two = good.1.0.1.1.0.1.0.1 in
+    let points_two = good.0.1.1.1.0.1.0.1 in
+    let separations_two = good.0.1.1.1.1.0.1.0.1 in
     face_is true c.args.old c.args.m _ _ _ _ _ m_two points_two separations_two c.requires.0
     c.requires.1 _ _ _ _ _ _ c.b2_mul_rot_by_vec2-normal.ensures c.b2_mul_transform_by_vec2-plane.ensures
     c.b2_mul_transform_by_vec2-carried.ensures c.face_point-first.ensures c.second_point-second.ensures
