@@ -6,4 +6,3 @@ pub mod Facing
 pub mod Built
 pub mod Sides
 pub mod EightPlaces
-pub mod Calls

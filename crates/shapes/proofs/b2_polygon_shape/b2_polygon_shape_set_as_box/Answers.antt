@@ -1,24 +1,21 @@
 -- Both half-widths are in range, or not. Assumes nothing.
 use mathlib.Core.Path.{◌∙◌}
 use mathlib.Core.Bool.{◌&&◌}
-use borrow.Author.Tests.{not-true, not-false}
 use Rattle.floats.specs.Ranges.{coordinate_in_range}
 use Rattle.shape_definitions.specs.Refusal.{shape_out_of_range}
 use Rattle.shape_definitions.specs.Outline.{origin}
 use Rattle.shape_definitions.specs.Polygon.{refused}
 use Rattle.shape_definitions.specs.Boxes.{box_corners, box_normals, box_with, b2_polygon_shape_set_as_box}
 use Rattle.algebra.proofs.Booleans.{chosen, unchosen}
-use borrow.Author.Rules.{rules}
 use Rattle.shapes.proofs.b2_polygon_shape.b2_polygon_shape_set_as_box.Goals as goal
 
 pub returns-then-not-hx_in-hy_in : goal.returns-then-not-hx_in-hy_in
 unfolding b2_polygon_shape_set_as_box
-returns-then-not-hx_in-hy_in r =
+returns-then-not-hx_in-hy_in c =
     let args = c.args in
     let both = c.coordinate_in_range-hx_in.result && c.coordinate_in_range-hy_in.result in
     c.refused.ensures
-    ∙ unchosen (coordinate_in_range args.hx && coordinate_in_range args.hy) both _ _ (not-true both
-    c.if-not-hx_in-hy_in.true)
+    ∙ unchosen (coordinate_in_range args.hx && coordinate_in_range args.hy) both _ _ c.if-not-hx_in-hy_in.true
     (simp (c.coordinate_in_range-hy_in.ensures, c.coordinate_in_range-hx_in.ensures))
 
 pub returns : goal.returns
@@ -29,5 +26,5 @@ returns c =
     simp (c.put_four-ns.ensures, c.put_four-vs.ensures)
     (chosen (coordinate_in_range args.hx && coordinate_in_range args.hy) both
     (box_with args.old origin (box_corners args.hx args.hy) box_normals)
-    (refused shape_out_of_range args.old) (not-false both c.if-not-hx_in-hy_in.false)
+    (refused shape_out_of_range args.old) c.if-not-hx_in-hy_in.false
     (simp (c.coordinate_in_range-hy_in.ensures, c.coordinate_in_range-hx_in.ensures)))

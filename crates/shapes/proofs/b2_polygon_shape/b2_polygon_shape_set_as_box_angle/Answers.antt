@@ -1,5 +1,5 @@
 -- The shape numbers are in range, or not; then sine and cosine. Assumes nothing.
-use mathlib.Core.Path.{◌≡◌, ◌∙◌}
+use mathlib.Core.Path.{◌≡◌, ◌∙◌, ap}
 use mathlib.Core.Bool.{Bool, false, not, ◌&&◌}
 use mathlib.Core.List.{map}
 use lib.Ieee.{Float}
@@ -12,10 +12,7 @@ use Rattle.shape_definitions.specs.Refusal.{shape_out_of_range, placement_out_of
 use Rattle.shape_definitions.specs.Polygon.{refused}
 use Rattle.shape_definitions.specs.Boxes.{box_corners, box_normals, box_with, b2_polygon_shape_set_as_box_angle}
 use Rattle.algebra.proofs.Booleans.{chosen, unchosen}
-use borrow.Author.Rules.{rules}
 use Rattle.shapes.proofs.b2_polygon_shape.b2_polygon_shape_set_as_box_angle.Goals as goal
-
-}
 
 -- ---- both tests passed: outside and turned-too-far are their answers
 box_built : (old : B2polygonShape) (hx hy : Float) (center : B2vec2) (q : B2Rot) (outside turned_too_far : Bool)
@@ -32,11 +29,11 @@ box_built old hx hy center q outside turned_too_far inside outside_is turned tur
 
 pub returns-then-not-hx_in-hy_in : goal.returns-then-not-hx_in-hy_in
 unfolding b2_polygon_shape_set_as_box_angle
-returns-then-not-hx_in-hy_in r =
+returns-then-not-hx_in-hy_in c =
     let args = c.args in
     c.refused.ensures
     ∙ chosen (not (coordinate_in_range args.hx && coordinate_in_range args.hy && point_in_range args.center)) _
-    _ _ c.if-not-hx_in-hy_in.true
+    _ _ (ap not c.if-not-hx_in-hy_in.true)
     (simp (
       c.point_in_range-center_in.ensures,
       c.coordinate_in_range-hy_in.ensures,
@@ -45,13 +42,13 @@ returns-then-not-hx_in-hy_in r =
 
 pub returns-then-not-rotation_in_range : goal.returns-then-not-rotation_in_range
 unfolding b2_polygon_shape_set_as_box_angle
-returns-then-not-rotation_in_range r =
+returns-then-not-rotation_in_range c =
     let args = c.args in
     c.refused-then-not-rotation_in_range.ensures
-    ∙ chosen (not (rotation_in_range args.q)) _ _ _ c.if-not-rotation_in_range.true (simp c.rotation_in_range.ensures)
+    ∙ chosen (not (rotation_in_range args.q)) _ _ _ (ap not c.if-not-rotation_in_range.true) (simp c.rotation_in_range.ensures)
     ∙ unchosen (not (coordinate_in_range args.hx && coordinate_in_range args.hy
     && point_in_range args.center)) _ _ _
-    c.if-not-hx_in-hy_in.false
+    (ap not c.if-not-hx_in-hy_in.false)
     (simp (
       c.point_in_range-center_in.ensures,
       c.coordinate_in_range-hy_in.ensures,
@@ -74,10 +71,10 @@ returns c =
       c.b2_mul_transform_by_vec2-2.ensures,
       c.b2_mul_transform_by_vec2.ensures,
     )
-    (box_built args.old args.hx args.hy args.center args.q _ _ c.if-not-hx_in-hy_in.false
+    (box_built args.old args.hx args.hy args.center args.q _ _ (ap not c.if-not-hx_in-hy_in.false)
     (simp (
       c.point_in_range-center_in.ensures,
       c.coordinate_in_range-hy_in.ensures,
       c.coordinate_in_range-hx_in.ensures,
     ))
-    c.if-not-rotation_in_range.false (simp c.rotation_in_range.ensures))
+    (ap not c.if-not-rotation_in_range.false) (simp c.rotation_in_range.ensures))

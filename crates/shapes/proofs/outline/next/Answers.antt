@@ -1,7 +1,6 @@
 -- What the scan keeps from here, seen from the corner, is what it keeps of all places; r leads to the candidate.
 -- Assumes nothing.
 use mathlib.Core.Path.{◌≡◌, ◌∙◌, ap}
-use mathlib.Core.Logic.{⊎_elim}
 use Prim.Native.Nat.{◌≤◌, ◌<◌, ◌-◌}
 use native.Mathlib.Omega.{arith}
 use lib.ListN.{take}
@@ -12,8 +11,8 @@ use Rattle.shape_definitions.specs.Outline.{point_at, replaces, next}
 use Rattle.shapes.specs.Coordinates.{points_in, EightPoints}
 use Rattle.shapes.proofs.Tests.{replaces_by, replaces_first, scanned_next, scanned_from_one}
 use Rattle.algebra.proofs.Booleans.{chosen, unchosen}
-use borrow.Author.Rules.{rules}
 use Rattle.shapes.proofs.outline.next.Goals as goal
+use Rattle.shapes.proofs.outline.next.Goals.{then-replaced, else-replaced}
 
 pub at-corner-requires : goal.at-corner-requires
 at-corner-requires c = (omega arith, c.requires.2)
@@ -52,8 +51,7 @@ loop-j-preserved c =
     let v_is = c.b2_sub-v.ensures ∙ ap (λ p. b2_sub p corner) c.at-in-loop-j.ensures in
     let test_is = replaces_by ps ih ie j corner _ _ _ inv.5 inv.6 v_is c.replaced.ensures in
     let same = replaces_first ps n ih ie j (omega arith) (omega arith) (omega arith) in
-    ⊎_elim
-    (λ w. rw (w.1, w.2) (
+    elim c.if-replaced.branch [ then-replaced w ↦ rw (w.ie-is, w.r-is) (
       omega arith,
       omega arith,
       omega arith,
@@ -61,10 +59,10 @@ loop-j-preserved c =
       inv.4,
       inv.5,
       v_is,
-      scanned_next (replaces ps ih ie j) j ie j n (chosen _ _ j ie w.0.taken test_is) (omega arith)
+      scanned_next (replaces ps ih ie j) j ie j n (chosen _ _ j ie w.if-replaced.true test_is) (omega arith)
           (replaces (take n ps) ih) _ same inv.7,
-    ))
-    (λ w. rw (w.1, w.2) (
+    )
+    | else-replaced w ↦ rw (w.ie-is, w.r-is) (
       omega arith,
       omega arith,
       omega arith,
@@ -72,10 +70,9 @@ loop-j-preserved c =
       inv.4,
       inv.5,
       inv.6,
-      scanned_next (replaces ps ih ie j) ie ie j n (unchosen _ _ j ie w.0.left test_is) (omega arith)
+      scanned_next (replaces ps ih ie j) ie ie j n (unchosen _ _ j ie w.if-replaced.false test_is) (omega arith)
           (replaces (take n ps) ih) _ same inv.7,
-    ))
-    c.if-replaced.branch
+    ) ]
 
 pub returns : goal.returns
 returns c =

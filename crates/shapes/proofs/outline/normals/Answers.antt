@@ -12,31 +12,9 @@ use Rattle.floats.specs.B2Common.{epsilon_squared}
 use Rattle.shape_definitions.specs.Outline.{point_at}
 use Rattle.shapes.specs.Coordinates.{points_in, EightPoints}
 use Rattle.shapes.proofs.CoordinatePoints.{eight_stored}
-use Rattle.shapes.proofs.Around.{edge_of_corners, following}
+use Rattle.shapes.proofs.Around.{edge_of_corners}
 use Rattle.shapes.proofs.Facing.{Facing, facing_starts, facing_next, facing_short, facing_ended}
-use borrow.Author.Rules.{rules}
 use Rattle.shapes.proofs.outline.normals.Goals as goal
-
--- ---- the loop in which an edge was taken, its corners, and the edge among theirs
-abbrev loop_of : goal.After-b2_sub-edge invariant_loop decreases_loop → goal.At-loop-i invariant_loop decreases_loop
-loop_of edge = edge.before.before.before.before.before
-
-abbrev corners : goal.At-loop-i invariant_loop decreases_loop → List B2vec2
-corners loop = take loop.before.args.m (points_in loop.before.args.vs.now)
-
-corners_count : (loop : goal.At-loop-i invariant_loop decreases_loop) → length (corners loop) ≡ c.args.m
-corners_count loop = let eight = c.loop-i.invariant.2 in length-take-le c.args.m
-    (points_in c.args.vs.now) (omega arith)
-
-edge_is : (edge : goal.After-b2_sub-edge invariant_loop decreases_loop)
-    → c.b2_sub-edge.result ≡ b2_sub (following (corners (loop_of edge)) (loop_of edge).loop.i)
-    (point_at (corners (loop_of edge)) (loop_of edge).loop.i)
-edge_is edge =
-    let loop = loop_of edge in
-    let eight = loop.loop.inv.2 in
-    edge_of_corners (points_in loop.before.args.vs.now) loop.before.args.m loop.loop.i (omega arith)
-    (omega arith) _ c.after.ensures.0
-    c.after.ensures.1 _ _ _ c.at.ensures c.at-in-loop-i.ensures c.b2_sub-edge.ensures
 
 pub loop-i-init : goal.loop-i-init
 loop-i-init c =
@@ -61,32 +39,44 @@ put-requires c = (
 
 pub returns-else-squared : goal.returns-else-squared
 returns-else-squared c =
-    let loop = loop_of edge in
-    let inv = loop.loop.inv in
-    let count = corners_count loop in (
+    let vs = points_in c.args.vs.now in
+    let m = c.args.m in
+    let i = c.loop-i.i in
+    let inv = c.loop-i.invariant in
+    let eight = inv.2 in
+    let count = length-take-le m vs (omega arith) in
+    let edge_is = edge_of_corners vs m i (omega arith) (omega arith) _ c.after.ensures.0 c.after.ensures.1 _ _ _
+        c.at.ensures c.at-in-loop-i.ensures c.b2_sub-edge.ensures in (
       inv.4,
-      facing_short (corners loop) _ _ loop.loop.i _ inv.5 (omega arith) (edge_is edge) _
+      facing_short (take m vs) _ _ i _ inv.5 (omega arith) edge_is _
           (ap (lt epsilon_squared) (sym c.b2_length_squared-squared.ensures) ∙ c.if-squared.false),
     )
 
 pub loop-i-preserved : goal.loop-i-preserved
 loop-i-preserved c =
-    let loop = loop_of edge in
-    let i = loop.loop.i in
-    let inv = loop.loop.inv in
-    let count = corners_count loop in (
+    let vs = points_in c.args.vs.now in
+    let m = c.args.m in
+    let i = c.loop-i.i in
+    let inv = c.loop-i.invariant in
+    let eight = inv.2 in
+    let count = length-take-le m vs (omega arith) in
+    let edge_is = edge_of_corners vs m i (omega arith) (omega arith) _ c.after.ensures.0 c.after.ensures.1 _ _ _
+        c.at.ensures c.at-in-loop-i.ensures c.b2_sub-edge.ensures in (
       omega arith,
       omega arith,
       inv.2,
       inv.3,
-      eight_stored loop.loop.ns _ i _ inv.4 c.put.ensures,
-      subst (Facing (corners loop) _ (i + 1)) (sym c.put.ensures)
-          (facing_next (corners loop) _ _ i _ inv.5 (omega arith) (edge_is edge) _ (omega (arith, inv.3))
+      eight_stored c.loop-i.ns _ i _ inv.4 c.put.ensures,
+      subst (Facing (take m vs) _ (i + 1)) (sym c.put.ensures)
+          (facing_next (take m vs) _ _ i _ inv.5 (omega arith) edge_is _ (omega (arith, inv.3))
           c.normal_of_edge.ensures
           (ap (lt epsilon_squared) (sym c.b2_length_squared-squared.ensures) ∙ c.if-squared.true)),
     )
 
 pub returns : goal.returns
 returns c =
-    let count = corners_count loop in
-    (c.loop-i.invariant.4, facing_ended (corners loop) _ _ c.loop-i.i c.loop-i.invariant.5 (omega arith))
+    let vs = points_in c.args.vs.now in
+    let m = c.args.m in
+    let eight = c.loop-i.invariant.2 in
+    let count = length-take-le m vs (omega arith) in
+    (c.loop-i.invariant.4, facing_ended (take m vs) _ _ c.loop-i.i c.loop-i.invariant.5 (omega arith))

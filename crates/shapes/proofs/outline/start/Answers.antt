@@ -1,6 +1,5 @@
 -- What the scan keeps from here is what it keeps of all places; best is the point kept. Assumes nothing.
 use mathlib.Core.Path.{◌≡◌, ◌∙◌, ap₂}
-use mathlib.Core.Logic.{⊎_elim}
 use Prim.Native.Nat.{◌≤◌, ◌<◌, ◌-◌}
 use native.Mathlib.Omega.{arith}
 use lib.ListN.{take}
@@ -10,8 +9,8 @@ use Rattle.shape_definitions.specs.Outline.{point_at, comes_before, earlier, sta
 use Rattle.shapes.specs.Coordinates.{points_in, EightPoints}
 use Rattle.shapes.proofs.Tests.{earlier_first, scanned_next, scanned_from_one}
 use Rattle.algebra.proofs.Booleans.{chosen, unchosen}
-use borrow.Author.Rules.{rules}
 use Rattle.shapes.proofs.outline.start.Goals as goal
+use Rattle.shapes.proofs.outline.start.Goals.{then-comes_before, else-comes_before}
 
 pub at-best-requires : goal.at-best-requires
 at-best-requires c = (omega arith, c.requires.2)
@@ -36,26 +35,24 @@ loop-i-preserved c =
     let inv = c.loop-i.invariant in
     let test_is = c.comes_before.ensures ∙ ap₂ comes_before inv.4 c.at-p.ensures in
     let same = earlier_first ps n i0 i (omega arith) (omega arith) in
-    ⊎_elim
-    (λ w. rw (w.1, w.2) (
+    elim c.if-comes_before.branch [ then-comes_before w ↦ rw (w.i0-is, w.best-is) (
       omega arith,
       omega arith,
       omega arith,
       inv.3,
       c.at-p.ensures,
-      scanned_next (earlier ps i0 i) i i0 i n (chosen _ _ i i0 w.0.taken test_is) (omega arith)
+      scanned_next (earlier ps i0 i) i i0 i n (chosen _ _ i i0 w.if-comes_before.true test_is) (omega arith)
           (earlier (take n ps)) _ same inv.5,
-    ))
-    (λ w. rw (w.1, w.2) (
+    )
+    | else-comes_before w ↦ rw (w.i0-is, w.best-is) (
       omega arith,
       omega arith,
       omega arith,
       inv.3,
       inv.4,
-      scanned_next (earlier ps i0 i) i0 i0 i n (unchosen _ _ i i0 w.0.left test_is) (omega arith)
+      scanned_next (earlier ps i0 i) i0 i0 i n (unchosen _ _ i i0 w.if-comes_before.false test_is) (omega arith)
           (earlier (take n ps)) _ same inv.5,
-    ))
-    c.if-comes_before.branch
+    ) ]
 
 pub returns : goal.returns
 returns c =
