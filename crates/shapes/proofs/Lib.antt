@@ -4,5 +4,6 @@ pub mod Walking
 pub mod Around
 pub mod Facing
 pub mod Built
+pub mod Known
 pub mod Sides
 pub mod EightPlaces

@@ -3,7 +3,6 @@ use mathlib.Core.Bool.{◌&&◌}
 use Rattle.floats.specs.Ranges.{point_in_range}
 use Rattle.shape_definitions.specs.Edge.{b2_set_one_sided}
 use Rattle.algebra.proofs.Booleans.{chosen, unchosen}
-use borrow.Author.Rules.{rules}
 use Rattle.shapes.proofs.b2_edge_shape.b2_set_one_sided.Goals as goal
 
 pub returns-then-in0-in1 : goal.returns-then-in0-in1

@@ -2,7 +2,6 @@
 use mathlib.Core.List.{[], ◌∷◌}
 use native.Mathlib.Omega.{arith}
 use Rattle.algebra.proofs.Buffer.{over_stores}
-use borrow.Author.Rules.{rules}
 use Rattle.shapes.proofs.b2_polygon_shape.put_four.Goals as goal
 
 pub returns : goal.returns

@@ -1,7 +1,6 @@
 -- Two reads, joined. Assumes nothing.
 use native.Mathlib.Omega.{arith}
 use Rattle.shapes.proofs.Sides.{joined_at}
-use borrow.Author.Rules.{rules}
 use Rattle.shapes.proofs.convex.corner.Goals as goal
 
 pub returns : goal.returns

@@ -1,14 +1,10 @@
 -- No face so far has a corner right of it. Assumes nothing.
-use mathlib.Core.Path.{◌≡◌, refl, sym, ◌∙◌, ap}
+use mathlib.Core.Path.{◌≡◌}
 use mathlib.Core.Bool.{true}
 use mathlib.Core.List.{zip_with}
 use Prim.Native.Nat.{◌≤◌, ◌-◌}
-use native.Mathlib.Omega.{arith}
-use lib.ListN.{length, length-map}
 use Rattle.floats.specs.B2Math.{vec2}
 use Rattle.shape_definitions.specs.Validate.{faces_convex}
-use Rattle.shapes.proofs.Sides.{faces_next, faces_failed, joined_faces}
-use borrow.Author.Rules.{rules}
 use Rattle.shapes.proofs.convex.faces_convex.Given as goal
 
 abbrev pub invariant-loop-i : goal.invariant-loop-i

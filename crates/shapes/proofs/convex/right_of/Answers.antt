@@ -1,5 +1,4 @@
 -- The sign of the cross product. Assumes nothing.
-use borrow.Author.Rules.{rules}
 use Rattle.shapes.proofs.convex.right_of.Goals as goal
 
 pub returns : goal.returns

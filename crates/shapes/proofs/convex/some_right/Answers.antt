@@ -1,12 +1,9 @@
 -- The corners below j, and no more than count, are asked so far. Assumes nothing.
-use mathlib.Core.Path.{◌≡◌, ◌∙◌, ap}
+use mathlib.Core.Path.{◌∙◌, ap}
 use mathlib.Core.Bool.{not}
 use mathlib.Core.List.{zip_with}
-use Prim.Native.Nat.{◌≤◌, ◌-◌, min}
 use native.Mathlib.Nat.{min-eq_left, min-eq_right}
 use native.Mathlib.Omega.{arith}
-use lib.ListN.{length}
-use borrow.Author.Rules.{rules}
 use Rattle.floats.specs.B2Math.{vec2}
 use Rattle.shape_definitions.specs.Validate.{corners_not_right}
 use Rattle.shapes.proofs.Sides.{corners_next, right_is}

@@ -1,11 +1,8 @@
 -- The coordinates below j are copied so far. Assumes nothing.
-use mathlib.Core.Path.{◌≡◌, refl}
-use mathlib.Core.List.{map}
-use Prim.Native.Nat.{◌≤◌, ◌-◌}
+use mathlib.Core.Path.{refl}
 use native.Mathlib.Omega.{arith}
-use lib.ListN.{length, take, length-set}
+use lib.ListN.{length-set}
 use Rattle.algebra.proofs.Lists.{mapped_next, mapped}
-use borrow.Author.Rules.{rules}
 use Rattle.shapes.proofs.convex.split_coordinates.Goals as goal
 
 pub loop-j-init : goal.loop-j-init

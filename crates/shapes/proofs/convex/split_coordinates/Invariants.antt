@@ -1,11 +1,8 @@
 -- The coordinates below j are copied so far. Assumes nothing.
-use mathlib.Core.Path.{◌≡◌, refl}
+use mathlib.Core.Path.{◌≡◌}
 use mathlib.Core.List.{map}
 use Prim.Native.Nat.{◌≤◌, ◌-◌}
-use native.Mathlib.Omega.{arith}
-use lib.ListN.{length, take, length-set}
-use Rattle.algebra.proofs.Lists.{mapped_next, mapped}
-use borrow.Author.Rules.{rules}
+use lib.ListN.{length, take}
 use Rattle.shapes.proofs.convex.split_coordinates.Given as goal
 
 abbrev pub invariant-loop-j : goal.invariant-loop-j

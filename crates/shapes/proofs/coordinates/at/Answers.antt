@@ -1,7 +1,6 @@
 -- Two reads, side by side. Assumes nothing.
 use native.Mathlib.Omega.{arith}
 use Rattle.floats.proofs.Coordinates.{point_read}
-use borrow.Author.Rules.{rules}
 use Rattle.shapes.proofs.coordinates.at.Goals as goal
 
 pub returns : goal.returns

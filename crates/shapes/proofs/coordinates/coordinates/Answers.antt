@@ -1,12 +1,11 @@
 -- The points stored so far are the first ones. Assumes nothing.
-use mathlib.Core.Path.{◌≡◌, refl, ◌∙◌, ap}
-use Prim.Native.Nat.{◌+◌, ◌-◌, ◌≤◌}
+use mathlib.Core.Path.{refl, ◌∙◌, ap}
+use Prim.Native.Nat.{◌+◌}
 use native.Mathlib.Omega.{arith}
-use lib.ListN.{length, take}
-use Rattle.shapes.specs.Coordinates.{points_in, EightPoints}
+use lib.ListN.{take}
+use Rattle.shapes.specs.Coordinates.{points_in}
 use Rattle.shapes.proofs.CoordinatePoints.{eight_stored}
 use Rattle.algebra.proofs.Lists.{copied_next, copied}
-use borrow.Author.Rules.{rules}
 use Rattle.shapes.proofs.coordinates.coordinates.Goals as goal
 
 pub loop-i-init : goal.loop-i-init

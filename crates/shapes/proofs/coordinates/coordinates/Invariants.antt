@@ -1,12 +1,8 @@
 -- The points stored so far are the first ones. Assumes nothing.
-use mathlib.Core.Path.{◌≡◌, refl, ◌∙◌, ap}
-use Prim.Native.Nat.{◌+◌, ◌-◌, ◌≤◌}
-use native.Mathlib.Omega.{arith}
+use mathlib.Core.Path.{◌≡◌}
+use Prim.Native.Nat.{◌-◌, ◌≤◌}
 use lib.ListN.{length, take}
 use Rattle.shapes.specs.Coordinates.{points_in, EightPoints}
-use Rattle.shapes.proofs.CoordinatePoints.{eight_stored}
-use Rattle.algebra.proofs.Lists.{copied_next, copied}
-use borrow.Author.Rules.{rules}
 use Rattle.shapes.proofs.coordinates.coordinates.Given as goal
 
 abbrev pub invariant-loop-i : goal.invariant-loop-i

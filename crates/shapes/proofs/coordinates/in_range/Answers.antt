@@ -1,17 +1,14 @@
 -- One of the points is out of range, or none is: the loop passes the places below i. Assumes nothing.
 use mathlib.Core.Path.{◌≡◌, refl, sym, ◌∙◌}
-use Prim.Native.Nat.{◌≤◌, ◌<◌, ◌-◌}
+use Prim.Native.Nat.{◌<◌}
 use native.Mathlib.Omega.{arith}
-use lib.ListN.{length, take, drop}
+use lib.ListN.{length, take}
 use lib.Seq.{length-take-le}
-use borrow.Author.Tests.{not-true, not-false}
 use Rattle.floats.specs.Ranges.{point_in_range}
-use Rattle.shape_definitions.specs.Polygon.{all_points}
-use Rattle.shapes.specs.Coordinates.{points_in, EightPoints}
+use Rattle.shapes.specs.Coordinates.{points_in}
 use Rattle.shapes.proofs.Tests.{at_first_place}
 use Rattle.algebra.proofs.Lists.{first_places}
 use Rattle.algebra.proofs.All.{all_failed, all_next, all_ended}
-use borrow.Author.Rules.{rules}
 use Rattle.shapes.proofs.coordinates.in_range.Goals as goal
 
 pub loop-i-init : goal.loop-i-init

@@ -1,17 +1,10 @@
 -- One of the points is out of range, or none is: the loop passes the places below i. Assumes nothing.
-use mathlib.Core.Path.{◌≡◌, refl, sym, ◌∙◌}
-use Prim.Native.Nat.{◌≤◌, ◌<◌, ◌-◌}
-use native.Mathlib.Omega.{arith}
-use lib.ListN.{length, take, drop}
-use lib.Seq.{length-take-le}
-use borrow.Author.Tests.{not-true, not-false}
+use mathlib.Core.Path.{◌≡◌}
+use Prim.Native.Nat.{◌≤◌, ◌-◌}
+use lib.ListN.{take, drop}
 use Rattle.floats.specs.Ranges.{point_in_range}
 use Rattle.shape_definitions.specs.Polygon.{all_points}
 use Rattle.shapes.specs.Coordinates.{points_in, EightPoints}
-use Rattle.shapes.proofs.Tests.{at_first_place}
-use Rattle.algebra.proofs.Lists.{first_places}
-use Rattle.algebra.proofs.All.{all_failed, all_next, all_ended}
-use borrow.Author.Rules.{rules}
 use Rattle.shapes.proofs.coordinates.in_range.Given as goal
 
 abbrev pub invariant-loop-i : goal.invariant-loop-i

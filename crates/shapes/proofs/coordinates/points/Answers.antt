@@ -1,11 +1,9 @@
 -- The points read so far are the first ones. Assumes nothing.
-use mathlib.Core.Path.{◌≡◌, refl}
-use Prim.Native.Nat.{◌≤◌, ◌-◌}
+use mathlib.Core.Path.{refl}
 use native.Mathlib.Omega.{arith}
-use lib.ListN.{length, take, length-set}
-use Rattle.shapes.specs.Coordinates.{points_in, EightPoints}
+use lib.ListN.{length-set}
+use Rattle.shapes.specs.Coordinates.{points_in}
 use Rattle.algebra.proofs.Lists.{copied_next, copied}
-use borrow.Author.Rules.{rules}
 use Rattle.shapes.proofs.coordinates.points.Goals as goal
 
 pub loop-i-init : goal.loop-i-init

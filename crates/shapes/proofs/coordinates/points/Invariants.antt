@@ -1,11 +1,8 @@
 -- The points read so far are the first ones. Assumes nothing.
-use mathlib.Core.Path.{◌≡◌, refl}
+use mathlib.Core.Path.{◌≡◌}
 use Prim.Native.Nat.{◌≤◌, ◌-◌}
-use native.Mathlib.Omega.{arith}
-use lib.ListN.{length, take, length-set}
+use lib.ListN.{length, take}
 use Rattle.shapes.specs.Coordinates.{points_in, EightPoints}
-use Rattle.algebra.proofs.Lists.{copied_next, copied}
-use borrow.Author.Rules.{rules}
 use Rattle.shapes.proofs.coordinates.points.Given as goal
 
 abbrev pub invariant-loop-i : goal.invariant-loop-i

@@ -1,7 +1,6 @@
 -- Two stores, side by side. Assumes nothing.
 use native.Mathlib.Omega.{arith}
 use Rattle.floats.proofs.Coordinates.{point_stored}
-use borrow.Author.Rules.{rules}
 use Rattle.shapes.proofs.coordinates.put.Goals as goal
 
 pub returns : goal.returns

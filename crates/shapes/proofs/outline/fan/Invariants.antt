@@ -1,15 +1,11 @@
 -- The sum so far, and the triangles that are left. Assumes nothing.
-use mathlib.Core.Path.{◌≡◌, sym, ◌∙◌}
+use mathlib.Core.Path.{◌≡◌}
 use Prim.Native.Nat.{◌≤◌, ◌-◌}
-use native.Mathlib.Omega.{arith}
-use lib.ListN.{length, take, drop}
-use lib.Seq.{length-take-le}
+use lib.ListN.{take, drop}
 use Rattle.floats.specs.B2Math.{b2_sub}
 use Rattle.shape_definitions.specs.Outline.{point_at, fan}
 use Rattle.shapes.specs.Coordinates.{points_in, EightPoints}
-use Rattle.shapes.proofs.Tests.{at_first_place}
-use Rattle.shapes.proofs.Around.{from_corner, from_following, fan_rest, fan_start, fan_next, fan_ended}
-use borrow.Author.Rules.{rules}
+use Rattle.shapes.proofs.Around.{fan_rest}
 use Rattle.shapes.proofs.outline.fan.Given as goal
 
 abbrev pub invariant-loop-i : goal.invariant-loop-i

@@ -1,14 +1,12 @@
 -- What the scan keeps from here, seen from the corner, is what it keeps of all places; r leads to the candidate.
 -- Assumes nothing.
-use mathlib.Core.Path.{◌≡◌, ◌∙◌, ap}
-use Prim.Native.Nat.{◌≤◌, ◌<◌, ◌-◌}
+use mathlib.Core.Path.{◌∙◌, ap}
 use native.Mathlib.Omega.{arith}
 use lib.ListN.{take}
-use Rattle.algebra.specs.Loops.{places, scan}
 use Rattle.algebra.proofs.Loops.{scan_ended}
 use Rattle.floats.specs.B2Math.{b2_sub}
-use Rattle.shape_definitions.specs.Outline.{point_at, replaces, next}
-use Rattle.shapes.specs.Coordinates.{points_in, EightPoints}
+use Rattle.shape_definitions.specs.Outline.{replaces, next}
+use Rattle.shapes.specs.Coordinates.{points_in}
 use Rattle.shapes.proofs.Tests.{replaces_by, replaces_first, scanned_next, scanned_from_one}
 use Rattle.algebra.proofs.Booleans.{chosen, unchosen}
 use Rattle.shapes.proofs.outline.next.Goals as goal
@@ -51,28 +49,30 @@ loop-j-preserved c =
     let v_is = c.b2_sub-v.ensures ∙ ap (λ p. b2_sub p corner) c.at-in-loop-j.ensures in
     let test_is = replaces_by ps ih ie j corner _ _ _ inv.5 inv.6 v_is c.replaced.ensures in
     let same = replaces_first ps n ih ie j (omega arith) (omega arith) (omega arith) in
-    elim c.if-replaced.branch [ then-replaced w ↦ rw (w.ie-is, w.r-is) (
-      omega arith,
-      omega arith,
-      omega arith,
-      omega arith,
-      inv.4,
-      inv.5,
-      v_is,
-      scanned_next (replaces ps ih ie j) j ie j n (chosen _ _ j ie w.if-replaced.true test_is) (omega arith)
-          (replaces (take n ps) ih) _ same inv.7,
-    )
-    | else-replaced w ↦ rw (w.ie-is, w.r-is) (
-      omega arith,
-      omega arith,
-      omega arith,
-      omega arith,
-      inv.4,
-      inv.5,
-      inv.6,
-      scanned_next (replaces ps ih ie j) ie ie j n (unchosen _ _ j ie w.if-replaced.false test_is) (omega arith)
-          (replaces (take n ps) ih) _ same inv.7,
-    ) ]
+    elim c.if-replaced.branch [
+      | then-replaced w ↦ rw (w.ie-is, w.r-is) (
+        omega arith,
+        omega arith,
+        omega arith,
+        omega arith,
+        inv.4,
+        inv.5,
+        v_is,
+        scanned_next (replaces ps ih ie j) j ie j n (chosen _ _ j ie w.if-replaced.true test_is) (omega arith)
+            (replaces (take n ps) ih) _ same inv.7,
+      )
+      | else-replaced w ↦ rw (w.ie-is, w.r-is) (
+        omega arith,
+        omega arith,
+        omega arith,
+        omega arith,
+        inv.4,
+        inv.5,
+        inv.6,
+        scanned_next (replaces ps ih ie j) ie ie j n (unchosen _ _ j ie w.if-replaced.false test_is) (omega arith)
+            (replaces (take n ps) ih) _ same inv.7,
+      )
+    ]
 
 pub returns : goal.returns
 returns c =

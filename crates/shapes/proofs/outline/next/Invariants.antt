@@ -1,18 +1,12 @@
 -- What the scan keeps from here, seen from the corner, is what it keeps of all places; r leads to the candidate.
 -- Assumes nothing.
-use mathlib.Core.Path.{◌≡◌, ◌∙◌, ap}
-use mathlib.Core.Logic.{⊎_elim}
+use mathlib.Core.Path.{◌≡◌}
 use Prim.Native.Nat.{◌≤◌, ◌<◌, ◌-◌}
-use native.Mathlib.Omega.{arith}
 use lib.ListN.{take}
 use Rattle.algebra.specs.Loops.{places, scan}
-use Rattle.algebra.proofs.Loops.{scan_ended}
 use Rattle.floats.specs.B2Math.{b2_sub}
 use Rattle.shape_definitions.specs.Outline.{point_at, replaces, next}
 use Rattle.shapes.specs.Coordinates.{points_in, EightPoints}
-use Rattle.shapes.proofs.Tests.{replaces_by, replaces_first, scanned_next, scanned_from_one}
-use Rattle.algebra.proofs.Booleans.{chosen, unchosen}
-use borrow.Author.Rules.{rules}
 use Rattle.shapes.proofs.outline.next.Given as goal
 
 abbrev pub invariant-loop-j : goal.invariant-loop-j

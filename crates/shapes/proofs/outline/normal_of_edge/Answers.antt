@@ -3,7 +3,6 @@ use mathlib.Core.Path.{sym, subst}
 use lib.Dec.{T}
 use lib.Ieee.{binary32, fits}
 use Rattle.floats.proofs.Turned.{normal_is}
-use borrow.Author.Rules.{rules}
 use Rattle.shapes.proofs.outline.normal_of_edge.Goals as goal
 
 pub returns : goal.returns

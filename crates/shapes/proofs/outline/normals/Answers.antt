@@ -1,16 +1,12 @@
 -- The normals done, and the edges that are left. Assumes nothing.
-use mathlib.Core.Path.{◌≡◌, sym, ◌∙◌, ap, subst}
-use mathlib.Core.List.{List}
-use Prim.Native.Nat.{◌+◌, ◌-◌, ◌≤◌}
+use mathlib.Core.Path.{sym, ◌∙◌, ap, subst}
+use Prim.Native.Nat.{◌+◌}
 use native.Mathlib.Omega.{arith}
-use lib.ListN.{length, take}
+use lib.ListN.{take}
 use lib.Seq.{length-take-le}
 use lib.Ieee.{lt}
-use Rattle.floats.specs.declared.b2_math.B2vec2.{B2vec2}
-use Rattle.floats.specs.B2Math.{b2_sub}
 use Rattle.floats.specs.B2Common.{epsilon_squared}
-use Rattle.shape_definitions.specs.Outline.{point_at}
-use Rattle.shapes.specs.Coordinates.{points_in, EightPoints}
+use Rattle.shapes.specs.Coordinates.{points_in}
 use Rattle.shapes.proofs.CoordinatePoints.{eight_stored}
 use Rattle.shapes.proofs.Around.{edge_of_corners}
 use Rattle.shapes.proofs.Facing.{Facing, facing_starts, facing_next, facing_short, facing_ended}
@@ -46,7 +42,7 @@ returns-else-squared c =
     let eight = inv.2 in
     let count = length-take-le m vs (omega arith) in
     let edge_is = edge_of_corners vs m i (omega arith) (omega arith) _ c.after.ensures.0 c.after.ensures.1 _ _ _
-        c.at.ensures c.at-in-loop-i.ensures c.b2_sub-edge.ensures in (
+    c.at.ensures c.at-in-loop-i.ensures c.b2_sub-edge.ensures in (
       inv.4,
       facing_short (take m vs) _ _ i _ inv.5 (omega arith) edge_is _
           (ap (lt epsilon_squared) (sym c.b2_length_squared-squared.ensures) ∙ c.if-squared.false),
@@ -61,7 +57,7 @@ loop-i-preserved c =
     let eight = inv.2 in
     let count = length-take-le m vs (omega arith) in
     let edge_is = edge_of_corners vs m i (omega arith) (omega arith) _ c.after.ensures.0 c.after.ensures.1 _ _ _
-        c.at.ensures c.at-in-loop-i.ensures c.b2_sub-edge.ensures in (
+    c.at.ensures c.at-in-loop-i.ensures c.b2_sub-edge.ensures in (
       omega arith,
       omega arith,
       inv.2,

@@ -4,7 +4,6 @@ use mathlib.Core.Bool.{Bool, true, ◌||◌}
 use Prim.Native.Nat.{ℕ}
 use lib.Dec.{eqb}
 use borrow.Author.Tests.{eq-eqb, ne_eqb}
-use borrow.Author.Rules.{rules}
 use Rattle.shapes.proofs.outline.replaced.Goals as goal
 
 unseen : (ih ie : ℕ) (t : Bool) → ie ≡ ih → true ≡ (eqb ie ih || t)

@@ -1,12 +1,10 @@
 -- What the scan keeps from here is what it keeps of all places; best is the point kept. Assumes nothing.
-use mathlib.Core.Path.{◌≡◌, ◌∙◌, ap₂}
-use Prim.Native.Nat.{◌≤◌, ◌<◌, ◌-◌}
+use mathlib.Core.Path.{◌∙◌, ap₂}
 use native.Mathlib.Omega.{arith}
 use lib.ListN.{take}
-use Rattle.algebra.specs.Loops.{places, scan}
 use Rattle.algebra.proofs.Loops.{scan_ended}
-use Rattle.shape_definitions.specs.Outline.{point_at, comes_before, earlier, start}
-use Rattle.shapes.specs.Coordinates.{points_in, EightPoints}
+use Rattle.shape_definitions.specs.Outline.{comes_before, earlier, start}
+use Rattle.shapes.specs.Coordinates.{points_in}
 use Rattle.shapes.proofs.Tests.{earlier_first, scanned_next, scanned_from_one}
 use Rattle.algebra.proofs.Booleans.{chosen, unchosen}
 use Rattle.shapes.proofs.outline.start.Goals as goal
@@ -35,24 +33,26 @@ loop-i-preserved c =
     let inv = c.loop-i.invariant in
     let test_is = c.comes_before.ensures ∙ ap₂ comes_before inv.4 c.at-p.ensures in
     let same = earlier_first ps n i0 i (omega arith) (omega arith) in
-    elim c.if-comes_before.branch [ then-comes_before w ↦ rw (w.i0-is, w.best-is) (
-      omega arith,
-      omega arith,
-      omega arith,
-      inv.3,
-      c.at-p.ensures,
-      scanned_next (earlier ps i0 i) i i0 i n (chosen _ _ i i0 w.if-comes_before.true test_is) (omega arith)
-          (earlier (take n ps)) _ same inv.5,
-    )
-    | else-comes_before w ↦ rw (w.i0-is, w.best-is) (
-      omega arith,
-      omega arith,
-      omega arith,
-      inv.3,
-      inv.4,
-      scanned_next (earlier ps i0 i) i0 i0 i n (unchosen _ _ i i0 w.if-comes_before.false test_is) (omega arith)
-          (earlier (take n ps)) _ same inv.5,
-    ) ]
+    elim c.if-comes_before.branch [
+      | then-comes_before w ↦ rw (w.i0-is, w.best-is) (
+        omega arith,
+        omega arith,
+        omega arith,
+        inv.3,
+        c.at-p.ensures,
+        scanned_next (earlier ps i0 i) i i0 i n (chosen _ _ i i0 w.if-comes_before.true test_is) (omega arith)
+            (earlier (take n ps)) _ same inv.5,
+      )
+      | else-comes_before w ↦ rw (w.i0-is, w.best-is) (
+        omega arith,
+        omega arith,
+        omega arith,
+        inv.3,
+        inv.4,
+        scanned_next (earlier ps i0 i) i0 i0 i n (unchosen _ _ i i0 w.if-comes_before.false test_is) (omega arith)
+            (earlier (take n ps)) _ same inv.5,
+      )
+    ]
 
 pub returns : goal.returns
 returns c =

@@ -1,16 +1,10 @@
 -- What the scan keeps from here is what it keeps of all places; best is the point kept. Assumes nothing.
-use mathlib.Core.Path.{◌≡◌, ◌∙◌, ap₂}
-use mathlib.Core.Logic.{⊎_elim}
+use mathlib.Core.Path.{◌≡◌}
 use Prim.Native.Nat.{◌≤◌, ◌<◌, ◌-◌}
-use native.Mathlib.Omega.{arith}
 use lib.ListN.{take}
 use Rattle.algebra.specs.Loops.{places, scan}
-use Rattle.algebra.proofs.Loops.{scan_ended}
-use Rattle.shape_definitions.specs.Outline.{point_at, comes_before, earlier, start}
+use Rattle.shape_definitions.specs.Outline.{point_at, earlier, start}
 use Rattle.shapes.specs.Coordinates.{points_in, EightPoints}
-use Rattle.shapes.proofs.Tests.{earlier_first, scanned_next, scanned_from_one}
-use Rattle.algebra.proofs.Booleans.{chosen, unchosen}
-use borrow.Author.Rules.{rules}
 use Rattle.shapes.proofs.outline.start.Given as goal
 
 abbrev pub invariant-loop-i : goal.invariant-loop-i

@@ -1,6 +1,5 @@
 -- The squared distance against the limit. Assumes nothing.
 use Rattle.shape_definitions.specs.Outline.{too_near}
-use borrow.Author.Rules.{rules}
 use Rattle.shapes.proofs.outline.too_near.Goals as goal
 
 pub returns : goal.returns

@@ -1,6 +1,5 @@
 -- The cross product's sign, then the lengths: each way out gives the definition's Boolean. Assumes nothing.
 use Rattle.shapes.proofs.Tests.{turns_below, turns_level, turns_above}
-use borrow.Author.Rules.{rules}
 use Rattle.shapes.proofs.outline.turns_closer.Goals as goal
 
 pub returns-then-c : goal.returns-then-c

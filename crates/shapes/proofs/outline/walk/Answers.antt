@@ -1,14 +1,12 @@
 -- The corners done, and the row they begin. Assumes nothing.
-use mathlib.Core.Path.{◌≡◌, refl, sym, ◌∙◌, subst}
-use Prim.Native.Nat.{◌+◌, ◌-◌, ◌≤◌, ◌<◌}
+use mathlib.Core.Path.{refl, sym, ◌∙◌, subst}
+use Prim.Native.Nat.{◌+◌}
 use native.Mathlib.Omega.{arith}
 use lib.ListN.{take}
-use Rattle.shape_definitions.specs.Outline.{start}
-use Rattle.shapes.specs.Coordinates.{points_in, EightPoints}
+use Rattle.shapes.specs.Coordinates.{points_in}
 use Rattle.shapes.proofs.Tests.{at_first_place}
 use Rattle.shapes.proofs.CoordinatePoints.{eight_stored}
 use Rattle.shapes.proofs.Walking.{Walking, walking_starts, walking_next, walking_back, walking_lost}
-use borrow.Author.Rules.{rules}
 use Rattle.shapes.proofs.outline.walk.Goals as goal
 
 pub loop-m-init : goal.loop-m-init
@@ -69,10 +67,9 @@ loop-m-preserved c =
     )
 
 pub returns : goal.returns
-returns c =
-    (
-      omega arith,
-      c.loop-m.invariant.6,
-      walking_lost _ _ _ _ c.loop-m.m c.loop-m.ih c.loop-m.invariant.7
-          (omega arith),
-    )
+returns c = (
+  omega arith,
+  c.loop-m.invariant.6,
+  walking_lost _ _ _ _ c.loop-m.m c.loop-m.ih c.loop-m.invariant.7
+      (omega arith),
+)

@@ -1,14 +1,10 @@
 -- The corners done, and the row they begin. Assumes nothing.
-use mathlib.Core.Path.{◌≡◌, refl, sym, ◌∙◌, subst}
-use Prim.Native.Nat.{◌+◌, ◌-◌, ◌≤◌, ◌<◌}
-use native.Mathlib.Omega.{arith}
+use mathlib.Core.Path.{◌≡◌}
+use Prim.Native.Nat.{◌-◌, ◌≤◌, ◌<◌}
 use lib.ListN.{take}
 use Rattle.shape_definitions.specs.Outline.{start}
 use Rattle.shapes.specs.Coordinates.{points_in, EightPoints}
-use Rattle.shapes.proofs.Tests.{at_first_place}
-use Rattle.shapes.proofs.CoordinatePoints.{eight_stored}
-use Rattle.shapes.proofs.Walking.{Walking, walking_starts, walking_next, walking_back, walking_lost}
-use borrow.Author.Rules.{rules}
+use Rattle.shapes.proofs.Walking.{Walking}
 use Rattle.shapes.proofs.outline.walk.Given as goal
 
 abbrev pub invariant-loop-m : goal.invariant-loop-m

@@ -1,7 +1,7 @@
 -- The points kept so far, and those to come, give the whole answer. Assumes nothing.
 use mathlib.Core.Path.{◌≡◌, refl, sym, ◌∙◌, ap}
 use mathlib.Core.List.{List}
-use Prim.Native.Nat.{◌+◌, ◌-◌, ◌≤◌, ◌<◌}
+use Prim.Native.Nat.{◌+◌, ◌<◌}
 use native.Mathlib.Omega.{arith}
 use lib.ListN.{length, take, drop}
 use lib.Seq.{length-take-le}
@@ -9,7 +9,7 @@ use Rattle.algebra.specs.Loops.{weld}
 use Rattle.algebra.proofs.Loops.{weld_dropped, weld_kept, weld_ended}
 use Rattle.floats.specs.declared.b2_math.B2vec2.{B2vec2}
 use Rattle.shape_definitions.specs.Outline.{too_near, welded}
-use Rattle.shapes.specs.Coordinates.{points_in, EightPoints}
+use Rattle.shapes.specs.Coordinates.{points_in}
 use Rattle.shapes.proofs.Tests.{at_first_place}
 use Rattle.algebra.proofs.Lists.{first_places}
 use Rattle.shapes.proofs.CoordinatePoints.{eight_stored}
@@ -38,28 +38,30 @@ loop-i-preserved c =
     let eight = inv.3 in
     let within : i < length (take count points) = first_places count i points (omega arith) (omega arith) in
     let v_is = c.at-v.ensures ∙ sym (at_first_place points count i (omega arith)) in
-    elim c.if-not-near_any.branch [ then-not-near_any w ↦ rw (w.ps-is, w.n-is) (
-      omega arith,
-      omega arith,
-      omega arith,
-      inv.3,
-      eight_stored c.loop-i.ps _ c.loop-i.n _ inv.4 w.put.ensures,
-      ap (λ (ps : List B2vec2). weld too_near (take (c.loop-i.n + 1) ps) (drop (i + 1) (take count points)))
-          w.put.ensures
-          ∙ weld_kept too_near (points_in c.loop-i.ps) (take count points) _ c.loop-i.n i _ _ within v_is
-          inv.5
-          (omega (arith, inv.4)) (sym c.near_any.ensures ∙ w.if-not-near_any.true),
-    )
-    | else-not-near_any w ↦ rw (w.ps-is, w.n-is) (
-      omega arith,
-      omega arith,
-      omega arith,
-      inv.3,
-      inv.4,
-      weld_dropped too_near (points_in c.loop-i.ps) (take count points) _ c.loop-i.n i _ _ within v_is
-          inv.5
-          (sym c.near_any.ensures ∙ w.if-not-near_any.false),
-    ) ]
+    elim c.if-not-near_any.branch [
+      | then-not-near_any w ↦ rw (w.ps-is, w.n-is) (
+        omega arith,
+        omega arith,
+        omega arith,
+        inv.3,
+        eight_stored c.loop-i.ps _ c.loop-i.n _ inv.4 w.put.ensures,
+        ap (λ (ps : List B2vec2). weld too_near (take (c.loop-i.n + 1) ps) (drop (i + 1) (take count points)))
+            w.put.ensures
+            ∙ weld_kept too_near (points_in c.loop-i.ps) (take count points) _ c.loop-i.n i _ _ within v_is
+            inv.5
+            (omega (arith, inv.4)) (sym c.near_any.ensures ∙ w.if-not-near_any.true),
+      )
+      | else-not-near_any w ↦ rw (w.ps-is, w.n-is) (
+        omega arith,
+        omega arith,
+        omega arith,
+        inv.3,
+        inv.4,
+        weld_dropped too_near (points_in c.loop-i.ps) (take count points) _ c.loop-i.n i _ _ within v_is
+            inv.5
+            (sym c.near_any.ensures ∙ w.if-not-near_any.false),
+      )
+    ]
 
 pub returns : goal.returns
 returns c =

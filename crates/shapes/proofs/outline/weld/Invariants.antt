@@ -1,21 +1,10 @@
 -- The points kept so far, and those to come, give the whole answer. Assumes nothing.
-use mathlib.Core.Path.{◌≡◌, refl, sym, ◌∙◌, ap}
-use mathlib.Core.List.{List}
-use mathlib.Core.Logic.{⊎_elim}
-use Prim.Native.Nat.{◌+◌, ◌-◌, ◌≤◌, ◌<◌}
-use native.Mathlib.Omega.{arith}
-use lib.ListN.{length, take, drop}
-use lib.Seq.{length-take-le}
-use borrow.Author.Tests.{not-true, not-false}
+use mathlib.Core.Path.{◌≡◌}
+use Prim.Native.Nat.{◌-◌, ◌≤◌}
+use lib.ListN.{take, drop}
 use Rattle.algebra.specs.Loops.{weld}
-use Rattle.algebra.proofs.Loops.{weld_dropped, weld_kept, weld_ended}
-use Rattle.floats.specs.declared.b2_math.B2vec2.{B2vec2}
 use Rattle.shape_definitions.specs.Outline.{too_near, welded}
 use Rattle.shapes.specs.Coordinates.{points_in, EightPoints}
-use Rattle.shapes.proofs.Tests.{at_first_place}
-use Rattle.algebra.proofs.Lists.{first_places}
-use Rattle.shapes.proofs.CoordinatePoints.{eight_stored}
-use borrow.Author.Rules.{rules}
 use Rattle.shapes.proofs.outline.weld.Given as goal
 
 abbrev pub invariant-loop-i : goal.invariant-loop-i

@@ -1,5 +1,4 @@
 -- The triangle's area and its centroid times that, each added to the sum. Assumes nothing.
-use borrow.Author.Rules.{rules}
 use Rattle.shapes.proofs.outline.with_triangle.Goals as goal
 
 pub returns : goal.returns
