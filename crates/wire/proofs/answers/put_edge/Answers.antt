@@ -1,7 +1,6 @@
 -- `put_edge` writes the refusal and the wall's ten words. Assumes nothing.
 use Rattle.wire.specs.Answers.{edge_words, points_words}
 use Rattle.wire.proofs.Bytes.{written_as}
-use borrow.Author.Rules.{rules}
 use Rattle.wire.proofs.answers.put_edge.Goals as goal
 
 pub returns : goal.returns

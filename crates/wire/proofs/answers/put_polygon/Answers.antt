@@ -1,7 +1,6 @@
 -- `put_polygon` writes the refusal and the outline's thirty-six words. Assumes nothing.
 use Rattle.wire.proofs.Bytes.{written_as}
 use Rattle.wire.proofs.Rows.{outline_written}
-use borrow.Author.Rules.{rules}
 use Rattle.wire.proofs.answers.put_polygon.Goals as goal
 
 pub returns : goal.returns

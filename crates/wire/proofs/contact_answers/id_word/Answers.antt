@@ -1,6 +1,5 @@
 -- Four bytes are a word. Assumes nothing.
 use Rattle.wire.specs.ContactAnswers.{id_word}
-use borrow.Author.Rules.{rules}
 use Rattle.wire.proofs.contact_answers.id_word.Goals as goal
 
 pub returns : goal.returns

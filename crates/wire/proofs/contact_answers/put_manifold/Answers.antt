@@ -1,16 +1,14 @@
 -- `put_manifold` writes the refusal and the manifold's sixteen words. Assumes nothing.
-use mathlib.Core.Path.{sym, ◌∙◌}
-use lib.ListN.{get_or, length-map}
+use lib.ListN.{get_or}
 use Rattle.wire.proofs.Bytes.{written_as}
 use Rattle.wire.proofs.TwoPoints.{point_words, manifold_written}
-use borrow.Author.Rules.{rules}
 use Rattle.wire.proofs.contact_answers.put_manifold.Goals as goal
 
 pub returns : goal.returns
 returns c =
     written_as _ _ _ _ _
     (manifold_written c.args.answer _ _ _ _ _ _ _ _ _ _
-    (sym (length-map c.args.answer.manifold.points _) ∙ c.well_formed.1.0.1.1.0.1.1.0.1.0.1)
+    c.well_formed.1.0.1.1.0.1.1.0.1.0.1
     c.wide.ensures.0 c.kind_word.ensures c.low_word.ensures
     c.f32_to_bits.ensures c.f32_to_bits-2.ensures
     c.f32_to_bits-3.ensures c.f32_to_bits-4.ensures

@@ -1,7 +1,6 @@
 -- `put_states` writes the refusal and four states. Assumes nothing.
 use Rattle.wire.specs.ContactAnswers.{states_words}
 use Rattle.wire.proofs.Bytes.{written_as}
-use borrow.Author.Rules.{rules}
 use Rattle.wire.proofs.contact_answers.put_states.Goals as goal
 
 pub returns : goal.returns

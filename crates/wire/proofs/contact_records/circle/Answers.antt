@@ -1,6 +1,5 @@
 -- A float and a point are a circle. Assumes nothing.
 use Rattle.wire.specs.ContactRecords.{circle_at}
-use borrow.Author.Rules.{rules}
 use Rattle.wire.proofs.contact_records.circle.Goals as goal
 
 pub returns : goal.returns

@@ -1,6 +1,5 @@
 -- A point and an id are a clip vertex. Assumes nothing.
 use Rattle.wire.specs.ContactRecords.{clip_vertex_at}
-use borrow.Author.Rules.{rules}
 use Rattle.wire.proofs.contact_records.clip_vertex.Goals as goal
 
 pub returns : goal.returns

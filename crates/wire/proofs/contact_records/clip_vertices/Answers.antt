@@ -1,6 +1,5 @@
 -- Two clip vertices from six words. Assumes nothing.
 use Rattle.wire.specs.ContactRecords.{clip_vertices_at}
-use borrow.Author.Rules.{rules}
 use Rattle.wire.proofs.contact_records.clip_vertices.Goals as goal
 
 pub returns : goal.returns

@@ -1,5 +1,4 @@
 -- The word is below three. Assumes nothing.
-use borrow.Author.Rules.{rules}
 use Rattle.wire.proofs.contact_records.kind_known.Goals as goal
 
 pub returns : goal.returns

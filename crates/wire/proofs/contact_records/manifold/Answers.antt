@@ -1,6 +1,5 @@
 -- A manifold from sixteen words. Assumes nothing.
 use Rattle.wire.specs.ContactRecords.{manifold_at}
-use borrow.Author.Rules.{rules}
 use Rattle.wire.proofs.contact_records.manifold.Goals as goal
 
 pub returns : goal.returns

@@ -1,6 +1,5 @@
 -- A manifold's point from five words. Assumes nothing.
 use Rattle.wire.specs.ContactRecords.{manifold_point_at}
-use borrow.Author.Rules.{rules}
 use Rattle.wire.proofs.contact_records.manifold_point.Goals as goal
 
 pub returns : goal.returns

@@ -1,5 +1,4 @@
 -- The word is below four. Assumes nothing.
-use borrow.Author.Rules.{rules}
 use Rattle.wire.proofs.contact_records.state_known.Goals as goal
 
 pub returns : goal.returns

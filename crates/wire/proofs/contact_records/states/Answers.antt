@@ -1,6 +1,5 @@
 -- Four point states from four words. Assumes nothing.
 use Rattle.wire.specs.ContactRecords.{states_at}
-use borrow.Author.Rules.{rules}
 use Rattle.wire.proofs.contact_records.states.Goals as goal
 
 pub returns : goal.returns

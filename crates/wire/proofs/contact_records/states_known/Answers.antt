@@ -1,6 +1,5 @@
 -- Each word is a state. Assumes nothing.
 use Rattle.wire.specs.ContactRecords.{states_known}
-use borrow.Author.Rules.{rules}
 use Rattle.wire.proofs.contact_records.states_known.Goals as goal
 
 pub returns : goal.returns

@@ -1,6 +1,5 @@
 -- A world manifold from eight words. Assumes nothing.
 use Rattle.wire.specs.ContactRecords.{world_manifold_at}
-use borrow.Author.Rules.{rules}
 use Rattle.wire.proofs.contact_records.world_manifold.Goals as goal
 
 pub returns : goal.returns

@@ -1,6 +1,5 @@
 -- Four spans. Assumes nothing.
 use Rattle.wire.specs.MeasuredRecords.{measured_box_at}
-use borrow.Author.Rules.{rules}
 use Rattle.wire.proofs.measured_records.measured_box.Goals as goal
 
 pub returns : goal.returns

@@ -1,6 +1,5 @@
 -- Three spans. Assumes nothing.
 use Rattle.wire.specs.MeasuredRecords.{measured_circle_at}
-use borrow.Author.Rules.{rules}
 use Rattle.wire.proofs.measured_records.measured_circle.Goals as goal
 
 pub returns : goal.returns

@@ -1,7 +1,6 @@
 -- Word by word. Assumes nothing.
 use Rattle.wire.proofs.Bytes.{written_as}
 use Rattle.wire.proofs.TwosComplement.{word_of}
-use borrow.Author.Rules.{rules}
 use Rattle.wire.proofs.measured_records.put_boxes_answer.Goals as goal
 
 pub returns : goal.returns

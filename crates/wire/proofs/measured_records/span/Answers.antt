@@ -1,16 +1,16 @@
 -- Two words. Assumes nothing.
 use mathlib.Core.Path.{ap, ◌∙◌}
 use mir.Facts.{to_z-of_z}
+use mir.Syntax.{w32}
 use Rattle.wire.specs.Words.{signed}
 use Rattle.wire.specs.MeasuredRecords.{span_at}
-use borrow.Author.Rules.{rules}
 use Rattle.wire.proofs.measured_records.span.Goals as goal
 
 pub returns : goal.returns
 unfolding span_at
 returns c =
-    let low = to_z-of_z (record { sfits = c.signed-lowest.type_inv }) ∙ c.signed-lowest.ensures ∙ ap signed
+    let low = to_z-of_z {w = w32} (record { sfits = c.signed-lowest.type_inv }) ∙ c.signed-lowest.ensures ∙ ap signed
     c.word.ensures in
-    let high = to_z-of_z (record { sfits = c.signed-highest.type_inv }) ∙ c.signed-highest.ensures ∙ ap signed
+    let high = to_z-of_z {w = w32} (record { sfits = c.signed-highest.type_inv }) ∙ c.signed-highest.ensures ∙ ap signed
     c.word-2.ensures in
     λ i. record { lowest = low i; highest = high i }

@@ -1,6 +1,5 @@
 -- A wall from ten words. Assumes nothing.
 use Rattle.wire.specs.Records.{edge_at}
-use borrow.Author.Rules.{rules}
 use Rattle.wire.proofs.records.edge.Goals as goal
 
 pub returns : goal.returns

@@ -1,5 +1,4 @@
 -- The word is below two. Assumes nothing.
-use borrow.Author.Rules.{rules}
 use Rattle.wire.proofs.records.edge_known.Goals as goal
 
 pub returns : goal.returns

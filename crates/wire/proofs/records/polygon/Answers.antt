@@ -1,7 +1,6 @@
 -- An outline from thirty-six words. Assumes nothing.
 use Rattle.wire.specs.Records.{polygon_at}
 use Rattle.algebra.proofs.Lists.{whole_row}
-use borrow.Author.Rules.{rules}
 use Rattle.wire.proofs.records.polygon.Goals as goal
 
 pub returns : goal.returns

@@ -1,12 +1,10 @@
 -- `put_words` writes all its words or none. The loop's invariant: the first i words stand at the front. Assumes
 -- nothing.
-use mathlib.Core.Path.{◌≡◌, ◌∙◌, ap, refl}
-use Prim.Native.Nat.{◌+◌, ◌*◌, ◌-◌, ◌≤◌}
+use mathlib.Core.Path.{◌∙◌, ap, refl}
+use Prim.Native.Nat.{◌+◌, ◌≤◌}
 use native.Mathlib.Omega.{arith}
 use lib.ListN.{length, take}
 use lib.Seq.{length-take-le}
-use borrow.Author.Rules.{rules}
-use Rattle.algebra.specs.Buffer.{over}
 use Rattle.algebra.proofs.Buffer.{length_over}
 use Rattle.wire.specs.Words.{bytes_of}
 use Rattle.wire.proofs.Bytes.{length_bytes, word_written, written_whole, written_none}
@@ -26,7 +24,7 @@ loop-i-preserved c =
     let i = c.loop-i.i in
     let out = c.args.out.now in
     let put = c.put_number in
-    let next = word_written words out c.loop-i.out put.new.0 i (omega arith) c.loop-i.invariant.4
+    let next = word_written words out c.loop-i.out put.new.out i (omega arith) c.loop-i.invariant.4
     put.ensures in
     let room : length (bytes_of (take (i + 1) words)) ≤ length out =
     omega (arith, length_bytes (take (i + 1) words), length-take-le (i + 1) words (omega arith)) in (

@@ -1,15 +1,10 @@
 -- `put_words` writes all its words or none. The loop's invariant: the first i words stand at the front. Assumes
 -- nothing.
-use mathlib.Core.Path.{◌≡◌, ◌∙◌, ap, refl}
-use Prim.Native.Nat.{◌+◌, ◌*◌, ◌-◌, ◌≤◌}
-use native.Mathlib.Omega.{arith}
+use mathlib.Core.Path.{◌≡◌}
+use Prim.Native.Nat.{◌*◌, ◌-◌, ◌≤◌}
 use lib.ListN.{length, take}
-use lib.Seq.{length-take-le}
-use borrow.Author.Rules.{rules}
 use Rattle.algebra.specs.Buffer.{over}
-use Rattle.algebra.proofs.Buffer.{length_over}
 use Rattle.wire.specs.Words.{bytes_of}
-use Rattle.wire.proofs.Bytes.{length_bytes, word_written, written_whole, written_none}
 use Rattle.wire.proofs.words.put_words.Given as goal
 
 abbrev pub invariant-loop-i : goal.invariant-loop-i

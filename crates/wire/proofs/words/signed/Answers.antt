@@ -1,6 +1,5 @@
 -- By halves. Assumes nothing.
 use Rattle.wire.proofs.TwosComplement.{signed_low, signed_fits, signed_high}
-use borrow.Author.Rules.{rules}
 use Rattle.wire.proofs.words.signed.Goals as goal
 
 pub overflow_sub-result-else-w-lt2147483648 : goal.overflow_sub-result-else-w-lt2147483648
