@@ -5,7 +5,6 @@ use native.Mathlib.Omega.{arith}
 use lib.Dec.{lit≤}
 use lib.IntN.{ℤ}
 use Rattle.algebra.specs.Integer.{Z, whole, opp, ◌≼◌, Abs}
-use Rattle.algebra.specs.Signed.{number}
 use Rattle.algebra.proofs.Signed.{read, Held, held}
 use Rattle.measured_definitions.specs.declared.Span.{Span}
 use Rattle.measured_definitions.specs.declared.WholeCircle.{WholeCircle}

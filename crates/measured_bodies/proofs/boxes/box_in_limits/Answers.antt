@@ -1,7 +1,6 @@
 -- Its four spans. Assumes nothing.
 use mathlib.Core.Bool.{◌&&◌}
 use Rattle.measured_definitions.specs.MeasuredBoxes.{box_in_limits}
-use borrow.Author.Rules.{rules}
 use Rattle.measured_bodies.proofs.boxes.box_in_limits.Goals as goal
 
 pub returns : goal.returns

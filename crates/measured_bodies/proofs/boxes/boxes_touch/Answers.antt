@@ -22,11 +22,10 @@ overflow_add-a c =
     (lit≤ tt)
 
 pub within-requires : goal.within-requires
-within-requires c =
-    (
-      subst Short (sym (hold c.args.w.a.x c.requires.0.x).is) c.requires.0.x,
-      subst Short (sym (hold c.args.w.b.x c.requires.1.x).is) c.requires.1.x,
-    )
+within-requires c = (
+  subst Short (sym (hold c.args.w.a.x c.requires.0.x).is) c.requires.0.x,
+  subst Short (sym (hold c.args.w.b.x c.requires.1.x).is) c.requires.1.x,
+)
 
 pub overflow_add-a-2 : goal.overflow_add-a-2
 overflow_add-a-2 c =
@@ -34,11 +33,10 @@ overflow_add-a-2 c =
     (lit≤ tt)
 
 pub within-requires-2 : goal.within-requires-2
-within-requires-2 c =
-    (
-      subst Short (sym (hold c.args.w.a.y c.requires.0.y).is) c.requires.0.y,
-      subst Short (sym (hold c.args.w.b.y c.requires.1.y).is) c.requires.1.y,
-    )
+within-requires-2 c = (
+  subst Short (sym (hold c.args.w.a.y c.requires.0.y).is) c.requires.0.y,
+  subst Short (sym (hold c.args.w.b.y c.requires.1.y).is) c.requires.1.y,
+)
 
 pub returns : goal.returns
 unfolding boxes_touch

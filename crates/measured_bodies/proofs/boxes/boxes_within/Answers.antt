@@ -9,7 +9,6 @@ use Rattle.measured_definitions.specs.MeasuredBoxes.{boxes_touch, nearest_boxes,
 use Rattle.measured_definitions.proofs.Boxes.{near_choices, far_choices}
 use Rattle.measured_bodies.specs.Widths.{ShortBox}
 use Rattle.measured_bodies.proofs.ReadBack.{short_box}
-use borrow.Author.Rules.{rules}
 use Rattle.measured_bodies.proofs.boxes.boxes_within.Goals as goal
 
 -- nothing overflows in a choice within the limits
@@ -46,7 +45,7 @@ module _ (a b : MeasuredBox) (far : BoxPair) (far_is : far ≡ farthest_boxes a 
 
 pub boxes_touch-requires : goal.boxes_touch-requires
 boxes_touch-requires c =
-    far_short c.args.a c.args.b c.requires.0 c.requires.1 _ c.farthest_boxes-far.ensures
+    far_short c.args.a c.args.b c.requires.box_limits c.requires.box_limits_2 _ c.farthest_boxes-far.ensures
 
 pub returns-then-boxes_touch : goal.returns-then-boxes_touch
 returns-then-boxes_touch c =
@@ -55,7 +54,7 @@ returns-then-boxes_touch c =
 
 pub boxes_touch-requires-2 : goal.boxes_touch-requires-2
 boxes_touch-requires-2 c =
-    near_short c.args.a c.args.b c.requires.0 c.requires.1 _ c.nearest_boxes-near.ensures
+    near_short c.args.a c.args.b c.requires.box_limits c.requires.box_limits_2 _ c.nearest_boxes-near.ensures
 
 pub returns-then-boxes_touch-2 : goal.returns-then-boxes_touch-2
 returns-then-boxes_touch-2 c =

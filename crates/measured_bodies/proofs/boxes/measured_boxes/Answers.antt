@@ -10,7 +10,6 @@ use Rattle.measured_definitions.specs.Boxes.{BoxesRight}
 use Rattle.measured_definitions.specs.MeasuredBoxes.{box_in_limits, boxes_within, measured_boxes}
 use Rattle.measured_definitions.proofs.Limits.{box_limits}
 use Rattle.measured_definitions.proofs.Boxes.{boxes_right}
-use borrow.Author.Rules.{rules}
 use Rattle.measured_bodies.proofs.boxes.measured_boxes.Goals as goal
 
 module _ (a b : MeasuredBox) where
@@ -28,8 +27,9 @@ module _ (a b : MeasuredBox) where
 
 pub boxes_within-requires : goal.boxes_within-requires
 boxes_within-requires c =
-    (decides_both _ _ (decides_as c.box_in_limits.ensures (box_limits c.args.a))
-    (decides_as c.box_in_limits-2.ensures (box_limits c.args.b))).holds c.if-box_in_limits.true
+    let both = (decides_both _ _ (decides_as c.box_in_limits.ensures (box_limits c.args.a))
+    (decides_as c.box_in_limits-2.ensures (box_limits c.args.b))).holds c.if-box_in_limits.true in
+    record { box_limits = both.0; box_limits_2 = both.1 }
 
 pub returns-then-box_in_limits : goal.returns-then-box_in_limits
 returns-then-box_in_limits c =

@@ -1,7 +1,6 @@
 -- Its three spans. Assumes nothing.
 use mathlib.Core.Bool.{◌&&◌}
 use Rattle.measured_definitions.specs.MeasuredCircles.{circle_in_limits}
-use borrow.Author.Rules.{rules}
 use Rattle.measured_bodies.proofs.circles.circle_in_limits.Goals as goal
 
 pub returns : goal.returns

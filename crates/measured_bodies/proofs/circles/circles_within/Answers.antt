@@ -9,7 +9,6 @@ use Rattle.measured_definitions.specs.MeasuredCircles.{circles_touch, nearest_ci
 use Rattle.measured_definitions.proofs.Circles.{near_choices, far_choices}
 use Rattle.measured_bodies.specs.Widths.{ShortCircle}
 use Rattle.measured_bodies.proofs.ReadBack.{short_circle}
-use borrow.Author.Rules.{rules}
 use Rattle.measured_bodies.proofs.circles.circles_within.Goals as goal
 
 -- nothing overflows in a choice within the limits
@@ -46,7 +45,7 @@ module _ (a b : MeasuredCircle) (far : CirclePair) (far_is : far ≡ farthest_ci
 
 pub circles_touch-requires : goal.circles_touch-requires
 circles_touch-requires c =
-    far_short c.args.a c.args.b c.requires.0 c.requires.1 _ c.farthest_circles-far.ensures
+    far_short c.args.a c.args.b c.requires.circle_limits c.requires.circle_limits_2 _ c.farthest_circles-far.ensures
 
 pub returns-then-circles_touch : goal.returns-then-circles_touch
 returns-then-circles_touch c =
@@ -55,7 +54,7 @@ returns-then-circles_touch c =
 
 pub circles_touch-requires-2 : goal.circles_touch-requires-2
 circles_touch-requires-2 c =
-    near_short c.args.a c.args.b c.requires.0 c.requires.1 _ c.nearest_circles-near.ensures
+    near_short c.args.a c.args.b c.requires.circle_limits c.requires.circle_limits_2 _ c.nearest_circles-near.ensures
 
 pub returns-then-circles_touch-2 : goal.returns-then-circles_touch-2
 returns-then-circles_touch-2 c =

@@ -10,7 +10,6 @@ use Rattle.measured_definitions.specs.Circles.{CirclesRight}
 use Rattle.measured_definitions.specs.MeasuredCircles.{circle_in_limits, circles_within, measured_circles}
 use Rattle.measured_definitions.proofs.Limits.{circle_limits}
 use Rattle.measured_definitions.proofs.Circles.{circles_right}
-use borrow.Author.Rules.{rules}
 use Rattle.measured_bodies.proofs.circles.measured_circles.Goals as goal
 
 module _ (a b : MeasuredCircle) where
@@ -28,8 +27,9 @@ module _ (a b : MeasuredCircle) where
 
 pub circles_within-requires : goal.circles_within-requires
 circles_within-requires c =
-    (decides_both _ _ (decides_as c.circle_in_limits.ensures (circle_limits c.args.a))
-    (decides_as c.circle_in_limits-2.ensures (circle_limits c.args.b))).holds c.if-circle_in_limits.true
+    let both = (decides_both _ _ (decides_as c.circle_in_limits.ensures (circle_limits c.args.a))
+    (decides_as c.circle_in_limits-2.ensures (circle_limits c.args.b))).holds c.if-circle_in_limits.true in
+    record { circle_limits = both.0; circle_limits_2 = both.1 }
 
 pub returns-then-circle_in_limits : goal.returns-then-circle_in_limits
 returns-then-circle_in_limits c =

@@ -1,7 +1,6 @@
 -- The verdict, as its numbers. Assumes nothing.
 use mathlib.Core.Path.{ap, ◌∙◌}
 use Rattle.measured_definitions.specs.MeasuredCircles.{circles_answer}
-use borrow.Author.Rules.{rules}
 use Rattle.measured_bodies.proofs.export.netxurbil_measured_circles.Goals as goal
 
 pub returns : goal.returns
