@@ -1,27 +1,25 @@
 // Builds the outline of each list and prints a line for it, as bits: the count and the points, the refusal, and for an
 // accepted outline its corners' count, the corners and the centroid.
-
 #![tactic(auto)]
 
 ghost use Rattle.std.specs.Prelude.{◌<◌, ◌≤◌};
 
 use floats::b2_math::B2vec2;
 use floats::bits;
-use libc::STDOUT_FILENO;
 use shape_definitions::b2_polygon_shape::B2polygonShape;
 use shape_definitions::refusal;
 use shapes::b2_polygon_shape;
+use std::io;
 
 mod outlines;
 
-fn print_word(n: u32) {
-    io::write_all(STDOUT_FILENO, b" ");
-    io::print_hex(STDOUT_FILENO, n as u64, 8);
+fn print_word(rt: &impl Print, n: u32) -> io::Result<()> {
+    print!(rt; " {n:08x}")
 }
 
-fn print_point(p: B2vec2) {
-    print_word(bits::f32_to_bits(p.x));
-    print_word(bits::f32_to_bits(p.y));
+fn print_point(rt: &impl Print, p: B2vec2) -> io::Result<()> {
+    print_word(rt, bits::f32_to_bits(p.x))?;
+    print_word(rt, bits::f32_to_bits(p.y))
 }
 
 // Point i of list k.
@@ -52,31 +50,26 @@ fn points(k: usize) -> [B2vec2; 8]
     ]
 }
 
-fn print_list(k: usize, count: usize)
+fn print_list(rt: &impl Print, k: usize, count: usize) -> io::Result<()>
     requires { (k < 12) × (count ≤ 9) }
 {
-    io::print_hex(STDOUT_FILENO, count as u64, 2);
-    let mut i = 0usize;
-    while i < count {
-        print_point(point(k, i));
-        i += 1;
+    print!(rt; "{count:02x}")?;
+    for i in 0..count {
+        print_point(rt, point(k, i))?;
     }
-    io::write_all(STDOUT_FILENO, b" : ");
+    print!(rt; " : ")
 }
 
-fn print_outline(shape: B2polygonShape) {
-    io::write_all(STDOUT_FILENO, b" ");
-    io::print_hex(STDOUT_FILENO, shape.m_count as u64, 2);
-    let vs = shape.m_vertices;
+fn print_outline(rt: &impl Print, shape: B2polygonShape) -> io::Result<()> {
     let count = shape.m_count;
-    let mut i = 0usize;
-    while i < 8 {
+    print!(rt; " {count:02x}")?;
+    let vs = shape.m_vertices;
+    for i in 0..8 {
         if i < count {
-            print_point(vs[i]);
+            print_point(rt, vs[i])?;
         }
-        i += 1;
     }
-    print_point(shape.m_centroid);
+    print_point(rt, shape.m_centroid)
 }
 
 fn empty_outline() -> B2polygonShape {
@@ -90,27 +83,26 @@ fn empty_outline() -> B2polygonShape {
     }
 }
 
-fn print_case(k: usize, count: usize)
+fn print_case(rt: &impl Print, k: usize, count: usize) -> io::Result<()>
     requires { (k < 12) × (count ≤ 9) }
 {
-    print_list(k, count);
+    print_list(rt, k, count)?;
     let answer = b2_polygon_shape::b2_polygon_shape_set_core(empty_outline(), points(k), count);
     let refusal = answer.refusal;
-    io::print_hex(STDOUT_FILENO, refusal as u64, 2);
+    print!(rt; "{refusal:02x}")?;
     if refusal == refusal::ACCEPTED {
-        print_outline(answer.shape);
+        print_outline(rt, answer.shape)?;
     }
-    io::write_all(STDOUT_FILENO, b"\n");
+    println!(rt; "")
 }
 
-fn main() {
+fn main(rt: HostRuntime) -> io::Result<()> {
     let counts = outlines::COUNTS;
-    let mut k = 0usize;
-    while k < outlines::CASES {
+    for k in 0..outlines::CASES {
         let count = counts[k];
         if count <= 9 {
-            print_case(k, count);
+            print_case(&rt, k, count)?;
         }
-        k += 1;
     }
+    Ok(())
 }

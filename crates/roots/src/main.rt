@@ -1,45 +1,40 @@
 // Takes the root of each published operand and prints both, as bits, and the step that gave it, a line each.
-
 #![tactic(auto)]
 
 use floats::{b2_math, bits};
-use libc::STDOUT_FILENO;
 use sqrt::root;
 use sqrt::root::Rooted;
+use std::io;
 
 mod vectors;
 
-fn print_step(x: f32) {
+fn print_step(rt: &impl Print, x: f32) -> io::Result<()> {
     match root::root_by_steps(x) {
-        Rooted::Special(_r) => io::write_all(STDOUT_FILENO, b"special\n"),
-        Rooted::Exact(_r) => io::write_all(STDOUT_FILENO, b"exact\n"),
-        Rooted::Rounded(_r) => io::write_all(STDOUT_FILENO, b"rounded\n"),
-    };
-}
-
-fn print_root(operand: u32) {
-    let x = bits::f32_from_bits(operand);
-    let root = bits::f32_to_bits(b2_math::b2_sqrt(x));
-    io::print_hex(STDOUT_FILENO, operand as u64, 8);
-    io::write_all(STDOUT_FILENO, b" ");
-    io::print_hex(STDOUT_FILENO, root as u64, 8);
-    io::write_all(STDOUT_FILENO, b" ");
-    print_step(x);
-}
-
-fn print_roots(operands: &[u32]) {
-    let mut i = 0usize;
-    while i < operands.len() {
-        print_root(operands[i]);
-        i += 1;
+        Rooted::Special(_r) => println!(rt; "special"),
+        Rooted::Exact(_r) => println!(rt; "exact"),
+        Rooted::Rounded(_r) => println!(rt; "rounded"),
     }
 }
 
-fn main() {
+fn print_root(rt: &impl Print, operand: u32) -> io::Result<()> {
+    let x = bits::f32_from_bits(operand);
+    let root = bits::f32_to_bits(b2_math::b2_sqrt(x));
+    print!(rt; "{operand:08x} {root:08x} ")?;
+    print_step(rt, x)
+}
+
+fn print_roots(rt: &impl Print, operands: &[u32]) -> io::Result<()> {
+    for operand in operands {
+        print_root(rt, *operand)?;
+    }
+    Ok(())
+}
+
+fn main(rt: HostRuntime) -> io::Result<()> {
     let special = vectors::SPECIAL;
     let exact = vectors::EXACT;
     let rounded = vectors::ROUNDED;
-    print_roots(&special);
-    print_roots(&exact);
-    print_roots(&rounded);
+    print_roots(&rt, &special)?;
+    print_roots(&rt, &exact)?;
+    print_roots(&rt, &rounded)
 }

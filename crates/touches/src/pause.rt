@@ -1,25 +1,16 @@
 // A short wait, for what the system says can be had later.
-use libc::types::timespec;
+use std::io::{Error, ErrorKind};
+use std::rt::Clock;
+use std::thread;
+use std::time::Duration;
 
-// One call, on structs that are this function's own.
-fn sleep(asked: timespec, mut left: timespec) -> i32 {
-    libc::nanosleep(&asked, &mut left)
-}
-
-// Whether the call that just failed may be made again; then a hundredth of a second has passed.
-pub fn later() -> bool {
-    let error = os::errno();
-    if (error != libc::EAGAIN) & (error != libc::EINTR) {
-        return false;
+// Whether the call that failed so may be made again; then a hundredth of a second has passed.
+pub fn later(rt: &impl Clock, why: &Error) -> bool {
+    match why.kind() {
+        ErrorKind::WouldBlock | ErrorKind::Interrupted => {
+            thread::sleep(rt, Duration::from_millis(10));
+            true
+        }
+        _ => false,
     }
-    let asked = timespec {
-        tv_sec: 0,
-        tv_nsec: 10000000,
-    };
-    let left = timespec {
-        tv_sec: 0,
-        tv_nsec: 0,
-    };
-    sleep(asked, left);
-    true
 }

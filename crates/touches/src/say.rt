@@ -1,20 +1,18 @@
 // What is said on standard error where a read or a write fails.
 ghost use Rattle.std.specs.Prelude.{◌+◌, ◌<◌, ◌≤◌, length};
 
-use libc::STDERR_FILENO;
 use lines::hex::LINE_FEED;
+use std::io::Error;
 
-// A line: what failed, after how many answers, and the system's reason for the last call that failed.
-pub fn failed(what: &[u8], answers: u64) {
-    io::write_all(STDERR_FILENO, b"touches: ");
-    io::write_all(STDERR_FILENO, what);
-    io::write_all(STDERR_FILENO, b" failed after ");
-    io::print_decimal(STDERR_FILENO, answers);
-    if answers == 1 {
-        os::fail(b" answer");
-    } else {
-        os::fail(b" answers");
-    }
+// A line: what failed, after how many answers, and the system's reason, without the number that std prints behind it.
+pub fn failed(rt: &(impl Eprint + AllocGlobal), what: &str, answers: u64, why: &Error) {
+    let ending = if answers == 1 { "" } else { "s" };
+    let said = why.to_string(rt.alloc()).unwrap_or(String::new(rt.alloc()));
+    let reason = match said.split_once(" (os error ") {
+        Some((reason, _number)) => reason,
+        None => said.as_str(),
+    };
+    let _ = eprintln!(rt; "touches: {what} failed after {answers} answer{ending}: {reason}");
 }
 
 // The line feeds of a short part of an output, counted in a byte, so that the compiler takes 32 characters at once.
