@@ -1,5 +1,6 @@
 // Builds the outline of each list and prints a line for it, as bits: the count and the points, the refusal, and for an
 // accepted outline its corners' count, the corners and the centroid.
+
 #![tactic(auto)]
 
 ghost use Rattle.std.specs.Prelude.{◌<◌, ◌≤◌};

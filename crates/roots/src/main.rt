@@ -1,4 +1,5 @@
 // Takes the root of each published operand and prints both, as bits, and the step that gave it, a line each.
+
 #![tactic(auto)]
 
 use floats::{b2_math, bits};

@@ -1,11 +1,12 @@
 // The program `touches`: frames on standard input, a line each, and their answers on standard output. Where a read or a
 // write fails it ends, and says so on standard error.
+
 #![tactic(auto)]
 
 mod pause;
 mod say;
 
-ghost use Rattle.std.specs.Prelude.{◌≡◌, ◌<◌, ◌≤◌, true, length, drop};
+ghost use Rattle.std.specs.Prelude.{◌≡◌, ◌<◌, ◌≤◌, true, length, drop, IfOk};
 ghost use Rattle.record_definitions.specs.Answer.{longest_said};
 ghost use Rattle.record_definitions.specs.Server.{reply_line};
 ghost use Rattle.record_definitions.specs.Reading.{reading, after, printed};
@@ -50,7 +51,7 @@ fn put<'a>(
 }
 
 // The answers written so far, and whether the last output was written whole.
-#[derive(Drop)]
+#[derive(Clone, Copy)]
 pub struct Written {
     pub answers: u64,
     pub whole: bool,
@@ -90,7 +91,7 @@ fn put_out<'a>(
 }
 
 // The state after a piece of input, the answers so far, and whether to go on.
-#[derive(Drop)]
+#[derive(Clone, Copy)]
 pub struct Going {
     pub reader: Reader,
     pub answers: u64,
@@ -136,7 +137,7 @@ fn piece(
 }
 
 // What a read brought: so many bytes, and whether more can follow.
-#[derive(Drop)]
+#[derive(Clone, Copy)]
 pub struct Got {
     pub count: usize,
     pub more: bool,
