@@ -4,13 +4,21 @@ ghost use Rattle.std.specs.Prelude.{◌+◌, ◌<◌, ◌≤◌, length};
 use lines::hex::LINE_FEED;
 use std::io::Error;
 
-// A line: what failed, after how many answers, and the system's reason, without the number that std prints behind it.
+// The system's reason alone, without the number that std prints behind it.
+fn reason(said: &str) -> &str {
+    match said.split_once(" (os error ") {
+        Some((reason, _number)) => reason,
+        None => said,
+    }
+}
+
+// A line: what failed, after how many answers, and the system's reason.
 pub fn failed(rt: &(impl Eprint + AllocGlobal), what: &str, answers: u64, why: &Error) {
     let ending = if answers == 1 { "" } else { "s" };
-    let said = why.to_string(rt.alloc()).unwrap_or(String::new(rt.alloc()));
-    let reason = match said.split_once(" (os error ") {
-        Some((reason, _number)) => reason,
-        None => said.as_str(),
+    let said = why.to_string(rt.alloc());
+    let reason = match &said {
+        Ok(said) => reason(said.as_str()),
+        Err(_no_memory) => "no memory to say why",
     };
     let _ = eprintln!(rt; "touches: {what} failed after {answers} answer{ending}: {reason}");
 }
