@@ -21,7 +21,7 @@ def declarations(text):
             lead.append(line)
         elif line == '':
             lead.append(line)
-        elif line[0] != ' ' and not line.startswith('unfolding') and not line.startswith(')'):
+        elif line[0] != ' ' and not line.startswith('unfolding') and line[0] not in ')}':
             if lead == [] and pieces and pieces[-1] and goes_on(pieces[-1], line):
                 pieces[-1].append(line)
             else:
@@ -187,7 +187,8 @@ def invariant(p, code, m, of):
         targets = ['?%d' % i for i in range(len(binders))]
     table = {b: t for b, t in zip(binders, targets) if b != '_'}
     body = text[eq + 1:]
-    body = NAME.sub(lambda x: table.get(x.group(0), x.group(0)) if body[x.start() - 1:x.start()] != '.' else x.group(0), body)
+    field = lambda x: re.search(r"[{;]\s*$", body[:x.start()]) and re.match(r"\s*=", body[x.end():])
+    body = NAME.sub(lambda x: x.group(0) if body[x.start() - 1:x.start()] == '.' or field(x) else table.get(x.group(0), x.group(0)), body)
     return '\n'.join(comments + ['abbrev pub %s-%s : goal.%s-%s' % (kind, new, kind, new), '%s-%s l =%s' % (kind, new, body)])
 
 
@@ -265,6 +266,7 @@ def contexts(body, env, places):
         return '.'.join(['c', new] + tail)
 
     body = CHAIN.sub(sub, body)
+    body = re.sub(r"(?<=\bargs\.)t(\d+)\b", lambda m: places.params[int(m.group(1)) - 1] if 0 < int(m.group(1)) <= len(places.params) else m.group(0), body)
     # the test of `if !x` now says what x is
     return re.sub(r"not-(true|false)\s+_\s+(c\.if-not-[\w'₀-₉+-]+\.\1)", r"\2", body)
 

@@ -1,0 +1,36 @@
+-- The rows are filled, lowered by every corner of the other outline, and searched. Assumes nothing.
+use mathlib.Core.Path.{refl}
+use native.Mathlib.Omega.{arith}
+use lib.ListN.{get_or-replicate}
+use lib.Ieee.{nan}
+use Rattle.floats.specs.B2Common.{b2_max_float}
+use Rattle.outline_contacts.proofs.Separation.{greatest_separation}
+use borrow.Author.Rules.{rules}
+use Rattle.outline_contacts.proofs.b2_collide_polygon.max_separation_of_a.Goals as goal
+
+pub face_rows-requires : goal.face_rows-requires
+face_rows-requires c = (omega arith, refl, refl, refl, refl)
+
+pub lower_all-requires : goal.lower_all-requires
+lower_all-requires c =
+    let face_rows = c.face_rows in
+    let rows = face_rows.ensures in
+    (omega arith, omega arith, rows.nxs_size, rows.nys_size, rows.xs_size, rows.ys_size, refl)
+
+pub greatest-requires : goal.greatest-requires
+greatest-requires c =
+    let lower_all = c.lower_all in
+    (omega arith, omega arith, lower_all.ensures.size)
+
+pub returns : goal.returns
+returns c =
+    let lower_all = c.lower_all in
+    let face_rows = c.face_rows in
+    let padded = c.padded-n in
+    let args = c.args in (
+      c.greatest.ensures.0,
+      greatest_separation args.xf args.v1s args.n1s args.v2s args.count1 args.count2
+          padded.result _ _ _ _ _ _
+          face_rows.ensures (omega arith) (λ i below. get_or-replicate 8 i b2_max_float nan (omega arith))
+          lower_all.ensures _ c.greatest.ensures.1,
+    )

@@ -1,0 +1,72 @@
+-- What the scan keeps from here is what it keeps of all places. Assumes nothing.
+use mathlib.Core.Path.{◌≡◌, sym, ◌∙◌, ap}
+use mathlib.Core.List.{map}
+use mathlib.Core.Logic.{⊎_elim}
+use Prim.Native.Nat.{ℕ, ◌<◌, ◌≤◌, ◌-◌}
+use native.Mathlib.Omega.{arith}
+use lib.ListN.{length}
+use lib.Ieee.{Float, lt}
+use Rattle.algebra.specs.Loops.{places, scan}
+use Rattle.floats.specs.B2Math.{b2_dot}
+use Rattle.shape_definitions.specs.Outline.{point_at}
+use Rattle.contact_definitions.specs.declared.axis.Best.{Best}
+use Rattle.contact_definitions.specs.Searches.{valued, is_less, first_least}
+use Rattle.contact_definitions.proofs.Searches.{scan_starts, replaced_by, kept_over, scanned_all}
+use Rattle.outline_contacts.proofs.Gathered.{dot_is, corner_is}
+use borrow.Author.Rules.{rules}
+use Rattle.outline_contacts.proofs.faces.b2_find_incident_edge.Goals as goal
+
+pub loop-i-init : goal.loop-i-init
+unfolding first_least
+loop-i-init c = (
+  omega arith,
+  omega arith,
+  omega arith,
+  c.well_formed.1.0.1.0.1,
+  c.well_formed.1.1.0.1.0.1,
+  scan_starts is_less (valued (λ k. b2_dot c.args.n (point_at c.args.ns k))) _ c.args.count,
+)
+
+pub loop-i-preserved : goal.loop-i-preserved
+loop-i-preserved c =
+    let loop = c.loop-i in
+    let args = c.args in
+    let f : ℕ → Float = λ k. b2_dot args.n (point_at args.ns k) in
+    let i = loop.i in
+    let inv = loop.invariant in
+    let best : Best = record { place = loop.index; value = loop.min_dot } in
+    let within : i < length args.ns = omega (arith, inv.3) in
+    let value_is = dot_is args.n args.ns i in
+    ⊎_elim
+    (λ w. rw (w.1, w.2) (
+      omega arith,
+      omega arith,
+      omega arith,
+      inv.3,
+      inv.4,
+      replaced_by is_less (valued f) best _ i args.count inv.5 _ (omega arith)
+          (ap (λ (x : Float). lt x loop.min_dot) (sym (value_is _ within)) ∙ w.0.taken)
+          (ap (λ (x : Float). record { place = i; value = x }) (value_is _ within)),
+    ))
+    (λ w. rw (w.1, w.2) (
+      omega arith,
+      omega arith,
+      omega arith,
+      inv.3,
+      inv.4,
+      kept_over is_less (valued f) best _ i args.count inv.5 (omega arith)
+          (ap (λ (x : Float). lt x loop.min_dot) (sym (value_is _ within)) ∙ w.0.left),
+    ))
+    c.if-dot-min_dot.branch
+
+pub returns : goal.returns
+returns c =
+    let loop = c.loop-i in
+    let args = c.args in
+    let f : ℕ → Float = λ k. b2_dot args.n (point_at args.ns k) in
+    let inv = loop.invariant in
+    let best : Best = record { place = loop.index; value = loop.min_dot } in (
+      omega arith,
+      corner_is args.vs loop.index loop.min_dot _ _ (omega (arith, inv.4))
+          (scanned_all is_less (valued f) best _ loop.i args.count inv.5 (omega arith)),
+    )

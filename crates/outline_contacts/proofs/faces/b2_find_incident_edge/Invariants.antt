@@ -1,0 +1,27 @@
+-- What the scan keeps from here is what it keeps of all places. Assumes nothing.
+use mathlib.Core.Path.{◌≡◌, sym, ◌∙◌, ap}
+use mathlib.Core.List.{map}
+use mathlib.Core.Logic.{⊎_elim}
+use Prim.Native.Nat.{ℕ, ◌<◌, ◌≤◌, ◌-◌}
+use native.Mathlib.Omega.{arith}
+use lib.ListN.{length}
+use lib.Ieee.{Float, lt}
+use Rattle.algebra.specs.Loops.{places, scan}
+use Rattle.floats.specs.B2Math.{b2_dot}
+use Rattle.shape_definitions.specs.Outline.{point_at}
+use Rattle.contact_definitions.specs.declared.axis.Best.{Best}
+use Rattle.contact_definitions.specs.Searches.{valued, is_less, first_least}
+use Rattle.contact_definitions.proofs.Searches.{scan_starts, replaced_by, kept_over, scanned_all}
+use Rattle.outline_contacts.proofs.Gathered.{dot_is, corner_is}
+use borrow.Author.Rules.{rules}
+use Rattle.outline_contacts.proofs.faces.b2_find_incident_edge.Given as goal
+
+abbrev pub invariant-loop-i : goal.invariant-loop-i
+invariant-loop-i l =
+    (l.i ≤ l.count) × (l.count ≤ 8) × (l.index < l.count) × (length l.ns ≡ 8) × (length l.vs ≡ 8)
+    × (scan is_less (record { place = l.index; value = l.min_dot })
+    (map (valued (λ k. b2_dot l.n (point_at l.ns k))) (places l.i (l.count - l.i)))
+    ≡ first_least (λ k. b2_dot l.n (point_at l.ns k)) l.count)
+
+abbrev pub decreases-loop-i : goal.decreases-loop-i
+decreases-loop-i l = l.count - l.i

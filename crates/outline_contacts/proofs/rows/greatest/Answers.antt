@@ -1,0 +1,67 @@
+-- What the scan keeps from here is what it keeps of all places. Assumes nothing.
+use mathlib.Core.Path.{◌≡◌, refl}
+use mathlib.Core.List.{map}
+use mathlib.Core.Logic.{⊎_elim}
+use Prim.Native.Nat.{◌<◌, ◌≤◌, ◌-◌}
+use native.Mathlib.Omega.{arith}
+use lib.ListN.{length}
+use Rattle.algebra.specs.Loops.{places, scan}
+use Rattle.contact_definitions.specs.Searches.{valued, is_greater, first_greatest}
+use Rattle.contact_definitions.proofs.Searches.{scan_starts, replaced_by, kept_over, scanned_all}
+use Rattle.contact_definitions.specs.declared.axis.Best.{Best}
+use Rattle.outline_contacts.specs.FaceRows.{Eight, at}
+use Rattle.outline_contacts.proofs.RowPlaces.{faced_is}
+use borrow.Author.Rules.{rules}
+use Rattle.outline_contacts.proofs.rows.greatest.Goals as goal
+
+pub loop-i-init : goal.loop-i-init
+unfolding first_greatest
+loop-i-init c = (
+  omega arith,
+  omega arith,
+  omega arith,
+  c.requires.2,
+  c.well_formed.1.0.1.0.1,
+  scan_starts is_greater (valued (at c.args.s.now)) _ c.args.count,
+)
+
+pub loop-i-preserved : goal.loop-i-preserved
+loop-i-preserved c =
+    let loop = c.loop-i in
+    let args = c.args in
+    let s = args.s.now in
+    let count = args.count in
+    let i = loop.i in
+    let inv = loop.invariant in
+    let best : Best = record { place = loop.place; value = loop.value } in
+    ⊎_elim
+    (λ w. rw (w.1, w.2) (
+      omega arith,
+      omega arith,
+      omega arith,
+      inv.3,
+      inv.4,
+      replaced_by is_greater (valued (at s)) best _ i count inv.5 (valued (at s) i) (omega arith) w.0.taken refl,
+    ))
+    (λ w. rw (w.1, w.2) (
+      omega arith,
+      omega arith,
+      omega arith,
+      inv.3,
+      inv.4,
+      kept_over is_greater (valued (at s)) best _ i count inv.5 (omega arith) w.0.left,
+    ))
+    c.if-x-value.branch
+
+pub returns : goal.returns
+returns c =
+    let loop = c.loop-i in
+    let args = c.args in
+    let s = args.s.now in
+    let place = loop.place in
+    let inv = loop.invariant in
+    let best : Best = record { place = place; value = loop.value } in (
+      omega arith,
+      faced_is args.ns place loop.value _ _ (omega (arith, inv.4))
+          (scanned_all is_greater (valued (at s)) best _ loop.i args.count inv.5 (omega arith)),
+    )

@@ -1,0 +1,13 @@
+-- By the region. Assumes nothing.
+use mathlib.Core.Path.{sym, ◌∙◌, ap}
+use Rattle.contact_definitions.specs.declared.axis.Axis.TheVariants.{Apart}
+use Rattle.contact_definitions.specs.EdgeAxis.{in_region}
+use borrow.Author.Rules.{rules}
+use Rattle.wall_contacts.proofs.edge_axis.in_region.Goals as goal
+
+pub returns-in-Skip : goal.returns-in-Skip
+returns-in-Skip c =
+    let enum_told' = c.enum_told-1 in
+    let args' = c.args in
+    ap Apart c.separation_of.ensures ∙ ap (λ region. in_region region args'.edge_axis args'.axis)
+    (sym enum_told'.given.1)

@@ -1,0 +1,17 @@
+-- The two ways of the test. Assumes nothing.
+use mathlib.Core.Path.{sym, ◌∙◌}
+use Rattle.wall_contacts.specs.EdgeCircle.{end_touch}
+use borrow.Author.Rules.{rules}
+use Rattle.wall_contacts.proofs.edge_circle.end_touch.Goals as goal
+
+pub returns-then-farther : goal.returns-then-farther
+unfolding end_touch
+returns-then-farther c =
+    let farther' = c.farther in
+    simp (sym farther'.ensures ∙ c.if-farther.true)
+
+pub returns : goal.returns
+unfolding end_touch
+returns c =
+    let farther' = c.farther in
+    simp (sym farther'.ensures ∙ c.if-farther.false)

@@ -1,0 +1,6 @@
+-- The id of its features. Assumes nothing.
+use borrow.Author.Rules.{rules}
+use Rattle.wall_contacts.proofs.edge_reference.clip_vertex.Goals as goal
+
+pub returns : goal.returns
+returns c = simp c.contact_id.ensures

@@ -1,0 +1,68 @@
+-- What the scan keeps from here is what it keeps of all faces. Assumes nothing.
+use mathlib.Core.Path.{◌≡◌}
+use mathlib.Core.Logic.{⊎_elim}
+use Prim.Native.Nat.{◌≤◌, ◌-◌}
+use lib.ListN.{length}
+use native.Mathlib.Omega.{arith}
+use Rattle.floats.specs.declared.b2_math.B2vec2.{B2vec2}
+use Rattle.floats.specs.declared.b2_math.B2Transform.{B2Transform}
+use Rattle.shape_definitions.specs.declared.b2_polygon_shape.B2polygonShape.{B2polygonShape}
+use Rattle.contact_definitions.specs.declared.axis.Axis.TheVariants.{FaceB}
+use Rattle.contact_definitions.specs.Axis.{keeps_farther}
+use Rattle.contact_definitions.specs.EdgeAxis.{placed_corner, placed_normal, outline_axis}
+use Rattle.contact_definitions.specs.EdgeAxis.{b2_compute_polygon_separation}
+use Rattle.wall_contacts.specs.PlacedRows.{Row, PointRows, face_distance}
+use Rattle.contact_definitions.proofs.Searches.{scanned, scanned_all}
+use Rattle.wall_contacts.proofs.FaceScan.{faces_from, faces_begun, face_taken, face_left}
+use borrow.Author.Rules.{rules}
+use Rattle.wall_contacts.proofs.edge_separation.b2_compute_polygon_separation.Goals as goal
+
+pub loop-i-init : goal.loop-i-init
+loop-i-init c = (
+  omega arith,
+  omega arith,
+  c.requires.1,
+  c.requires.2,
+  c.requires.3,
+  λ xf poly v1 v2 count_is rows normals. faces_begun xf
+      poly v1 v2 _ count_is,
+)
+
+pub loop-i-preserved : goal.loop-i-preserved
+loop-i-preserved c =
+    let loop' = c.loop-i in
+    let i = loop'.i in
+    let inv = loop'.invariant in
+    ⊎_elim
+    (λ w. rw (w.3, w.4, w.5, w.6) (
+      omega arith,
+      omega arith,
+      inv.2,
+      inv.3,
+      inv.4,
+      λ xf poly v1 v2 count_is rows normals.
+          scanned keeps_farther (outline_axis xf poly v1 v2) _ _ i _ (inv.5 xf poly v1 v2 count_is rows normals) _
+          (omega arith)
+          (face_taken xf poly v1 v2 i _ _ _ _ _ (rows.at i _ (omega arith)) _ _ (normals.x.at i _ (omega arith))
+          (normals.y.at i _ (omega arith)) w.0.taken),
+    ))
+    (λ w. rw (w.1, w.2, w.3, w.4) (
+      omega arith,
+      omega arith,
+      inv.2,
+      inv.3,
+      inv.4,
+      λ xf poly v1 v2 count_is rows normals.
+          scanned keeps_farther (outline_axis xf poly v1 v2) _ _ i _ (inv.5 xf poly v1 v2 count_is rows normals) _
+          (omega arith)
+          (face_left xf poly v1 v2 i _ _ _ _ _ (rows.at i _ (omega arith)) w.0.left),
+    ))
+    c.if-s-separation.branch
+
+pub returns : goal.returns
+returns c =
+    let loop' = c.loop-i in
+    let i = loop'.i in
+    λ xf poly v1 v2 count_is rows normals.
+    scanned_all keeps_farther (outline_axis xf poly v1 v2) _ _ i _
+    (loop'.invariant.5 xf poly v1 v2 count_is rows normals) (omega arith)

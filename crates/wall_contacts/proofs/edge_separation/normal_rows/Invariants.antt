@@ -1,0 +1,23 @@
+-- The places below i are filled, whatever points the rows hold. Assumes nothing.
+use mathlib.Core.Path.{◌≡◌, ◌∙◌, ap}
+use Prim.Native.Nat.{ℕ, ◌≤◌, ◌-◌}
+use lib.ListN.{length, length-set}
+use native.Mathlib.Omega.{arith}
+use Rattle.floats.specs.declared.b2_math.B2vec2.{B2vec2}
+use Rattle.floats.specs.B2Math.{b2_mul_rot_by_vec2}
+use Rattle.shape_definitions.specs.Outline.{point_at}
+use Rattle.wall_contacts.specs.PlacedRows.{Row, PointRows, face_distance}
+use Rattle.wall_contacts.proofs.RowsFilled.{row_empty, row_fewer, row_next, points_empty, points_fewer}
+use Rattle.wall_contacts.proofs.RowsFilled.{points_next, at_place, face_read}
+use borrow.Author.Rules.{rules}
+use Rattle.wall_contacts.proofs.edge_separation.normal_rows.Given as goal
+
+abbrev pub invariant-loop-i : goal.invariant-loop-i
+invariant-loop-i l =
+    (l.i ≤ l.n) × (l.n ≤ 8) × (length l.ns ≡ 8) × (length l.xs ≡ 8) × (length l.ys ≡ 8) × (length l.faces ≡ 8)
+    × PointRows (λ k. b2_mul_rot_by_vec2 l.q (point_at l.ns k)) l.i l.nxs l.nys
+    × ((corner : ℕ → B2vec2) → PointRows corner l.n l.xs l.ys
+    → Row (λ k. face_distance (b2_mul_rot_by_vec2 l.q (point_at l.ns k)) (corner k) l.v1 l.v2) l.i l.faces)
+
+abbrev pub decreases-loop-i : goal.decreases-loop-i
+decreases-loop-i l = l.n - l.i
