@@ -1,7 +1,6 @@
 -- What the scan keeps from here is what it keeps of all places. Assumes nothing.
 use mathlib.Core.Path.{◌≡◌, sym, ◌∙◌, ap}
 use mathlib.Core.List.{map}
-use mathlib.Core.Logic.{⊎_elim}
 use Prim.Native.Nat.{ℕ, ◌<◌, ◌≤◌, ◌-◌}
 use native.Mathlib.Omega.{arith}
 use lib.ListN.{length}
@@ -15,6 +14,7 @@ use Rattle.contact_definitions.proofs.Searches.{scan_starts, replaced_by, kept_o
 use Rattle.outline_contacts.proofs.Gathered.{dot_is, corner_is}
 use borrow.Author.Rules.{rules}
 use Rattle.outline_contacts.proofs.faces.b2_find_incident_edge.Goals as goal
+use Rattle.outline_contacts.proofs.faces.b2_find_incident_edge.Goals.{then-dot-min_dot, else-dot-min_dot}
 
 pub loop-i-init : goal.loop-i-init
 unfolding first_least
@@ -37,27 +37,27 @@ loop-i-preserved c =
     let best : Best = record { place = loop.index; value = loop.min_dot } in
     let within : i < length args.ns = omega (arith, inv.3) in
     let value_is = dot_is args.n args.ns i in
-    ⊎_elim
-    (λ w. rw (w.1, w.2) (
+    elim c.if-dot-min_dot.branch [
+      | then-dot-min_dot w ↦ rw (w.index-is, w.min_dot-is) (
       omega arith,
       omega arith,
       omega arith,
       inv.3,
       inv.4,
       replaced_by is_less (valued f) best _ i args.count inv.5 _ (omega arith)
-          (ap (λ (x : Float). lt x loop.min_dot) (sym (value_is _ within)) ∙ w.0.taken)
+          (ap (λ (x : Float). lt x loop.min_dot) (sym (value_is _ within)) ∙ w.if-dot-min_dot.true)
           (ap (λ (x : Float). record { place = i; value = x }) (value_is _ within)),
-    ))
-    (λ w. rw (w.1, w.2) (
+    )
+      | else-dot-min_dot w ↦ rw (w.index-is, w.min_dot-is) (
       omega arith,
       omega arith,
       omega arith,
       inv.3,
       inv.4,
       kept_over is_less (valued f) best _ i args.count inv.5 (omega arith)
-          (ap (λ (x : Float). lt x loop.min_dot) (sym (value_is _ within)) ∙ w.0.left),
-    ))
-    c.if-dot-min_dot.branch
+          (ap (λ (x : Float). lt x loop.min_dot) (sym (value_is _ within)) ∙ w.if-dot-min_dot.false),
+    )
+    ]
 
 pub returns : goal.returns
 returns c =

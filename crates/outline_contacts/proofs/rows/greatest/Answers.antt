@@ -1,7 +1,6 @@
 -- What the scan keeps from here is what it keeps of all places. Assumes nothing.
 use mathlib.Core.Path.{◌≡◌, refl}
 use mathlib.Core.List.{map}
-use mathlib.Core.Logic.{⊎_elim}
 use Prim.Native.Nat.{◌<◌, ◌≤◌, ◌-◌}
 use native.Mathlib.Omega.{arith}
 use lib.ListN.{length}
@@ -13,6 +12,7 @@ use Rattle.outline_contacts.specs.FaceRows.{Eight, at}
 use Rattle.outline_contacts.proofs.RowPlaces.{faced_is}
 use borrow.Author.Rules.{rules}
 use Rattle.outline_contacts.proofs.rows.greatest.Goals as goal
+use Rattle.outline_contacts.proofs.rows.greatest.Goals.{then-x-value, else-x-value}
 
 pub loop-i-init : goal.loop-i-init
 unfolding first_greatest
@@ -34,24 +34,24 @@ loop-i-preserved c =
     let i = loop.i in
     let inv = loop.invariant in
     let best : Best = record { place = loop.place; value = loop.value } in
-    ⊎_elim
-    (λ w. rw (w.1, w.2) (
+    elim c.if-x-value.branch [
+      | then-x-value w ↦ rw (w.place-is, w.value-is) (
       omega arith,
       omega arith,
       omega arith,
       inv.3,
       inv.4,
-      replaced_by is_greater (valued (at s)) best _ i count inv.5 (valued (at s) i) (omega arith) w.0.taken refl,
-    ))
-    (λ w. rw (w.1, w.2) (
+      replaced_by is_greater (valued (at s)) best _ i count inv.5 (valued (at s) i) (omega arith) w.if-x-value.true refl,
+    )
+      | else-x-value w ↦ rw (w.place-is, w.value-is) (
       omega arith,
       omega arith,
       omega arith,
       inv.3,
       inv.4,
-      kept_over is_greater (valued (at s)) best _ i count inv.5 (omega arith) w.0.left,
-    ))
-    c.if-x-value.branch
+      kept_over is_greater (valued (at s)) best _ i count inv.5 (omega arith) w.if-x-value.false,
+    )
+    ]
 
 pub returns : goal.returns
 returns c =
