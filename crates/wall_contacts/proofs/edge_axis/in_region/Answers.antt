@@ -7,7 +7,6 @@ use Rattle.wall_contacts.proofs.edge_axis.in_region.Goals as goal
 
 pub returns-in-Skip : goal.returns-in-Skip
 returns-in-Skip c =
-    let enum_told' = c.enum_told-1 in
     let args' = c.args in
     ap Apart c.separation_of.ensures ∙ ap (λ region. in_region region args'.edge_axis args'.axis)
-    (sym enum_told'.given.1)
+    (sym c.in-Skip.is)

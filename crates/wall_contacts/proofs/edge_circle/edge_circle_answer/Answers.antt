@@ -9,26 +9,23 @@ use Rattle.wall_contacts.proofs.edge_circle.edge_circle_answer.Goals as goal
 pub returns-in-Nothing : goal.returns-in-Nothing
 unfolding touch_answer
 returns-in-Nothing c =
-    let enum_told' = c.enum_told-1 in
     let wall_touch' = c.wall_touch-t in
     let args' = c.args in
-    answered args'.m args'.edge args'.centre _ _ _ _ enum_told'.given.1
+    answered args'.m args'.edge args'.centre _ _ _ _ c.in-Nothing.is
     (ap manifold_accepted c.no_points.ensures) (wall_touch'.ensures args'.m args'.centre)
 
 pub returns-in-End : goal.returns-in-End
 returns-in-End c =
-    let t' = c.t-1 in
     let wall_touch' = c.wall_touch-t in
     let args' = c.args in
-    end_answered args'.m args'.edge args'.centre _ _ _ _ _ _ t'.given.1 c.circle_point.ensures
+    end_answered args'.m args'.edge args'.centre _ _ _ _ _ _ c.in-End.is c.circle_point.ensures
     (wall_touch'.ensures args'.m args'.centre)
 
 pub returns-in-Face : goal.returns-in-Face
 returns-in-Face c =
-    let t2' = c.t-in-Face-1 in
     let wall_touch' = c.wall_touch-t in
     let args' = c.args in
-    face_answered args'.m args'.edge args'.centre _ _ _ _ _ t2'.given.1 c.circle_point-in-Face.ensures
+    face_answered args'.m args'.edge args'.centre _ _ _ _ _ c.in-Face.is c.circle_point-in-Face.ensures
     (wall_touch'.ensures args'.m args'.centre)
 
 pub returns-in-Flat : goal.returns-in-Flat
@@ -36,5 +33,5 @@ unfolding touch_answer
 returns-in-Flat c =
     let wall_touch' = c.wall_touch-t in
     let args' = c.args in
-    answered args'.m args'.edge args'.centre _ _ _ _ c.enum_told-in-Flat-1.given.1
+    answered args'.m args'.edge args'.centre _ _ _ _ c.in-Flat.is
     (refl) (wall_touch'.ensures args'.m args'.centre)

@@ -16,6 +16,7 @@ use Rattle.wall_contacts.proofs.Against.{dot_at, more_against, against_from, aga
 use Rattle.wall_contacts.proofs.Against.{against_left}
 use borrow.Author.Rules.{rules}
 use Rattle.wall_contacts.proofs.edge_reference.most_against.Goals as goal
+use Rattle.wall_contacts.proofs.edge_reference.most_against.Goals.{then-value-best, else-value-best}
 
 pub loop-i-init : goal.loop-i-init
 loop-i-init c =
@@ -49,8 +50,7 @@ loop-i-preserved c =
     let n = args'.n in
     let i = loop'.i in
     let inv = loop'.invariant in
-    ⊎_elim
-    (λ w. rw (w.2, w.3, w.4) (
+    elim c.if-value-best.branch [ then-value-best w ↦ rw (w.index-is, w.best-is, w.v-is) (
       omega arith,
       omega arith,
       omega arith,
@@ -58,13 +58,12 @@ loop-i-preserved c =
       inv.4,
       inv.5,
       inv.6,
-      λ corner rows. w.1.ensures corner _ (omega arith) rows,
+      λ corner rows. w.row_point-v-then-value-best.ensures corner _ (omega arith) rows,
       λ xf poly count_is normals.
           let value_is = b2_dot2'.ensures ∙ ap (b2_dot n) (row_point3'.ensures _ _ (omega arith) normals) in
           let kept = inv.8 xf poly count_is normals in
-          (value_is, against_taken xf poly n _ i _ _ _ _ (omega arith) value_is kept.0 kept.1 w.0.taken),
-    ))
-    (λ w. rw (w.1, w.2, w.3) (
+          (value_is, against_taken xf poly n _ i _ _ _ _ (omega arith) value_is kept.0 kept.1 w.if-value-best.true),
+    ) | else-value-best w ↦ rw (w.index-is, w.best-is, w.v-is) (
       omega arith,
       omega arith,
       omega arith,
@@ -76,9 +75,8 @@ loop-i-preserved c =
       λ xf poly count_is normals.
           let value_is = b2_dot2'.ensures ∙ ap (b2_dot n) (row_point3'.ensures _ _ (omega arith) normals) in
           let kept = inv.8 xf poly count_is normals in
-          (kept.0, against_left xf poly n _ i _ _ _ _ (omega arith) value_is kept.0 kept.1 w.0.left),
-    ))
-    c.if-value-best.branch
+          (kept.0, against_left xf poly n _ i _ _ _ _ (omega arith) value_is kept.0 kept.1 w.if-value-best.false),
+    ) ]
 
 pub returns : goal.returns
 returns c =

@@ -16,6 +16,7 @@ use Rattle.contact_definitions.proofs.Searches.{scanned, scanned_all}
 use Rattle.wall_contacts.proofs.FaceScan.{faces_from, faces_begun, face_taken, face_left}
 use borrow.Author.Rules.{rules}
 use Rattle.wall_contacts.proofs.edge_separation.b2_compute_polygon_separation.Goals as goal
+use Rattle.wall_contacts.proofs.edge_separation.b2_compute_polygon_separation.Goals.{then-s-separation, else-s-separation}
 
 pub loop-i-init : goal.loop-i-init
 loop-i-init c = (
@@ -33,8 +34,7 @@ loop-i-preserved c =
     let loop' = c.loop-i in
     let i = loop'.i in
     let inv = loop'.invariant in
-    ⊎_elim
-    (λ w. rw (w.3, w.4, w.5, w.6) (
+    elim c.if-s-separation.branch [ then-s-separation w ↦ rw (w.separation-is, w.x-is, w.y-is, w.place-is) (
       omega arith,
       omega arith,
       inv.2,
@@ -44,9 +44,8 @@ loop-i-preserved c =
           scanned keeps_farther (outline_axis xf poly v1 v2) _ _ i _ (inv.5 xf poly v1 v2 count_is rows normals) _
           (omega arith)
           (face_taken xf poly v1 v2 i _ _ _ _ _ (rows.at i _ (omega arith)) _ _ (normals.x.at i _ (omega arith))
-          (normals.y.at i _ (omega arith)) w.0.taken),
-    ))
-    (λ w. rw (w.1, w.2, w.3, w.4) (
+          (normals.y.at i _ (omega arith)) w.if-s-separation.true),
+    ) | else-s-separation w ↦ rw (w.separation-is, w.x-is, w.y-is, w.place-is) (
       omega arith,
       omega arith,
       inv.2,
@@ -55,9 +54,8 @@ loop-i-preserved c =
       λ xf poly v1 v2 count_is rows normals.
           scanned keeps_farther (outline_axis xf poly v1 v2) _ _ i _ (inv.5 xf poly v1 v2 count_is rows normals) _
           (omega arith)
-          (face_left xf poly v1 v2 i _ _ _ _ _ (rows.at i _ (omega arith)) w.0.left),
-    ))
-    c.if-s-separation.branch
+          (face_left xf poly v1 v2 i _ _ _ _ _ (rows.at i _ (omega arith)) w.if-s-separation.false),
+    ) ]
 
 pub returns : goal.returns
 returns c =

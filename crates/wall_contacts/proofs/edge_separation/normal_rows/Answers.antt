@@ -44,7 +44,7 @@ loop-i-preserved c =
     let i = loop'.i in
     let inv = loop'.invariant in
     let m_is = b2_mul_rot_by_vec2'.ensures ∙ ap (b2_mul_rot_by_vec2 args'.q)
-    (at_place args'.t2 i _ (omega arith)) in (
+    (at_place args'.ns i _ (omega arith)) in (
       omega arith,
       omega arith,
       inv.2,

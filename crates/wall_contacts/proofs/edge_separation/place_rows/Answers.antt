@@ -35,7 +35,7 @@ loop-i-preserved c =
       omega arith,
       inv.2,
       points_next _ (omega arith) inv.3 (c.b2_mul_transform_by_vec2-v.ensures
-          ∙ ap (b2_mul_transform_by_vec2 _) (at_place args'.t2 i _ (omega arith))),
+          ∙ ap (b2_mul_transform_by_vec2 _) (at_place args'.vs i _ (omega arith))),
     )
 
 pub returns : goal.returns
