@@ -2,7 +2,6 @@
 use Rattle.contact_definitions.specs.B2CollideEdge.{b2_collide_edge_and_circle}
 use Rattle.collision.proofs.Refused.{all_in_range, not_in_range}
 use Rattle.wall_contacts.specs.EdgeCircle.{wall_circle}
-use borrow.Author.Rules.{rules}
 use Rattle.wall_contacts.proofs.b2_collide_edge.b2_collide_edge_and_circle.Goals as goal
 
 pub returns-then-shapes-placed : goal.returns-then-shapes-placed

@@ -5,7 +5,6 @@ use Rattle.contact_definitions.specs.B2CollideEdge.{b2_collide_edge_and_polygon}
 use Rattle.collision.proofs.Refused.{made_in_range, not_in_range, count_refused, count_taken, counted_well}
 use Rattle.collision.proofs.Refused.{more_than_none}
 use Rattle.wall_contacts.proofs.Manifolds.{at_placement}
-use borrow.Author.Rules.{rules}
 use Rattle.wall_contacts.proofs.b2_collide_edge.b2_collide_edge_and_polygon.Goals as goal
 
 pub returns-then-miscounted : goal.returns-then-miscounted

@@ -1,5 +1,4 @@
 -- A two-sided wall has no back. Assumes nothing.
-use borrow.Author.Rules.{rules}
 use Rattle.wall_contacts.proofs.b2_collide_edge.centroid_behind.Goals as goal
 
 pub returns-then-edge : goal.returns-then-edge

@@ -1,5 +1,4 @@
 -- The centre in the wall's frame. Assumes nothing.
-use borrow.Author.Rules.{rules}
 use Rattle.wall_contacts.proofs.b2_collide_edge.wall_circle_answer.Goals as goal
 
 pub returns : goal.returns

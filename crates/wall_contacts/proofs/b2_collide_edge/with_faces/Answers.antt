@@ -1,14 +1,12 @@
 -- The axis found is that of the definition. Assumes nothing.
-use mathlib.Core.Path.{◌≡◌, refl, ◌∙◌, ap}
-use Prim.Native.Nat.{◌≤◌}
+use mathlib.Core.Path.{refl, ◌∙◌, ap}
 use native.Mathlib.Omega.{arith}
 use Rattle.contact_definitions.specs.Manifold.{with_count}
-use Rattle.contact_definitions.specs.EdgeAxis.{edge_polygon_axis, primary_axis}
+use Rattle.contact_definitions.specs.EdgeAxis.{primary_axis}
 use Rattle.wall_contacts.proofs.RowsFilled.{row_fewer, points_fewer}
 use Rattle.wall_contacts.proofs.FacePlaces.{found_place}
 use Rattle.wall_contacts.proofs.AxisFound.{normals_placed, faces_placed}
 use Rattle.wall_contacts.proofs.Manifolds.{on_found}
-use borrow.Author.Rules.{rules}
 use Rattle.wall_contacts.proofs.b2_collide_edge.with_faces.Goals as goal
 
 pub edge_manifold_on-requires : goal.edge_manifold_on-requires

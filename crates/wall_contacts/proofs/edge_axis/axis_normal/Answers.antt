@@ -1,7 +1,6 @@
 -- By the variant. Assumes nothing.
 use mathlib.Core.Path.{sym, ap}
 use Rattle.wall_contacts.specs.AxisParts.{axis_normal}
-use borrow.Author.Rules.{rules}
 use Rattle.wall_contacts.proofs.edge_axis.axis_normal.Goals as goal
 
 pub returns-in-Apart : goal.returns-in-Apart

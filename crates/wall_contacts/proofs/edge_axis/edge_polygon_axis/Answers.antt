@@ -1,6 +1,5 @@
 -- By whether the wall is one-sided. Assumes nothing.
 use Rattle.wall_contacts.proofs.AxisFound.{searched}
-use borrow.Author.Rules.{rules}
 use Rattle.wall_contacts.proofs.edge_axis.edge_polygon_axis.Goals as goal
 
 pub returns-then-edge : goal.returns-then-edge

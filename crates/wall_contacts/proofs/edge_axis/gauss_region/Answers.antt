@@ -3,7 +3,6 @@ use mathlib.Core.Path.{sym, ◌∙◌, ap}
 use lib.Ieee.{Float, le}
 use Rattle.rounding.specs.Literals.{zero32}
 use Rattle.contact_definitions.specs.EdgeAxis.{gauss_region}
-use borrow.Author.Rules.{rules}
 use Rattle.wall_contacts.proofs.edge_axis.gauss_region.Goals as goal
 
 pub returns-then-b2_dot : goal.returns-then-b2_dot

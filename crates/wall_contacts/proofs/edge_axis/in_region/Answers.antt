@@ -2,7 +2,6 @@
 use mathlib.Core.Path.{sym, ◌∙◌, ap}
 use Rattle.contact_definitions.specs.declared.axis.Axis.TheVariants.{Apart}
 use Rattle.contact_definitions.specs.EdgeAxis.{in_region}
-use borrow.Author.Rules.{rules}
 use Rattle.wall_contacts.proofs.edge_axis.in_region.Goals as goal
 
 pub returns-in-Skip : goal.returns-in-Skip

@@ -1,6 +1,5 @@
 -- By the tests on the way. Assumes nothing.
 use Rattle.contact_definitions.specs.EdgeAxis.{clearly_above, primary_axis}
-use borrow.Author.Rules.{rules}
 use Rattle.wall_contacts.proofs.edge_axis.primary_axis.Goals as goal
 
 pub returns-then-wall-radius : goal.returns-then-wall-radius

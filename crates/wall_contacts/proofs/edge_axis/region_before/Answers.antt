@@ -1,6 +1,5 @@
 -- The calls, last first. Assumes nothing.
 use Rattle.contact_definitions.specs.EdgeAxis.{right_of, region_before}
-use borrow.Author.Rules.{rules}
 use Rattle.wall_contacts.proofs.edge_axis.region_before.Goals as goal
 
 pub returns : goal.returns

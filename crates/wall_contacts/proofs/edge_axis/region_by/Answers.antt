@@ -1,5 +1,4 @@
 -- By the tests on the way. Assumes nothing.
-use borrow.Author.Rules.{rules}
 use Rattle.wall_contacts.proofs.edge_axis.region_by.Goals as goal
 
 pub returns-then-sine : goal.returns-then-sine

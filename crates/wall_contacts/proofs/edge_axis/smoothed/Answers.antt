@@ -2,7 +2,6 @@
 use mathlib.Core.Path.{sym, ◌∙◌, ap}
 use Rattle.contact_definitions.specs.EdgeAxis.{gauss_region, in_region}
 use Rattle.wall_contacts.proofs.Smoothing.{smoothed_apart, smoothed_face}
-use borrow.Author.Rules.{rules}
 use Rattle.wall_contacts.proofs.edge_axis.smoothed.Goals as goal
 
 pub returns-then-is_apart : goal.returns-then-is_apart

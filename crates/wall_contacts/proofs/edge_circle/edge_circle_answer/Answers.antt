@@ -3,7 +3,6 @@ use mathlib.Core.Path.{refl, ap}
 use Rattle.contact_definitions.specs.Manifold.{manifold_accepted}
 use Rattle.wall_contacts.specs.EdgeCircle.{touch_answer}
 use Rattle.wall_contacts.proofs.Regions.{answered, end_answered, face_answered}
-use borrow.Author.Rules.{rules}
 use Rattle.wall_contacts.proofs.edge_circle.edge_circle_answer.Goals as goal
 
 pub returns-in-Nothing : goal.returns-in-Nothing

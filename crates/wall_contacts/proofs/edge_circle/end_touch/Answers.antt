@@ -1,7 +1,6 @@
 -- The two ways of the test. Assumes nothing.
 use mathlib.Core.Path.{sym, ◌∙◌}
 use Rattle.wall_contacts.specs.EdgeCircle.{end_touch}
-use borrow.Author.Rules.{rules}
 use Rattle.wall_contacts.proofs.edge_circle.end_touch.Goals as goal
 
 pub returns-then-farther : goal.returns-then-farther

@@ -5,7 +5,6 @@ use Rattle.rounding.specs.Literals.{zero32}
 use Rattle.contact_definitions.specs.B2CollideCircle.{farther}
 use Rattle.wall_contacts.specs.EdgeCircle.{face_touch}
 use Rattle.wall_contacts.proofs.Regions.{foot_is}
-use borrow.Author.Rules.{rules}
 use Rattle.wall_contacts.proofs.edge_circle.face_touch.Goals as goal
 
 pub returns-then-farther : goal.returns-then-farther

@@ -1,5 +1,4 @@
 -- The two ways of the test. Assumes nothing.
-use borrow.Author.Rules.{rules}
 use Rattle.wall_contacts.proofs.edge_circle.facing.Goals as goal
 
 pub returns-then-offset : goal.returns-then-offset

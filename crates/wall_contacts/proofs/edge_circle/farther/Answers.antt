@@ -1,7 +1,6 @@
 -- The calls, last first. Assumes nothing.
 use Rattle.floats.specs.B2Math.{b2_distance_vec2_squared}
 use Rattle.contact_definitions.specs.B2CollideCircle.{farther}
-use borrow.Author.Rules.{rules}
 use Rattle.wall_contacts.proofs.edge_circle.farther.Goals as goal
 
 pub returns : goal.returns

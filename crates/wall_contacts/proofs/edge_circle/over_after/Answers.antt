@@ -1,6 +1,5 @@
 -- A two-sided wall has no neighbours. Assumes nothing.
 use Rattle.contact_definitions.specs.B2CollideEdge.{over_after}
-use borrow.Author.Rules.{rules}
 use Rattle.wall_contacts.proofs.edge_circle.over_after.Goals as goal
 
 pub returns-then-edge : goal.returns-then-edge

@@ -6,7 +6,6 @@ use Rattle.rounding.specs.Literals.{zero32}
 use Rattle.floats.specs.B2Math.{b2_dot}
 use Rattle.wall_contacts.proofs.Regions.{touch_behind, touch_before, touch_end1, touch_after, touch_end2}
 use Rattle.wall_contacts.proofs.Regions.{touch_middle}
-use borrow.Author.Rules.{rules}
 use Rattle.wall_contacts.proofs.edge_circle.wall_touch.Goals as goal
 
 pub returns-then-behind : goal.returns-then-behind

@@ -1,6 +1,5 @@
 -- By the axis. Assumes nothing.
-use mathlib.Core.Path.{◌≡◌, refl, sym, ◌∙◌, ap, subst}
-use mathlib.Core.Logic.{⊎_elim}
+use mathlib.Core.Path.{refl, sym, ◌∙◌, ap, subst}
 use native.Mathlib.Omega.{arith}
 use lib.Ieee.{Float}
 use Rattle.contact_definitions.specs.declared.axis.Axis.{Axis}
@@ -72,13 +71,15 @@ returns c =
     let pre = c.requires in
     let made' = made args.m args.xf args.radius in
     let on' = on args.m args.edge args.edge1 args.xf args.polygon args.radius in
-    elim c.match-axis.branch [ in-FaceA w ↦
-      c.reference_manifold.ensures ∙ ap made' (w.f-is ∙ w.reference_a-f.ensures args.xf args.polygon refl pre.3 pre.4)
-      ∙ on_wall args.m args.edge args.xf args.polygon args.radius args.edge1 _
-      ∙ ap on' (sym w.in-FaceA.is)
-    | in-FaceB w ↦
-      let below = subst (place_below args.polygon.m_count) w.in-FaceB.is pre.2 in
-      let polygon = c.well_formed.1.1.1.1.1.0 in
-      c.reference_manifold.ensures ∙ ap made' (w.f-is ∙ w.reference_b-f.ensures args.xf args.polygon refl pre.3 pre.4)
-      ∙ on_face_read args.m args.edge args.xf args.polygon args.radius _ _ _ (omega arith) polygon.1.1.1.1.1.0.1.0.1 polygon.1.1.1.1.0.1.0.1
-      ∙ ap on' (sym w.in-FaceB.is) ]
+    elim c.match-axis.branch [
+      | in-FaceA w ↦
+          c.reference_manifold.ensures ∙ ap made' (w.f-is ∙ w.reference_a-f.ensures args.xf args.polygon refl pre.3 pre.4)
+          ∙ on_wall args.m args.edge args.xf args.polygon args.radius args.edge1 _
+          ∙ ap on' (sym w.in-FaceA.is)
+      | in-FaceB w ↦
+          let below = subst (place_below args.polygon.m_count) w.in-FaceB.is pre.2 in
+          let polygon = c.well_formed.1.1.1.1.1.0 in
+          c.reference_manifold.ensures ∙ ap made' (w.f-is ∙ w.reference_b-f.ensures args.xf args.polygon refl pre.3 pre.4)
+          ∙ on_face_read args.m args.edge args.xf args.polygon args.radius _ _ _ (omega arith) polygon.1.1.1.1.1.0.1.0.1 polygon.1.1.1.1.0.1.0.1
+          ∙ ap on' (sym w.in-FaceB.is)
+    ]

@@ -1,5 +1,4 @@
 -- By the reference. Assumes nothing.
-use borrow.Author.Rules.{rules}
 use Rattle.wall_contacts.proofs.edge_manifold.placed_end.Goals as goal
 
 pub returns-then-flip : goal.returns-then-flip

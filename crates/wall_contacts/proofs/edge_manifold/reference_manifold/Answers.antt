@@ -1,7 +1,6 @@
 -- By what is left between the two sides. Assumes nothing.
 use Rattle.contact_definitions.specs.EdgeReference.{within_radius}
 use Rattle.wall_contacts.proofs.Clipped.{given_up, points_left}
-use borrow.Author.Rules.{rules}
 use Rattle.wall_contacts.proofs.edge_manifold.reference_manifold.Goals as goal
 
 pub returns-then-c-lt2 : goal.returns-then-c-lt2

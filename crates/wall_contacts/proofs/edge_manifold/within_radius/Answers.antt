@@ -1,5 +1,4 @@
 -- The calls, last first. Assumes nothing.
-use borrow.Author.Rules.{rules}
 use Rattle.wall_contacts.proofs.edge_manifold.within_radius.Goals as goal
 
 pub returns : goal.returns

@@ -1,5 +1,4 @@
 -- The id of its features. Assumes nothing.
-use borrow.Author.Rules.{rules}
 use Rattle.wall_contacts.proofs.edge_reference.clip_vertex.Goals as goal
 
 pub returns : goal.returns

@@ -1,6 +1,5 @@
 -- The two offsets. Assumes nothing.
 use Rattle.contact_definitions.specs.EdgeReference.{face_between}
-use borrow.Author.Rules.{rules}
 use Rattle.wall_contacts.proofs.edge_reference.face_between.Goals as goal
 
 pub returns : goal.returns

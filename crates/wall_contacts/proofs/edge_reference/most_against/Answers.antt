@@ -1,20 +1,10 @@
 -- What the scan keeps from here is what it keeps of all places; best is the value of the one kept. Assumes nothing.
-use mathlib.Core.Path.{◌≡◌, ◌∙◌, ap}
-use mathlib.Core.Logic.{⊎_elim}
-use Prim.Native.Nat.{ℕ, ◌≤◌, ◌<◌, ◌-◌}
-use lib.ListN.{length}
+use mathlib.Core.Path.{◌∙◌, ap}
 use native.Mathlib.Omega.{arith}
 use Rattle.algebra.proofs.Loops.{scan_ended}
-use Rattle.floats.specs.declared.b2_math.B2vec2.{B2vec2}
-use Rattle.floats.specs.declared.b2_math.B2Transform.{B2Transform}
 use Rattle.floats.specs.B2Math.{b2_dot}
-use Rattle.shape_definitions.specs.declared.b2_polygon_shape.B2polygonShape.{B2polygonShape}
-use Rattle.contact_definitions.specs.EdgeAxis.{placed_normal}
-use Rattle.contact_definitions.specs.EdgeReference.{most_against}
-use Rattle.wall_contacts.specs.PlacedRows.{PointRows}
-use Rattle.wall_contacts.proofs.Against.{dot_at, more_against, against_from, against_begun, against_taken}
+use Rattle.wall_contacts.proofs.Against.{more_against, against_begun, against_taken}
 use Rattle.wall_contacts.proofs.Against.{against_left}
-use borrow.Author.Rules.{rules}
 use Rattle.wall_contacts.proofs.edge_reference.most_against.Goals as goal
 use Rattle.wall_contacts.proofs.edge_reference.most_against.Goals.{then-value-best, else-value-best}
 
@@ -50,33 +40,36 @@ loop-i-preserved c =
     let n = args'.n in
     let i = loop'.i in
     let inv = loop'.invariant in
-    elim c.if-value-best.branch [ then-value-best w ↦ rw (w.index-is, w.best-is, w.v-is) (
-      omega arith,
-      omega arith,
-      omega arith,
-      inv.3,
-      inv.4,
-      inv.5,
-      inv.6,
-      λ corner rows. w.row_point-v-then-value-best.ensures corner _ (omega arith) rows,
-      λ xf poly count_is normals.
-          let value_is = b2_dot2'.ensures ∙ ap (b2_dot n) (row_point3'.ensures _ _ (omega arith) normals) in
-          let kept = inv.8 xf poly count_is normals in
-          (value_is, against_taken xf poly n _ i _ _ _ _ (omega arith) value_is kept.0 kept.1 w.if-value-best.true),
-    ) | else-value-best w ↦ rw (w.index-is, w.best-is, w.v-is) (
-      omega arith,
-      omega arith,
-      omega arith,
-      inv.3,
-      inv.4,
-      inv.5,
-      inv.6,
-      inv.7,
-      λ xf poly count_is normals.
-          let value_is = b2_dot2'.ensures ∙ ap (b2_dot n) (row_point3'.ensures _ _ (omega arith) normals) in
-          let kept = inv.8 xf poly count_is normals in
-          (kept.0, against_left xf poly n _ i _ _ _ _ (omega arith) value_is kept.0 kept.1 w.if-value-best.false),
-    ) ]
+    elim c.if-value-best.branch [
+      | then-value-best w ↦ rw (w.index-is, w.best-is, w.v-is) (
+        omega arith,
+        omega arith,
+        omega arith,
+        inv.3,
+        inv.4,
+        inv.5,
+        inv.6,
+        λ corner rows. w.row_point-v-then-value-best.ensures corner _ (omega arith) rows,
+        λ xf poly count_is normals.
+            let value_is = b2_dot2'.ensures ∙ ap (b2_dot n) (row_point3'.ensures _ _ (omega arith) normals) in
+            let kept = inv.8 xf poly count_is normals in
+            (value_is, against_taken xf poly n _ i _ _ _ _ (omega arith) value_is kept.0 kept.1 w.if-value-best.true),
+      )
+      | else-value-best w ↦ rw (w.index-is, w.best-is, w.v-is) (
+        omega arith,
+        omega arith,
+        omega arith,
+        inv.3,
+        inv.4,
+        inv.5,
+        inv.6,
+        inv.7,
+        λ xf poly count_is normals.
+            let value_is = b2_dot2'.ensures ∙ ap (b2_dot n) (row_point3'.ensures _ _ (omega arith) normals) in
+            let kept = inv.8 xf poly count_is normals in
+            (kept.0, against_left xf poly n _ i _ _ _ _ (omega arith) value_is kept.0 kept.1 w.if-value-best.false),
+      )
+    ]
 
 pub returns : goal.returns
 returns c =

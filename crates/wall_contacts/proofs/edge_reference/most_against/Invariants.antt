@@ -1,20 +1,14 @@
 -- What the scan keeps from here is what it keeps of all places; best is the value of the one kept. Assumes nothing.
-use mathlib.Core.Path.{◌≡◌, ◌∙◌, ap}
-use mathlib.Core.Logic.{⊎_elim}
+use mathlib.Core.Path.{◌≡◌}
 use Prim.Native.Nat.{ℕ, ◌≤◌, ◌<◌, ◌-◌}
 use lib.ListN.{length}
-use native.Mathlib.Omega.{arith}
-use Rattle.algebra.proofs.Loops.{scan_ended}
 use Rattle.floats.specs.declared.b2_math.B2vec2.{B2vec2}
 use Rattle.floats.specs.declared.b2_math.B2Transform.{B2Transform}
-use Rattle.floats.specs.B2Math.{b2_dot}
 use Rattle.shape_definitions.specs.declared.b2_polygon_shape.B2polygonShape.{B2polygonShape}
 use Rattle.contact_definitions.specs.EdgeAxis.{placed_normal}
 use Rattle.contact_definitions.specs.EdgeReference.{most_against}
 use Rattle.wall_contacts.specs.PlacedRows.{PointRows}
-use Rattle.wall_contacts.proofs.Against.{dot_at, more_against, against_from, against_begun, against_taken}
-use Rattle.wall_contacts.proofs.Against.{against_left}
-use borrow.Author.Rules.{rules}
+use Rattle.wall_contacts.proofs.Against.{dot_at, against_from}
 use Rattle.wall_contacts.proofs.edge_reference.most_against.Given as goal
 
 abbrev pub invariant-loop-i : goal.invariant-loop-i

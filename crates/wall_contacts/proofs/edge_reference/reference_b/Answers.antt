@@ -1,6 +1,5 @@
 -- From the parts. Assumes nothing.
 use Rattle.wall_contacts.proofs.References.{face_reference_is}
-use borrow.Author.Rules.{rules}
 use Rattle.wall_contacts.proofs.edge_reference.reference_b.Goals as goal
 
 pub returns : goal.returns

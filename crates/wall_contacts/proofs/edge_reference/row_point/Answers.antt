@@ -1,6 +1,5 @@
 -- Two reads. Assumes nothing.
 use Rattle.wall_contacts.proofs.RowsFilled.{point_read}
-use borrow.Author.Rules.{rules}
 use Rattle.wall_contacts.proofs.edge_reference.row_point.Goals as goal
 
 pub returns : goal.returns

@@ -3,7 +3,6 @@ use Prim.Native.Nat.{◌≤◌}
 use Rattle.wall_contacts.proofs.RowsFilled.{row_fewer}
 use Rattle.wall_contacts.proofs.EdgeSide.{edge_separation_from}
 use native.Mathlib.Omega.{arith}
-use borrow.Author.Rules.{rules}
 use Rattle.wall_contacts.proofs.edge_separation.b2_compute_edge_separation.Goals as goal
 
 pub least_of-requires : goal.least_of-requires

@@ -1,20 +1,9 @@
 -- What the scan keeps from here is what it keeps of all faces. Assumes nothing.
-use mathlib.Core.Path.{◌≡◌}
-use mathlib.Core.Logic.{⊎_elim}
-use Prim.Native.Nat.{◌≤◌, ◌-◌}
-use lib.ListN.{length}
 use native.Mathlib.Omega.{arith}
-use Rattle.floats.specs.declared.b2_math.B2vec2.{B2vec2}
-use Rattle.floats.specs.declared.b2_math.B2Transform.{B2Transform}
-use Rattle.shape_definitions.specs.declared.b2_polygon_shape.B2polygonShape.{B2polygonShape}
-use Rattle.contact_definitions.specs.declared.axis.Axis.TheVariants.{FaceB}
 use Rattle.contact_definitions.specs.Axis.{keeps_farther}
-use Rattle.contact_definitions.specs.EdgeAxis.{placed_corner, placed_normal, outline_axis}
-use Rattle.contact_definitions.specs.EdgeAxis.{b2_compute_polygon_separation}
-use Rattle.wall_contacts.specs.PlacedRows.{Row, PointRows, face_distance}
+use Rattle.contact_definitions.specs.EdgeAxis.{outline_axis}
 use Rattle.contact_definitions.proofs.Searches.{scanned, scanned_all}
-use Rattle.wall_contacts.proofs.FaceScan.{faces_from, faces_begun, face_taken, face_left}
-use borrow.Author.Rules.{rules}
+use Rattle.wall_contacts.proofs.FaceScan.{faces_begun, face_taken, face_left}
 use Rattle.wall_contacts.proofs.edge_separation.b2_compute_polygon_separation.Goals as goal
 use Rattle.wall_contacts.proofs.edge_separation.b2_compute_polygon_separation.Goals.{then-s-separation, else-s-separation}
 
@@ -34,28 +23,31 @@ loop-i-preserved c =
     let loop' = c.loop-i in
     let i = loop'.i in
     let inv = loop'.invariant in
-    elim c.if-s-separation.branch [ then-s-separation w ↦ rw (w.separation-is, w.x-is, w.y-is, w.place-is) (
-      omega arith,
-      omega arith,
-      inv.2,
-      inv.3,
-      inv.4,
-      λ xf poly v1 v2 count_is rows normals.
-          scanned keeps_farther (outline_axis xf poly v1 v2) _ _ i _ (inv.5 xf poly v1 v2 count_is rows normals) _
-          (omega arith)
-          (face_taken xf poly v1 v2 i _ _ _ _ _ (rows.at i _ (omega arith)) _ _ (normals.x.at i _ (omega arith))
-          (normals.y.at i _ (omega arith)) w.if-s-separation.true),
-    ) | else-s-separation w ↦ rw (w.separation-is, w.x-is, w.y-is, w.place-is) (
-      omega arith,
-      omega arith,
-      inv.2,
-      inv.3,
-      inv.4,
-      λ xf poly v1 v2 count_is rows normals.
-          scanned keeps_farther (outline_axis xf poly v1 v2) _ _ i _ (inv.5 xf poly v1 v2 count_is rows normals) _
-          (omega arith)
-          (face_left xf poly v1 v2 i _ _ _ _ _ (rows.at i _ (omega arith)) w.if-s-separation.false),
-    ) ]
+    elim c.if-s-separation.branch [
+      | then-s-separation w ↦ rw (w.separation-is, w.x-is, w.y-is, w.place-is) (
+        omega arith,
+        omega arith,
+        inv.2,
+        inv.3,
+        inv.4,
+        λ xf poly v1 v2 count_is rows normals.
+            scanned keeps_farther (outline_axis xf poly v1 v2) _ _ i _ (inv.5 xf poly v1 v2 count_is rows normals) _
+            (omega arith)
+            (face_taken xf poly v1 v2 i _ _ _ _ _ (rows.at i _ (omega arith)) _ _ (normals.x.at i _ (omega arith))
+            (normals.y.at i _ (omega arith)) w.if-s-separation.true),
+      )
+      | else-s-separation w ↦ rw (w.separation-is, w.x-is, w.y-is, w.place-is) (
+        omega arith,
+        omega arith,
+        inv.2,
+        inv.3,
+        inv.4,
+        λ xf poly v1 v2 count_is rows normals.
+            scanned keeps_farther (outline_axis xf poly v1 v2) _ _ i _ (inv.5 xf poly v1 v2 count_is rows normals) _
+            (omega arith)
+            (face_left xf poly v1 v2 i _ _ _ _ _ (rows.at i _ (omega arith)) w.if-s-separation.false),
+      )
+    ]
 
 pub returns : goal.returns
 returns c =

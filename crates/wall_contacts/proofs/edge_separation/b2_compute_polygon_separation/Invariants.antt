@@ -1,20 +1,15 @@
 -- What the scan keeps from here is what it keeps of all faces. Assumes nothing.
 use mathlib.Core.Path.{◌≡◌}
-use mathlib.Core.Logic.{⊎_elim}
 use Prim.Native.Nat.{◌≤◌, ◌-◌}
 use lib.ListN.{length}
-use native.Mathlib.Omega.{arith}
 use Rattle.floats.specs.declared.b2_math.B2vec2.{B2vec2}
 use Rattle.floats.specs.declared.b2_math.B2Transform.{B2Transform}
 use Rattle.shape_definitions.specs.declared.b2_polygon_shape.B2polygonShape.{B2polygonShape}
 use Rattle.contact_definitions.specs.declared.axis.Axis.TheVariants.{FaceB}
-use Rattle.contact_definitions.specs.Axis.{keeps_farther}
-use Rattle.contact_definitions.specs.EdgeAxis.{placed_corner, placed_normal, outline_axis}
+use Rattle.contact_definitions.specs.EdgeAxis.{placed_corner, placed_normal}
 use Rattle.contact_definitions.specs.EdgeAxis.{b2_compute_polygon_separation}
 use Rattle.wall_contacts.specs.PlacedRows.{Row, PointRows, face_distance}
-use Rattle.contact_definitions.proofs.Searches.{scanned, scanned_all}
-use Rattle.wall_contacts.proofs.FaceScan.{faces_from, faces_begun, face_taken, face_left}
-use borrow.Author.Rules.{rules}
+use Rattle.wall_contacts.proofs.FaceScan.{faces_from}
 use Rattle.wall_contacts.proofs.edge_separation.b2_compute_polygon_separation.Given as goal
 
 abbrev pub invariant-loop-i : goal.invariant-loop-i

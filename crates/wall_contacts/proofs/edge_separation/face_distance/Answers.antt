@@ -1,6 +1,5 @@
 -- The calls, last first. Assumes nothing.
 use Rattle.wall_contacts.specs.PlacedRows.{face_distance}
-use borrow.Author.Rules.{rules}
 use Rattle.wall_contacts.proofs.edge_separation.face_distance.Goals as goal
 
 pub returns : goal.returns

@@ -1,14 +1,8 @@
 -- What both scans keep from here is what they keep of all places. Assumes nothing.
-use mathlib.Core.Path.{◌≡◌}
-use Prim.Native.Nat.{ℕ, ◌≤◌, ◌-◌}
-use lib.Ieee.{Float}
-use lib.ListN.{length}
 use native.Mathlib.Omega.{arith}
-use Rattle.contact_definitions.specs.Searches.{below_value, least}
-use Rattle.wall_contacts.specs.PlacedRows.{Row}
+use Rattle.contact_definitions.specs.Searches.{below_value}
 use Rattle.contact_definitions.proofs.Searches.{scanned_all}
-use Rattle.wall_contacts.proofs.Scans.{scanned_from, least_begun, least_next}
-use borrow.Author.Rules.{rules}
+use Rattle.wall_contacts.proofs.Scans.{least_begun, least_next}
 use Rattle.wall_contacts.proofs.edge_separation.least_of.Goals as goal
 
 pub loop-i-init : goal.loop-i-init

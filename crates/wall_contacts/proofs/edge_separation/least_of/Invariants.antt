@@ -3,12 +3,9 @@ use mathlib.Core.Path.{◌≡◌}
 use Prim.Native.Nat.{ℕ, ◌≤◌, ◌-◌}
 use lib.Ieee.{Float}
 use lib.ListN.{length}
-use native.Mathlib.Omega.{arith}
 use Rattle.contact_definitions.specs.Searches.{below_value, least}
 use Rattle.wall_contacts.specs.PlacedRows.{Row}
-use Rattle.contact_definitions.proofs.Searches.{scanned_all}
-use Rattle.wall_contacts.proofs.Scans.{scanned_from, least_begun, least_next}
-use borrow.Author.Rules.{rules}
+use Rattle.wall_contacts.proofs.Scans.{scanned_from}
 use Rattle.wall_contacts.proofs.edge_separation.least_of.Given as goal
 
 abbrev pub invariant-loop-i : goal.invariant-loop-i

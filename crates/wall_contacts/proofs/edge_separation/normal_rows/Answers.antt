@@ -1,12 +1,8 @@
 -- The places below i are filled, whatever points the rows hold. Assumes nothing.
-use mathlib.Core.Path.{◌≡◌, ◌∙◌, ap}
-use Prim.Native.Nat.{ℕ, ◌≤◌, ◌-◌}
-use lib.ListN.{length, length-set}
+use mathlib.Core.Path.{◌∙◌, ap}
+use lib.ListN.{length-set}
 use native.Mathlib.Omega.{arith}
-use Rattle.floats.specs.declared.b2_math.B2vec2.{B2vec2}
 use Rattle.floats.specs.B2Math.{b2_mul_rot_by_vec2}
-use Rattle.shape_definitions.specs.Outline.{point_at}
-use Rattle.wall_contacts.specs.PlacedRows.{Row, PointRows, face_distance}
 use Rattle.wall_contacts.proofs.RowsFilled.{row_empty, row_fewer, row_next, points_empty, points_fewer}
 use Rattle.wall_contacts.proofs.RowsFilled.{points_next, at_place, face_read}
 use borrow.Author.Rules.{rules}

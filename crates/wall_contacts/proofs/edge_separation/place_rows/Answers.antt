@@ -1,11 +1,7 @@
 -- The places below i are filled. Assumes nothing.
-use mathlib.Core.Path.{◌≡◌, ◌∙◌, ap}
-use Prim.Native.Nat.{◌≤◌, ◌-◌}
-use lib.ListN.{length}
+use mathlib.Core.Path.{◌∙◌, ap}
 use native.Mathlib.Omega.{arith}
 use Rattle.floats.specs.B2Math.{b2_mul_transform_by_vec2}
-use Rattle.shape_definitions.specs.Outline.{point_at}
-use Rattle.wall_contacts.specs.PlacedRows.{PointRows}
 use Rattle.wall_contacts.proofs.RowsFilled.{points_empty, points_fewer, points_next, at_place}
 use borrow.Author.Rules.{rules}
 use Rattle.wall_contacts.proofs.edge_separation.place_rows.Goals as goal

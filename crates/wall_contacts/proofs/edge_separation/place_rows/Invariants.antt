@@ -1,13 +1,10 @@
 -- The places below i are filled. Assumes nothing.
-use mathlib.Core.Path.{◌≡◌, ◌∙◌, ap}
+use mathlib.Core.Path.{◌≡◌}
 use Prim.Native.Nat.{◌≤◌, ◌-◌}
 use lib.ListN.{length}
-use native.Mathlib.Omega.{arith}
 use Rattle.floats.specs.B2Math.{b2_mul_transform_by_vec2}
 use Rattle.shape_definitions.specs.Outline.{point_at}
 use Rattle.wall_contacts.specs.PlacedRows.{PointRows}
-use Rattle.wall_contacts.proofs.RowsFilled.{points_empty, points_fewer, points_next, at_place}
-use borrow.Author.Rules.{rules}
 use Rattle.wall_contacts.proofs.edge_separation.place_rows.Given as goal
 
 abbrev pub invariant-loop-i : goal.invariant-loop-i

@@ -1,13 +1,9 @@
 -- The places below i are filled, whatever points the rows hold. Assumes nothing.
-use mathlib.Core.Path.{◌≡◌, ◌∙◌, ap, ap₂}
-use Prim.Native.Nat.{ℕ, ◌≤◌, ◌-◌}
-use lib.ListN.{length, length-set}
+use mathlib.Core.Path.{◌∙◌, ap, ap₂}
+use lib.ListN.{length-set}
 use native.Mathlib.Omega.{arith}
-use Rattle.floats.specs.declared.b2_math.B2vec2.{B2vec2}
-use Rattle.floats.specs.B2Math.{b2_sub, b2_neg, b2_dot}
-use Rattle.wall_contacts.specs.PlacedRows.{Row, PointRows}
+use Rattle.floats.specs.B2Math.{b2_dot}
 use Rattle.wall_contacts.proofs.RowsFilled.{row_empty, row_fewer, row_next, difference_read}
-use borrow.Author.Rules.{rules}
 use Rattle.wall_contacts.proofs.edge_separation.side_rows.Goals as goal
 
 pub loop-i-init : goal.loop-i-init
