@@ -1,0 +1,6 @@
+-- Six blank results. Assumes nothing.
+use borrow.Author.Rules.{rules}
+use Rattle.frames.proofs.changes.said_alone.Goals as goal
+
+pub returns : goal.returns
+returns c = simp c.blank_touch-blank.ensures

@@ -1,0 +1,10 @@
+-- By the count. Assumes nothing.
+use borrow.Author.Tests.{le-leb, lt-leb}
+use borrow.Author.Rules.{rules}
+use Rattle.frames.proofs.frame.chain_length.Goals as goal
+
+pub returns-then-count-le8 : goal.returns-then-count-le8
+returns-then-count-le8 c = simp (le-leb _ _ c.if-count-le8.true)
+
+pub returns : goal.returns
+returns c = simp (lt-leb _ _ c.if-count-le8.false)

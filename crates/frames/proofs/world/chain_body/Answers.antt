@@ -1,0 +1,12 @@
+-- A chain, at the origin. Assumes nothing.
+use Rattle.record_definitions.specs.World.{chain_body}
+use borrow.Author.Rules.{rules}
+use Rattle.frames.proofs.world.chain_body.Goals as goal
+
+pub returns : goal.returns
+unfolding chain_body
+returns c =
+    let blank_outline = c.blank_outline in
+    let blank_circle = c.blank_circle in
+    let at_origin = c.at_origin in
+    simp (c.blank_wall.ensures, blank_outline.ensures, blank_circle.ensures, at_origin.ensures)

@@ -1,0 +1,16 @@
+-- The loop: the pairs with each of the first j partners are fresh. Assumes nothing.
+use Prim.Native.Nat.{◌-◌, ◌≤◌, ◌<◌}
+use mathlib.Core.Path.{◌≡◌, refl}
+use native.Mathlib.Numerals.{add-one}
+use native.Mathlib.Omega.{arith}
+use lib.ListN.{length, length-set}
+use Rattle.record_definitions.specs.World.{fresh_pair, forget_below}
+use borrow.Author.Rules.{rules}
+use Rattle.frames.proofs.world.forget.Given as goal
+
+abbrev pub invariant-loop-j : goal.invariant-loop-j
+invariant-loop-j l =
+    (l.j ≤ 8) × (l.id < 8) × (l.fresh ≡ fresh_pair) × (length l.ps ≡ 64) × (l.ps ≡ forget_below l.id l.initial.ps l.j)
+
+abbrev pub decreases-loop-j : goal.decreases-loop-j
+decreases-loop-j l = 8 - l.j
