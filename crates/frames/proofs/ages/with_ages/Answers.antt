@@ -11,5 +11,5 @@ pub returns : goal.returns
 unfolding with_ages
 returns c =
     let m = c.args.m in
-    let two : length m.points ≡ 2 = sym (length-map m.points _) ∙ c.well_formed.0.1.1.0.1.0.1 in
+    let two : length m.points ≡ 2 = c.well_formed.0.1.1.0.1.0.1 in
     simp (point_read m 0 two (omega arith), point_read m 1 two (omega arith))

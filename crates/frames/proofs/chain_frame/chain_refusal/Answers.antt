@@ -20,7 +20,7 @@ returns-then-some_short c =
     let if2 = c.if-not-all_in_range in
     let all_in_range = c.all_in_range in
     let if1 = c.if-count-lt2 in
-    λ bytes is. too_near _ bytes is if1.false (sym all_in_range.ensures ∙ not-false _ if2.false)
+    λ bytes is. too_near _ bytes is if1.false (sym all_in_range.ensures ∙ if2.false)
     (sym some_short.ensures ∙ c.if-some_short.true)
 
 pub returns : goal.returns
@@ -29,5 +29,5 @@ returns c =
     let if2 = c.if-not-all_in_range in
     let all_in_range = c.all_in_range in
     let if1 = c.if-count-lt2 in
-    λ bytes is. none_refused _ bytes is if1.false (sym all_in_range.ensures ∙ not-false _ if2.false)
+    λ bytes is. none_refused _ bytes is if1.false (sym all_in_range.ensures ∙ if2.false)
     (sym some_short.ensures ∙ c.if-some_short.false)

@@ -16,7 +16,7 @@ pub loop-i-init : goal.loop-i-init
 unfolding some_below
 loop-i-init c =
     let ps = c.args.chain.points in
-    (omega arith, omega arith, sym (length-map ps _) ∙ c.well_formed.0.1.1.0.1.0.1, λ chain is. refl)
+    (omega arith, omega arith, c.well_formed.0.1.1.0.1.0.1, λ chain is. refl)
 
 pub returns-then-not-length : goal.returns-then-not-length
 returns-then-not-length c =
@@ -24,8 +24,8 @@ returns-then-not-length c =
     let loop = c.loop-i in
     let chain = c.args.chain in
     sym (some_here (λ (k : ℕ). not (long_piece chain k)) loop.i _ c.loop-i-test.true
-    (ap not (sym (length_is chain _ loop.i _ _ refl loop.invariant.2 (omega arith) squared.ensures))
-    ∙ c.if-not-length.true))
+    (ap not (sym (length_is chain _ loop.i _ _ refl loop.invariant.2 (omega arith) squared.ensures)
+    ∙ c.if-not-length.true)))
 
 pub loop-i-preserved : goal.loop-i-preserved
 loop-i-preserved c =
@@ -35,8 +35,8 @@ loop-i-preserved c =
       loop.invariant.1,
       loop.invariant.2,
       λ chain is. none_next (λ (k : ℕ). not (long_piece chain k)) loop.i (loop.invariant.3 chain is)
-          (ap not (sym (length_is chain _ loop.i _ _ is loop.invariant.2 (omega arith) squared.ensures))
-          ∙ c.if-not-length.false),
+          (ap not (sym (length_is chain _ loop.i _ _ is loop.invariant.2 (omega arith) squared.ensures)
+          ∙ c.if-not-length.false)),
     )
 
 pub returns : goal.returns

@@ -12,7 +12,7 @@ loop-j-init c =
     let piece_tested = c.piece_tested-t in
     let further_pieces = c.further_pieces-further in
     let kepts = c.args.pair.pieces in
-    let seven : length kepts ≡ 7 = sym (length-map kepts _) ∙ c.well_formed.1.1.1.1.0.1.1.0.1.0.1 in
+    let seven : length kepts ≡ 7 = c.well_formed.1.1.1.1.0.1.1.0.1.0.1 in
     begins _ _ _ _ c.args.pair _ _ _ (omega (arith, further_pieces.ensures)) seven piece_tested.ensures
     c.blank_touch-blank.ensures
 

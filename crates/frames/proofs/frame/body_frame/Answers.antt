@@ -69,7 +69,7 @@ chain_frame-requires c =
     let frame_refusal = c.frame_refusal-number in
     let args = c.args in
     let pre = c.requires in
-    let rest = c.in_default.rest in
+    let rest = c.in_default.in_default-own.rest in
     let formed = well args.bytes.now _ frame_refusal.ensures if1.false in
     let seven =
     kind_left args.bytes.now formed byte.result byte.ensures rest.0.0.0.0.1 rest.0.0.0.1
@@ -85,7 +85,7 @@ returns-in-1 c =
     let args = c.args in
     λ b pair. c.circle_frame.ensures pair
     ∙ circle_is args.body b pair args.bytes.now _ frame_refusal.ensures if1.false
-    _ byte.ensures match.keys1
+    _ byte.ensures match.is
 
 pub returns-in-2 : goal.returns-in-2
 returns-in-2 c =
@@ -96,7 +96,7 @@ returns-in-2 c =
     let args = c.args in
     λ b pair. c.outline_frame.ensures pair
     ∙ outline_is args.body b pair args.bytes.now _ frame_refusal.ensures if1.false
-    _ byte.ensures match.keys2
+    _ byte.ensures match.is
 
 pub returns-in-3 : goal.returns-in-3
 returns-in-3 c =
@@ -107,7 +107,7 @@ returns-in-3 c =
     let args = c.args in
     λ b pair. c.wall_frame.ensures pair
     ∙ wall_is args.body b pair args.bytes.now _ frame_refusal.ensures if1.false
-    _ byte.ensures match.keys3
+    _ byte.ensures match.is
 
 pub returns-in-4 : goal.returns-in-4
 returns-in-4 c =
@@ -118,7 +118,7 @@ returns-in-4 c =
     let args = c.args in
     λ b pair. c.place_frame.ensures pair
     ∙ place_is args.body b pair args.bytes.now _ frame_refusal.ensures if1.false
-    _ byte.ensures match.keys4
+    _ byte.ensures match.is
 
 pub returns-in-6 : goal.returns-in-6
 returns-in-6 c =
@@ -129,7 +129,7 @@ returns-in-6 c =
     let args = c.args in
     λ b pair. c.turn_frame.ensures pair
     ∙ turn_is args.body b pair args.bytes.now _ frame_refusal.ensures if1.false
-    _ byte.ensures match.keys5
+    _ byte.ensures match.is
 
 pub returns-in_default : goal.returns-in_default
 returns-in_default c =
@@ -139,7 +139,7 @@ returns-in_default c =
     let frame_refusal = c.frame_refusal-number in
     let args = c.args in
     let pre = c.requires in
-    let rest = match.rest in
+    let rest = match.in_default-own.rest in
     let formed = well args.bytes.now _ frame_refusal.ensures if1.false in
     let seven =
     kind_left args.bytes.now formed byte.result byte.ensures rest.0.0.0.0.1 rest.0.0.0.1

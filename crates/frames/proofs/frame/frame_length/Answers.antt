@@ -11,12 +11,12 @@ returns-in-1 c = sym (circle_length _ _ c.in-1.is)
 pub returns-in-2 : goal.returns-in-2
 returns-in-2 c =
     let match = c.in-2 in
-    c.outline_length.ensures ∙ sym (outline_length_is _ _ match.keys2)
+    c.outline_length.ensures ∙ sym (outline_length_is _ _ match.is)
 
 pub returns-in-3 : goal.returns-in-3
 returns-in-3 c =
     let match = c.in-3 in
-    c.wall_length.ensures ∙ sym (wall_length_is _ _ match.keys3)
+    c.wall_length.ensures ∙ sym (wall_length_is _ _ match.is)
 
 pub returns-in-4 : goal.returns-in-4
 returns-in-4 c = sym (place_length _ _ c.in-4.is)
@@ -30,10 +30,10 @@ returns-in-6 c = sym (turn_length _ _ c.in-6.is)
 pub returns-in-7 : goal.returns-in-7
 returns-in-7 c =
     let match = c.in-7 in
-    c.chain_length.ensures ∙ sym (chain_length_is _ _ match.keys7)
+    c.chain_length.ensures ∙ sym (chain_length_is _ _ match.is)
 
 pub returns-in_default : goal.returns-in_default
 returns-in_default c =
-    let rest = c.in_default.rest in
+    let rest = c.in_default.in_default-own.rest in
     sym (no_length _ _ rest.0.0.0.0.0.0.1 rest.0.0.0.0.0.1 rest.0.0.0.0.1 rest.0.0.0.1
     rest.0.0.1 rest.0.1 rest.1)

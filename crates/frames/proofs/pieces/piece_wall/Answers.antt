@@ -17,7 +17,7 @@ unfolding piece_wall
 returns c =
     let ps = c.args.chain.points in
     let i = c.args.i in
-    let ten : length ps ≡ 10 = sym (length-map ps _) ∙ c.well_formed.0.1.1.0.1.0.1 in
+    let ten : length ps ≡ 10 = c.well_formed.0.1.1.0.1.0.1 in
     let past : B2vec2 = vec2 nan nan in
     simp (
       getD_within ps i past origin (omega arith),

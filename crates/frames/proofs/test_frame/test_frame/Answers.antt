@@ -17,7 +17,7 @@ returns-then-number-ne-ACCEPTED-2 c =
     let tested = c.tested-t in
     let test_refusal = c.test_refusal-number in
     let args = c.args in
-    let seven = sym (length-map args.pair.pieces _) ∙ c.well_formed.1.1.1.1.0.1.1.0.1.0.1 in
+    let seven = c.well_formed.1.1.1.1.0.1.1.0.1.0.1 in
     alone_refused args.ida args.idb args.a args.b args.pair _ (kept_read args.pair _ seven)
     c.requires _ tested.ensures c.if-number-ne-ACCEPTED-2.true
     ∙ test_run _ _ args.a args.b args.pair _ test_refusal.ensures c.if-number-ne-ACCEPTED.false
@@ -27,7 +27,7 @@ returns c =
     let tested = c.tested-t in
     let test_refusal = c.test_refusal-number in
     let args = c.args in
-    let seven = sym (length-map args.pair.pieces _) ∙ c.well_formed.1.1.1.1.0.1.1.0.1.0.1 in
+    let seven = c.well_formed.1.1.1.1.0.1.1.0.1.0.1 in
     alone_answered args.ida args.idb args.a args.b args.pair _ (kept_read args.pair _ seven)
     c.requires _ tested.ensures c.if-number-ne-ACCEPTED-2.false (omega (arith, seven))
     ∙ test_run _ _ args.a args.b args.pair _ test_refusal.ensures c.if-number-ne-ACCEPTED.false

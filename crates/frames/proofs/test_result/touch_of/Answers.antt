@@ -22,9 +22,9 @@ returns c =
     let ps = args.w.points in
     let ss = args.w.separations in
     let world = good.1.1.1.1.1.0.1.1 in
-    let ps_two : length ps ≡ 2 = sym (length-map ps _) ∙ world.1.0.1.0.1 in
-    let ss_two : length ss ≡ 2 = sym (length-map ss _) ∙ world.1.1.0.1.0.1 in
-    let m_two : length m.points ≡ 2 = sym (length-map m.points _) ∙ good.1.1.0.1.1.0.1.0.1 in
+    let ps_two : length ps ≡ 2 = world.1.0.1.0.1 in
+    let ss_two : length ss ≡ 2 = world.1.1.0.1.0.1 in
+    let m_two : length m.points ≡ 2 = good.1.1.0.1.1.0.1.0.1 in
     let past : B2vec2 = vec2 nan nan in
     simp (
       c.shown_kind.ensures,
