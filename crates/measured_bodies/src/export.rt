@@ -1,4 +1,5 @@
-// The exports for the C match server, by value: a verdict as its numbers, and the two pairs that come with either.
+// What the exports for the C match server answer (crate measured_bodies_c), by value: a verdict as its numbers, and the
+// two pairs that come with either.
 ghost use Rattle.std.specs.Prelude.{◌≡◌};
 ghost use Rattle.measured_definitions.specs.MeasuredCircles.{measured_circles, no_circles, circles_answer};
 ghost use Rattle.measured_definitions.specs.MeasuredBoxes.{measured_boxes, no_boxes, boxes_answer};
@@ -53,8 +54,7 @@ fn circles_answer(v: CirclesVerdict) -> CirclesAnswer
     }
 }
 
-#[unsafe(no_mangle)]
-pub extern "C" fn netxurbil_measured_circles(a: MeasuredCircle, b: MeasuredCircle) -> CirclesAnswer
+pub fn netxurbil_measured_circles(a: MeasuredCircle, b: MeasuredCircle) -> CirclesAnswer
     ensures { result ≡ circles_answer (measured_circles a b) }
 {
     circles_answer(circles::measured_circles(a, b))
@@ -104,8 +104,7 @@ fn boxes_answer(v: BoxesVerdict) -> BoxesAnswer
     }
 }
 
-#[unsafe(no_mangle)]
-pub extern "C" fn netxurbil_measured_boxes(a: MeasuredBox, b: MeasuredBox) -> BoxesAnswer
+pub fn netxurbil_measured_boxes(a: MeasuredBox, b: MeasuredBox) -> BoxesAnswer
     ensures { result ≡ boxes_answer (measured_boxes a b) }
 {
     boxes_answer(boxes::measured_boxes(a, b))

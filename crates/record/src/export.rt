@@ -1,4 +1,4 @@
-// The export for the C match server: four frames in, the bytes of the test line out.
+// What the export for the C match server says (crate record_c): four frames in, the bytes of the test line out.
 ghost use Rattle.std.specs.Prelude.{◌≡◌, [], ◌∷◌, ◌+◌, ◌≤◌};
 ghost use Rattle.lines.specs.Fields.{byte_at};
 ghost use Rattle.lines.specs.Hex.{largest_frame};
@@ -130,8 +130,7 @@ fn export_said(frames: &[u8]) -> Said
 }
 
 // 13, 37 or 53, the bytes written to the front of the output; or 256 and a refusal, and the output as it was.
-#[unsafe(no_mangle)]
-pub extern "C" fn netxurbil_test(frames: &[u8], out: &mut [u8]) -> u32
+pub fn netxurbil_test(frames: &[u8], out: &mut [u8]) -> u32
     ensures { (result ≡ Export.export_number frames.now out.old)
         × (out.new ≡ Export.export_output frames.now out.old) }
 {

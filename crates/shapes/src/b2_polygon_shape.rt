@@ -194,9 +194,8 @@ pub fn set_of_eight(
     b2_polygon_shape_set_core(old, [p0, p1, p2, p3, p4, p5, p6, p7], count)
 }
 
-// The outline of the points of a lent slice. C can call it.
-#[unsafe(no_mangle)]
-pub extern "C" fn b2_polygon_shape_set(old: B2polygonShape, vertices: &[B2vec2]) -> PolygonAnswer
+// The outline of the points of a lent slice. C can call it (crate shapes_c).
+pub fn b2_polygon_shape_set(old: B2polygonShape, vertices: &[B2vec2]) -> PolygonAnswer
     ensures { result ≡ b2_polygon_shape_set old vertices.now }
 {
     let p0 = lent::point_or(vertices, 0);
