@@ -68,9 +68,9 @@ struct netxurbil_polygon_answer {
     struct netxurbil_polygon shape;
 };
 
-/* The outline builder on a lent slice of points, by the name that it has in the code (crate shapes, rt staticlib
-   shapes). Answers as entry 1: the refusal, and the outline after the call; of a refused call the outline that it was
-   given. Reads the slice alone. */
+/* The outline builder on a lent slice of points, by the name that it has in the code (crate shapes_c). Answers as entry
+   1: the refusal, and the outline after the call; of a refused call the outline that it was given. Reads the slice
+   alone. */
 struct netxurbil_polygon_answer b2_polygon_shape_set(struct netxurbil_polygon old,
                                                      const struct netxurbil_vec2 *vertices, size_t vertices_length);
 

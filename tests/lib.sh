@@ -7,7 +7,7 @@
 # every other status but 0 is a failure.
 . "$(dirname "${BASH_SOURCE[0]}")/prove.sh"
 
-# The crates with C exports and their header: a new name is written here, and in examples/host.c, which includes it.
+# The archives with C exports and their header: a new name is written here, and in examples/host.c, which includes it.
 calls_crate=test_calls
 roots_crate=bench_calls
 bench_crates="bench_calls"
@@ -157,9 +157,8 @@ tool() {
     if command -v "$1" > /dev/null; then ok "the tool $1"; else fail "the tool $1" "missing, and not installed"; fi
 }
 
-# library CRATE: a check that the crate is proved and built for C, in target/staticlib. Not built again from the same
-# files.
-library() { check "static library $1" quiet made "target/staticlib/lib$1.a" "$1" rt staticlib "$1"; }
+# library NAME: a check that target/staticlib/libNAME.a is proved and built for C. Not built again from the same files.
+library() { check "static library $1" quiet archive "$1"; }
 
 # quiet COMMAND..: its output only where it fails
 quiet() {
