@@ -42,14 +42,14 @@ extern "C" {
      16, x, y                                  the vector (x, y) made unit: refusal, length, x, y, then 1 where
                                                the length is at least 2^-23, else 0; one below it is given as 0
                                                and changes nothing
-     17, 3 SPAN, 3 SPAN                        measured circles A and B, x, y, radius of each: refusal, verdict (0
+     17, turn number                           its heading, in 4,096ths of a turn: refusal, sine, cosine; 14, 0, 0
+                                               above 4,095
+     18, x                                     the square root of x and the step that gives it: refusal, step (0
+                                               special operands, 1 exact results, 2 rounding), root
+     20, 3 SPAN, 3 SPAN                        measured circles A and B, x, y, radius of each: refusal, verdict (0
                                                none, 1 surely touching, 2 surely apart, 3 either), then x, y, radius
                                                of A and of B, touching, and again, apart; zeros but for an either
-     18, 4 SPAN, 4 SPAN                        measured boxes A and B, x, y, hx, hy of each: the same with these
-     20, turn number                           its heading, in 4,096ths of a turn: refusal, sine, cosine; 14, 0, 0
-                                               above 4,095
-     21, x                                     the square root of x and the step that gives it: refusal, step (0
-                                               special operands, 1 exact results, 2 rounding), root */
+     21, 4 SPAN, 4 SPAN                        measured boxes A and B, x, y, hx, hy of each: the same with these */
 uint32_t calls(const uint8_t *input, size_t input_length, uint8_t *out, size_t out_length);
 
 /* The records of the outline builder, as the code has them. */

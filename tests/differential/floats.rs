@@ -1,4 +1,4 @@
-//! Requests of entries 15, 16 and 21: the root of a float, a vector made unit, and the root with its step.
+//! Requests of entries 15, 16 and 18: the root of a float, a vector made unit, and the root with its step.
 use crate::generators::{float, unit};
 use crate::support::Random;
 
@@ -88,5 +88,5 @@ pub const NORMALIZE_WANTED: [&str; 15] = [
 pub fn root_step(random: &mut Random) -> Vec<u32> {
     let x = float(random);
     let few = f32::from_bits(x.to_bits() & 0xffff_f000);
-    vec![21, if random.once_in(4) { few * few } else { x }.to_bits()]
+    vec![18, if random.once_in(4) { few * few } else { x }.to_bits()]
 }

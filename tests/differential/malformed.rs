@@ -63,7 +63,7 @@ fn spoiled(row: &Row, spoil: usize, random: &mut Random) -> Option<Vec<u8>> {
         7 => {
             let entry = words[0];
             let none = random.of(&unknown());
-            let others = [none, entry << 24, entry | 1 << 8, entry | 1 << 31, random.next() as u32 | 32];
+            let others = [0, 19, none, entry << 24, entry | 1 << 8, entry | 1 << 31, random.next() as u32 | 32];
             words[0] = random.of(&others);
         }
         8 => {

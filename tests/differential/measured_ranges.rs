@@ -1,4 +1,4 @@
-//! Bodies for entries 17 and 18: tiny and whole ranges, numbers without tolerance, numbers at the limits, bodies that
+//! Bodies for entries 20 and 21: tiny and whole ranges, numbers without tolerance, numbers at the limits, bodies that
 //! meet in one point or just miss each other, and numbers spoiled to be out of the limits.
 use crate::measured::{limits, Measured, Span, LIMIT};
 use crate::support::Random;

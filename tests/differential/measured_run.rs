@@ -1,4 +1,4 @@
-//! Entries 17 and 18 beside the second program: refusal, verdict and pairs, the bodies swapped, and the export. Of some
+//! Entries 20 and 21 beside the second program: refusal, verdict and pairs, the bodies swapped, and the export. Of some
 //! circles the pairs, or any choice inside, are asked of entry 7 and of the references too: floats are exact there.
 use crate::compare::{self, REFERENCES};
 use crate::measured::{limits, touch_each_other, Measured, EITHER, OUT_OF_LIMITS, TOUCHING};
@@ -11,9 +11,9 @@ use crate::table::{CIRCLES, HEADING};
 pub const ROWS: [Row; 2] = [
     Row {
         name: "measured circles",
-        entry: 17,
+        entry: 20,
         stored: "measured",
-        generate: |random| drawn(random, 3).request(17),
+        generate: |random| drawn(random, 3).request(20),
         reachable: &[0, OUT_OF_LIMITS],
         length: 1 + 12,
         record: 1 + 12,
@@ -21,9 +21,9 @@ pub const ROWS: [Row; 2] = [
     },
     Row {
         name: "measured boxes",
-        entry: 18,
+        entry: 21,
         stored: "measured",
-        generate: |random| drawn(random, 4).request(18),
+        generate: |random| drawn(random, 4).request(21),
         reachable: &[0, OUT_OF_LIMITS],
         length: 1 + 16,
         record: 1 + 16,
@@ -136,7 +136,7 @@ fn faults(row: &Row, measured: &Measured, tally: &mut Tally, random: &mut Random
         if measured.choices(1) == 1 {
             tally.met("without tolerance");
         }
-        if row.entry == 17 && tally.cases % CONTACTS == 0 && list.iter().all(|(_, right)| *right) {
+        if row.entry == 20 && tally.cases % CONTACTS == 0 && list.iter().all(|(_, right)| *right) {
             for pair in to_report(measured, &ours, random) {
                 let of_verdict = verdict == EITHER || touch_each_other(&pair) == (verdict == TOUCHING);
                 list.push(("a contact", of_verdict && reported(&pair, random, tally)));
@@ -180,7 +180,7 @@ pub fn run(row: &Row, cases: u64, seed: u64) -> bool {
         tally.case(wrong.is_empty(), || format!("{measured:?}: {wrong:?}; {:?}", expected(&measured)));
     }
     let mut wanted: Vec<String> = WANTED.iter().map(|what| what.to_string()).collect();
-    if row.entry == 17 {
+    if row.entry == 20 {
         if REFERENCES == 0 {
             println!("not at hand: what to ask for the contacts of the row '{}', but for entry 7", row.name);
         }

@@ -113,7 +113,7 @@ fn record(request: &[u32]) -> Vec<u32> {
             words.push(had as u32);
             words
         }
-        21 => {
+        18 => {
             let x = from.number();
             let root = b2_sqrt(x);
             vec![step(x, root), root.to_bits()]

@@ -19,7 +19,7 @@ fn line(row: &Row, request: &[u32]) -> String {
     format!("{} : {:08x} {}", hex(request), answer.refusals[0], hex(&one_nan(&answer.record, row.plain)))
 }
 
-/// A request of entry 17 or 18 and the answer by the second program; the pairs of an either, which are free, are `..`.
+/// A request of entry 20 or 21 and the answer by the second program; the pairs of an either, which are free, are `..`.
 fn measured_line(request: &[u32]) -> String {
     let (refusal, verdict, _) = measured_run::expected(&Measured::of(request)).expect("a program of one mind");
     let pairs = if verdict == EITHER { "..".to_string() } else { hex(&vec![0; request.len() - 1]) };

@@ -132,7 +132,7 @@ const ROOT: Row = Row {
 const STEPS: [&str; 3] = ["special", "exact", "rounded"];
 const ROOT_STEP: Row = Row {
     name: "step of the root",
-    entry: 21,
+    entry: 18,
     stored: "steps",
     generate: floats::root_step,
     record: 2,
@@ -146,8 +146,8 @@ const ROOT_STEP: Row = Row {
 /// it is only asked for in requests that are none.
 pub const HEADING: Row = Row {
     name: "heading",
-    entry: 20,
-    generate: |random| vec![20, random.below(1 << 13) as u32],
+    entry: 17,
+    generate: |random| vec![17, random.below(1 << 13) as u32],
     reachable: &[0, 14],
     length: 2,
     record: 2,

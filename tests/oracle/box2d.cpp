@@ -110,7 +110,7 @@ extern "C" size_t box2d_answer(const uint32_t *request, uint32_t *out) {
         to.word(long_enough);
         break;
     }
-    case 21: {
+    case 18: {
         // request 04: special are zeros, infinities, NaNs and all below 0, exact the others whose root is a float, and
         // the rest are rounded; two floats multiply exactly as doubles
         const float x = in.number(), root = std::sqrt(x);

@@ -18,12 +18,12 @@ fn bits(x: f32) -> u32 {
     }
 }
 
-/// Entry 21 of the test door: the step, and the root.
+/// Entry 18 of the test door: the step, and the root.
 fn stepped(x: u32) -> (u32, u32) {
     let [a, b, c, d] = x.to_be_bytes();
-    let (request, mut answer) = ([0, 0, 0, 21, a, b, c, d], [0u8; 12]);
+    let (request, mut answer) = ([0, 0, 0, 18, a, b, c, d], [0u8; 12]);
     let words = unsafe { calls(request.as_ptr(), request.len(), answer.as_mut_ptr(), answer.len()) };
-    assert_eq!((words, &answer[..4]), (3, &[0; 4][..]), "entry 21 answers three words, the first 0");
+    assert_eq!((words, &answer[..4]), (3, &[0; 4][..]), "entry 18 answers three words, the first 0");
     let word = |i: usize| u32::from_be_bytes(answer[i..i + 4].try_into().expect("four bytes"));
     (word(4), word(8))
 }

@@ -1,4 +1,4 @@
-/* Whether an answer of entry 17 or 18 that says either has two pairs that are what they are called: numbers inside the
+/* Whether an answer of entry 20 or 21 that says either has two pairs that are what they are called: numbers inside the
    request's ranges, the first pair touching, the second apart. Words are four bytes, highest first. */
 #include <stddef.h>
 #include <stdint.h>

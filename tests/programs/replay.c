@@ -2,7 +2,7 @@
    hexadecimal digits with ' : ' between the two; lines that begin with '#' are comments, and a line of another form
    is an error. The file must hold COUNT answers. Every answer is asked for with an output of just its length, a
    longer one and one a byte short; what is not written must keep its bytes. An empty answer is that of a malformed
-   request: asked with full room. An answer that ends with '..' is one of entry 17 or 18 that says either: its pairs are
+   request: asked with full room. An answer that ends with '..' is one of entry 20 or 21 that says either: its pairs are
    free, and held to what they are called (measured_pairs.h). */
 #include "measured_pairs.h"
 #include <ctype.h>
@@ -72,7 +72,7 @@ int main(int argc, char **argv) {
             const size_t given = answered;
             if (answered == 0 && *at == ' ') at++;
             const long entry = number_at(input, 0);
-            if (given == 2 && (entry == 17 || entry == 18) && strncmp(at, " ..", 3) == 0)
+            if (given == 2 && (entry == 20 || entry == 21) && strncmp(at, " ..", 3) == 0)
                 at += 3, answered += asked - 1;
             if (strcmp(at, "\n") == 0) answers++, why = wrong(input, asked, wanted, given, answered);
         }

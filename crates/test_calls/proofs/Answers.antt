@@ -27,21 +27,21 @@ module _ (request : List ℕ) (entry : ℕ) (room : 4 ≤ length request) (entry
   unfolding entry_answer
   normalize_entry is = sym (simp is) ∙ answers
 
-  pub circles_entry : entry ≡ 17 → measured_circles_answer request ≡ answer request
-  unfolding entry_answer
-  circles_entry is = sym (simp is) ∙ answers
-
-  pub boxes_entry : entry ≡ 18 → measured_boxes_answer request ≡ answer request
-  unfolding entry_answer
-  boxes_entry is = sym (simp is) ∙ answers
-
-  pub heading_entry : entry ≡ 20 → heading_answer request ≡ answer request
+  pub heading_entry : entry ≡ 17 → heading_answer request ≡ answer request
   unfolding entry_answer
   heading_entry is = sym (simp is) ∙ answers
 
-  pub root_step_entry : entry ≡ 21 → root_step_answer request ≡ answer request
+  pub root_step_entry : entry ≡ 18 → root_step_answer request ≡ answer request
   unfolding entry_answer
   root_step_entry is = sym (simp is) ∙ answers
+
+  pub circles_entry : entry ≡ 20 → measured_circles_answer request ≡ answer request
+  unfolding entry_answer
+  circles_entry is = sym (simp is) ∙ answers
+
+  pub boxes_entry : entry ≡ 21 → measured_boxes_answer request ≡ answer request
+  unfolding entry_answer
+  boxes_entry is = sym (simp is) ∙ answers
 
   module _ (no_15 : entry ≡ 15 → ⊥) (no_16 : entry ≡ 16 → ⊥) (no_17 : entry ≡ 17 → ⊥) (no_18 : entry ≡ 18 → ⊥)
       (no_20 : entry ≡ 20 → ⊥) (no_21 : entry ≡ 21 → ⊥) where

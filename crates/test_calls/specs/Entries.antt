@@ -12,10 +12,10 @@ unfoldable pub entry_answer : ℕ → List ℕ → List ℕ
 entry_answer entry request =
     cond (eqb entry 15) (root_answer request)
     (cond (eqb entry 16) (normalize_answer request)
-    (cond (eqb entry 17) (measured_circles_answer request)
-    (cond (eqb entry 18) (measured_boxes_answer request)
-    (cond (eqb entry 20) (heading_answer request)
-    (cond (eqb entry 21) (root_step_answer request)
+    (cond (eqb entry 17) (heading_answer request)
+    (cond (eqb entry 18) (root_step_answer request)
+    (cond (eqb entry 20) (measured_circles_answer request)
+    (cond (eqb entry 21) (measured_boxes_answer request)
     (cond (ltb entry 7) (shape_answer entry request) (contact_answer entry request)))))))
 
 unfoldable pub answer : List ℕ → List ℕ

@@ -20,10 +20,10 @@ pub extern "C" fn calls(input: &[u8], out: &mut [u8]) -> u32
     match entry {
         15 => test_entries::numbers::root(input, out),
         16 => test_entries::numbers::normalize(input, out),
-        17 => test_entries::measured::circles(input, out),
-        18 => test_entries::measured::boxes(input, out),
-        20 => test_entries::numbers::heading(input, out),
-        21 => test_entries::numbers::root_step(input, out),
+        17 => test_entries::numbers::heading(input, out),
+        18 => test_entries::numbers::root_step(input, out),
+        20 => test_entries::measured::circles(input, out),
+        21 => test_entries::measured::boxes(input, out),
         _ => {
             if entry < 7 {
                 test_entries::by_number::shape_call(entry, input, out)

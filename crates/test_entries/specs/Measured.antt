@@ -6,13 +6,13 @@ use Rattle.measured_definitions.specs.MeasuredBoxes.{measured_boxes, boxes_answe
 use Rattle.wire.specs.Requests.{well_formed}
 use Rattle.wire.specs.MeasuredRecords.{measured_circle_at, measured_box_at, circles_answer_words, boxes_answer_words}
 
--- 17, circle A, circle B
+-- 20, circle A, circle B
 unfoldable pub measured_circles_answer : List ℕ → List ℕ
 measured_circles_answer request =
     well_formed 13 true request (circles_answer_words (circles_answer
     (measured_circles (measured_circle_at request 1) (measured_circle_at request 7))))
 
--- 18, box A, box B
+-- 21, box A, box B
 unfoldable pub measured_boxes_answer : List ℕ → List ℕ
 measured_boxes_answer request =
     well_formed 17 true request (boxes_answer_words (boxes_answer

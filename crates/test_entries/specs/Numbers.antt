@@ -28,7 +28,7 @@ unfoldable pub normalize_answer : List ℕ → List ℕ
 normalize_answer request =
     well_formed 3 true request (normalized_words (b2_normalize (vec2 (float_at request 1) (float_at request 2))))
 
--- 20, turn number: the sine and the cosine of its heading; 14 and two zeros where it is above 4,095
+-- 17, turn number: the sine and the cosine of its heading; 14 and two zeros where it is above 4,095
 abbrev pub heading_words : B2Rot → List ℕ
 heading_words q = 0 ∷ bits q.s ∷ bits q.c ∷ []
 
@@ -38,7 +38,7 @@ turn_words number = cond (ltb largest_turn number) (unknown_turn ∷ 0 ∷ 0 ∷
 unfoldable pub heading_answer : List ℕ → List ℕ
 heading_answer request = well_formed 2 true request (turn_words (word_at request 1))
 
--- 21, x: the step that gave the root, 0 special, 1 exact, 2 rounded, and the root
+-- 18, x: the step that gave the root, 0 special, 1 exact, 2 rounded, and the root
 abbrev pub given : ℕ → Float → List ℕ
 given step r = 0 ∷ step ∷ bits r ∷ []
 

@@ -5,7 +5,7 @@ ghost use Rattle.test_entries.specs.Measured.{measured_circles_answer, measured_
 use measured_bodies::export;
 use wire::measured_records;
 
-// 17, two measured circles: the refusal, the verdict, the touching pair and the pair apart.
+// 20, two measured circles: the refusal, the verdict, the touching pair and the pair apart.
 pub fn circles(input: &[u8], out: &mut [u8]) -> u32
     ensures { Written (measured_circles_answer input.now) out.old result out.new }
 {
@@ -18,7 +18,7 @@ pub fn circles(input: &[u8], out: &mut [u8]) -> u32
     measured_records::put_circles_answer(out, answer)
 }
 
-// 18, two measured boxes: the same of boxes.
+// 21, two measured boxes: the same of boxes.
 pub fn boxes(input: &[u8], out: &mut [u8]) -> u32
     ensures { Written (measured_boxes_answer input.now) out.old result out.new }
 {

@@ -44,7 +44,7 @@ pub fn normalize(input: &[u8], out: &mut [u8]) -> u32
     words::put_words(out, &answer)
 }
 
-// 20, turn number: the sine and the cosine of its heading; 14 and two zeros where it is above 4,095.
+// 17, turn number: the sine and the cosine of its heading; 14 and two zeros where it is above 4,095.
 pub fn heading(input: &[u8], out: &mut [u8]) -> u32
     ensures { Written (heading_answer input.now) out.old result out.new }
 {
@@ -69,7 +69,7 @@ fn put_step(step: u32, r: f32, out: &mut [u8]) -> u32
     words::put_words(out, &answer)
 }
 
-// 21, x: the step that gave the root, 0 special, 1 exact, 2 rounded, and the root.
+// 18, x: the step that gave the root, 0 special, 1 exact, 2 rounded, and the root.
 pub fn root_step(input: &[u8], out: &mut [u8]) -> u32
     ensures { Written (root_step_answer input.now) out.old result out.new }
 {

@@ -1,7 +1,7 @@
 -- `calls` answers what the entry named by the first word answers, and nothing to any other request. Assumes nothing.
 use Rattle.wire.proofs.Bytes.{nothing_written, written_as}
-use Rattle.test_calls.proofs.Answers.{no_entry, root_entry, normalize_entry, circles_entry, boxes_entry}
-use Rattle.test_calls.proofs.Answers.{heading_entry, root_step_entry, shape_entry, contact_entry}
+use Rattle.test_calls.proofs.Answers.{no_entry, root_entry, normalize_entry, heading_entry, root_step_entry}
+use Rattle.test_calls.proofs.Answers.{circles_entry, boxes_entry, shape_entry, contact_entry}
 use borrow.Author.Rules.{rules}
 use Rattle.test_calls.proofs.calls.Statement.{statement}
 use Rattle.test_calls.proofs.calls.Tie as tie
@@ -18,17 +18,17 @@ root_requires c κs = search rules
 normalize_requires : tie.Need_normalize_requires
 normalize_requires c κs = search rules
 
-circles_requires : tie.Need_circles_requires
-circles_requires c κs = search rules
-
-boxes_requires : tie.Need_boxes_requires
-boxes_requires c κs = search rules
-
 heading_requires : tie.Need_heading_requires
 heading_requires c κs = search rules
 
 root_step_requires : tie.Need_root_step_requires
 root_step_requires c κs = search rules
+
+circles_requires : tie.Need_circles_requires
+circles_requires c κs = search rules
+
+boxes_requires : tie.Need_boxes_requires
+boxes_requires c κs = search rules
 
 shape_call_requires : tie.Need_shape_call_requires
 shape_call_requires c κs = search rules
@@ -69,8 +69,8 @@ returns_4 c =
     let arm = called.before.before in
     let entry = arm.before in
     let size = entry.before in
-    written_as _ _ _ _ _ (circles_entry _ _ size.if1.false entry.word.ensures arm.match.keys3)
-    called.circles.ensures
+    written_as _ _ _ _ _ (heading_entry _ _ size.if1.false entry.word.ensures arm.match.keys3)
+    called.heading.ensures
 
 same_length_4 : tie.Need_same_length_4
 same_length_4 c = search rules
@@ -81,8 +81,8 @@ returns_5 c =
     let arm = called.before.before in
     let entry = arm.before in
     let size = entry.before in
-    written_as _ _ _ _ _ (boxes_entry _ _ size.if1.false entry.word.ensures arm.match.keys4)
-    called.boxes.ensures
+    written_as _ _ _ _ _ (root_step_entry _ _ size.if1.false entry.word.ensures arm.match.keys4)
+    called.root_step.ensures
 
 same_length_5 : tie.Need_same_length_5
 same_length_5 c = search rules
@@ -93,8 +93,8 @@ returns_6 c =
     let arm = called.before.before in
     let entry = arm.before in
     let size = entry.before in
-    written_as _ _ _ _ _ (heading_entry _ _ size.if1.false entry.word.ensures arm.match.keys5)
-    called.heading.ensures
+    written_as _ _ _ _ _ (circles_entry _ _ size.if1.false entry.word.ensures arm.match.keys5)
+    called.circles.ensures
 
 same_length_6 : tie.Need_same_length_6
 same_length_6 c = search rules
@@ -105,8 +105,8 @@ returns_7 c =
     let arm = called.before.before in
     let entry = arm.before in
     let size = entry.before in
-    written_as _ _ _ _ _ (root_step_entry _ _ size.if1.false entry.word.ensures arm.match.keys6)
-    called.root_step.ensures
+    written_as _ _ _ _ _ (boxes_entry _ _ size.if1.false entry.word.ensures arm.match.keys6)
+    called.boxes.ensures
 
 same_length_7 : tie.Need_same_length_7
 same_length_7 c = search rules
@@ -148,10 +148,10 @@ calls_spec =
     word_requires
     root_requires
     normalize_requires
-    circles_requires
-    boxes_requires
     heading_requires
     root_step_requires
+    circles_requires
+    boxes_requires
     shape_call_requires
     contact_call_requires
     same_length

@@ -1,4 +1,4 @@
--- Entry 18 answers the words of the verdict, or nothing to a request of another length. Assumes nothing.
+-- Entry 21 answers the words of the verdict, or nothing to a request of another length. Assumes nothing.
 use mathlib.Core.Path.{refl, ap, ◌∙◌}
 use mathlib.Core.Bool.{true}
 use Rattle.measured_definitions.specs.MeasuredBoxes.{measured_boxes, boxes_answer}

@@ -1,4 +1,4 @@
--- Entry 17 answers the words of the verdict, or nothing to a request of another length. Assumes nothing.
+-- Entry 20 answers the words of the verdict, or nothing to a request of another length. Assumes nothing.
 use mathlib.Core.Path.{refl, ap, ◌∙◌}
 use mathlib.Core.Bool.{true}
 use Rattle.measured_definitions.specs.MeasuredCircles.{measured_circles, circles_answer}

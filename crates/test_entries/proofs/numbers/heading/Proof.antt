@@ -1,4 +1,4 @@
--- Entry 20 answers the heading's words, 14 to an unknown turn, or nothing to a request of another length. Assumes
+-- Entry 17 answers the heading's words, 14 to an unknown turn, or nothing to a request of another length. Assumes
 -- nothing.
 use mathlib.Core.Path.{refl, sym}
 use mathlib.Core.Bool.{true}
