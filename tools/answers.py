@@ -218,15 +218,19 @@ CHAIN = re.compile(r"(?<![\w.'])([\w'₀-₉-]+)((?:\.[\w'₀-₉-]+)*)")
 
 def contexts(body, env, places):
     """Turns paths into contexts: x.before.before.step.field -> c.step'.field."""
-    # names bound by let to a context
+    # names bound by let to a context; one bound anew is another name
+    fresh = 0
     while True:
-        m = None
         for m in re.finditer(r"let ([\w'₀-₉-]+) = ([\w'₀-₉-]+)((?:\.before)*) in[ \n]*(?=[^ \n])", body):
-            if m.group(2) in env and m.group(1) not in env:
-                n = m.group(3).count('.before')
-                env = dict(env)
-                env[m.group(1)] = places.up(env[m.group(2)], n)
-                body = body[:m.start()] + body[m.end():]
+            if m.group(2) in env:
+                env, name, rest = dict(env), m.group(1), body[m.end():]
+                place = places.up(env[m.group(2)], m.group(3).count('.before'))
+                if name in env:
+                    fresh += 1
+                    rest = re.sub(r"(?<![\w.'])%s(?![\w'₀-₉-])" % re.escape(name), '%s_%d_' % (name, fresh), rest)
+                    name = '%s_%d_' % (name, fresh)
+                env[name] = place
+                body = body[:m.start()] + rest
                 break
         else:
             break

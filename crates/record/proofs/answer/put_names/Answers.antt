@@ -1,0 +1,19 @@
+-- Five stores. Assumes nothing.
+use mathlib.Core.List.{[], ◌∷◌}
+use native.Mathlib.Omega.{arith}
+use lib.ListN.{length-set}
+use Rattle.algebra.proofs.Buffer.{over_stores}
+use borrow.Author.Rules.{rules}
+use Rattle.record.proofs.answer.put_names.Goals as goal
+
+pub bounds-out-1 : goal.bounds-out-1
+bounds-out-1 c = simp length-set (omega arith)
+
+pub bounds-out-2 : goal.bounds-out-2
+bounds-out-2 c = simp length-set (omega arith)
+
+pub bounds-out-3 : goal.bounds-out-3
+bounds-out-3 c = simp length-set (omega arith)
+
+pub returns : goal.returns
+returns c = over_stores (_ ∷ _ ∷ _ ∷ _ ∷ _ ∷ []) c.args.out.now c.requires

@@ -1,0 +1,16 @@
+-- The loop: the lines of the first i results stand at the front. Assumes nothing.
+use Prim.Native.Nat.{◌-◌}
+use mathlib.Core.Path.{◌≡◌}
+use native.Mathlib.Omega.{arith}
+use lib.ListN.{length}
+use Rattle.record_definitions.specs.Answer.{most_further}
+use Rattle.record.proofs.Rows.{row_held}
+use Rattle.record.proofs.Lines.{LinesSoFar, no_line_yet, line_more, lines_put}
+use borrow.Author.Rules.{rules}
+use Rattle.record.proofs.answer.put_touch_lines.Given as goal
+
+abbrev pub invariant-loop-i : goal.invariant-loop-i
+invariant-loop-i l = LinesSoFar l.touches l.initial.out l.last l.out l.at l.i
+
+abbrev pub decreases-loop-i : goal.decreases-loop-i
+decreases-loop-i l = l.last - l.i
