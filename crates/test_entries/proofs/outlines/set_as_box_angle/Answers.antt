@@ -1,0 +1,25 @@
+-- Entry 3 answers a box that is turned and moved, or nothing to a request of another length. Assumes nothing.
+use mathlib.Core.Path.{refl}
+use mathlib.Core.Bool.{true}
+use Rattle.wire.proofs.Requests.{other_length, answered}
+use Rattle.test_entries.specs.Outlines.{box_angle_answer}
+use borrow.Author.Rules.{rules}
+use Rattle.test_entries.proofs.outlines.set_as_box_angle.Goals as goal
+
+pub returns-then-input-ne172 : goal.returns-then-input-ne172
+unfolding box_angle_answer
+returns-then-input-ne172 c = other_length 43 _ _ _ _ c.if-input-ne172.true
+
+pub returns : goal.returns
+unfolding box_angle_answer
+returns c =
+    answered 43 _ _ _ _ true c.if-input-ne172.false refl _ _ _ refl
+    (simp (
+      c.b2_polygon_shape_set_as_box_angle-answer.ensures,
+      c.polygon-old.ensures,
+      c.float-hx.ensures,
+      c.float-hy.ensures,
+      c.vector-center.ensures,
+      c.rotation-q.ensures,
+    ))
+    c.put_polygon.ensures
