@@ -4,7 +4,6 @@ use Prim.Native.Nat.{ℕ, ◌<◌}
 use mathlib.Core.Path.{◌≡◌, refl, ◌∙◌, ap, ap₂}
 use mathlib.Core.Bool.{true}
 use mathlib.Core.List.{List, [], ◌∷◌, ◌++◌, Memᴰ}
-use mathlib.Core.List as L
 use native.Mathlib.Omega.{arith}
 use lib.Dec.{ltb}
 use lib.ListN.{take, replicate}
@@ -17,7 +16,6 @@ use Rattle.record_definitions.specs.Export.{in_order}
 use Rattle.record_definitions.specs.ExportLaws.{accepted_lines, FirstRefused, program_output}
 use Rattle.record_definitions.proofs.Heats.{Runs, bytes_of}
 use Rattle.record_definitions.proofs.ExportTheorem.{export_prints}
-use mathlib.Core.List.Memᴰ
 use Rattle.closed_cases.proofs.ExportCases.{export_cases}
 
 all_bytes : (l : List ℕ) → all_of (λ (b : ℕ). ltb b 256) l ≡ true → (b : ℕ) → Memᴰ b l → b < 256

@@ -6,7 +6,7 @@
 use Rattle.std.specs.Prelude.{ℕ, ◌+◌, ◌*◌, ◌^◌, ◌≤◌, ◌<◌, T, length}
 use Rattle.algebra.specs.Integer.{Z, whole, opp, ◌⊞◌, ◌⊟◌, ◌⊠◌, ◌⊛◌, ◌≐◌, Abs}
 use Rattle.algebra.specs.Plane.{from_to}
-use Rattle.rounding.specs.Value.{metre, tick, F32, val}
+use Rattle.rounding.specs.Value.{metre, F32, val}
 use Rattle.sqrt.specs.Root.{RelativeSquare}
 use Rattle.floats.specs.declared.b2_math.B2vec2.{B2vec2}
 use Rattle.floats.specs.Ranges.{radius_in_range}

@@ -18,7 +18,6 @@ use Rattle.record_definitions.proofs.Changes.{by_choice}
 use Rattle.record_definitions.proofs.SoundChains.{chain_taken}
 use Rattle.record_ranges.proofs.Shapes.{origin_caps}
 use Rattle.record_ranges.proofs.Outlines.{each_over, origins, blank_outline_caps}
-use Rattle.record_ranges.proofs.Outlines.{skin_taken}
 use Rattle.record_ranges.proofs.Bodies.{CappedBody, points_caps, at_origin_caps, blank_wall_caps, skin_is_taken}
 use Rattle.record_ranges.proofs.Bodies.{walls_capped, blank_chain_caps, other_kind}
 

@@ -5,7 +5,6 @@ use Prim.Native.Nat.{ℕ, zero, suc, ◌+◌, ◌≤◌, ◌<◌}
 use mathlib.Core.Path.{◌≡◌, refl, sym, ◌∙◌, ap}
 use mathlib.Core.Bool.{Bool, true, false, cond, not, ◌&&◌, ◌||◌, false≢true}
 use mathlib.Core.List.{List, [], ◌∷◌, ◌++◌, Memᴰ}
-use mathlib.Core.List as L
 use mathlib.Core.Logic.{◌⊎◌, inl, inr}
 use native.Mathlib.Omega.{arith}
 use lib.Dec.{eqb, ltb}
@@ -49,7 +48,6 @@ use Rattle.record_definitions.proofs.ExportOutcome.{export_outcome}
 use Rattle.record_definitions.proofs.ExportTheorem.{said_last, Ends, returned_tested, returned_refused}
 use Rattle.record_definitions.proofs.ExportTheorem.{number_is, output_is}
 use Rattle.record_ranges.proofs.Kept.{CappedWorld, fresh_capped, frame_keeps_capped}
-use mathlib.Core.List.Memᴰ
 use Rattle.record_ranges.proofs.Contacts.{test_not_nine}
 
 -- ---- a test of two outlines, if refused, is refused with 2

@@ -9,7 +9,7 @@ use mathlib.Core.List.{List}
 use mathlib.Core.Logic.{◌⊎◌, inl, inr}
 use native.Mathlib.Omega.{arith}
 use lib.Dec.{T, ltb, ltb→lt}
-use lib.Ieee.{Float, binary32, fits, add, lt}
+use lib.Ieee.{Float, binary32, fits, add}
 use borrow.Author.Tests.{not-false}
 use Rattle.algebra.specs.Integer.{Z, whole, ◌⊞◌, ◌⊟◌, ◌⊠◌, ◌≐◌, Abs}
 use Rattle.algebra.proofs.Booleans.{both}

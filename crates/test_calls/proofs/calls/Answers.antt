@@ -2,7 +2,6 @@
 use Rattle.wire.proofs.Bytes.{nothing_written, written_as}
 use Rattle.test_calls.proofs.Answers.{no_entry, root_entry, normalize_entry, heading_entry, root_step_entry}
 use Rattle.test_calls.proofs.Answers.{circles_entry, boxes_entry, shape_entry, contact_entry}
-use borrow.Author.Rules.{rules}
 use Rattle.test_calls.proofs.calls.Goals as goal
 
 pub returns-then-input-lt4 : goal.returns-then-input-lt4

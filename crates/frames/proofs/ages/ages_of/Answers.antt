@@ -1,5 +1,4 @@
 -- Each of the two. Assumes nothing.
-use borrow.Author.Rules.{rules}
 use Rattle.record_definitions.specs.Ages.{ages_of}
 use Rattle.frames.proofs.ages.ages_of.Goals as goal
 

@@ -1,6 +1,5 @@
 -- By the number of old points and which of them has the id. Assumes nothing.
 use mathlib.Core.Path.{◌∙◌}
-use borrow.Author.Rules.{rules}
 use Rattle.frames.proofs.NextAges.{no_point, as_first, not_the_one, as_second, as_neither}
 use Rattle.frames.proofs.ages.next_age.Goals as goal
 

@@ -1,10 +1,9 @@
 -- Both points are those that were there, but for their ages. Assumes nothing.
-use mathlib.Core.Path.{◌≡◌, sym, ◌∙◌}
+use mathlib.Core.Path.{◌≡◌}
 use native.Mathlib.Omega.{arith}
-use lib.ListN.{length, length-map}
+use lib.ListN.{length}
 use Rattle.record_definitions.specs.Ages.{with_ages}
 use Rattle.frames.proofs.NextAges.{point_read}
-use borrow.Author.Rules.{rules}
 use Rattle.frames.proofs.ages.with_ages.Goals as goal
 
 pub returns : goal.returns

@@ -1,7 +1,6 @@
 -- The numbers are in range, or refused. Assumes nothing.
 use mathlib.Core.Path.{sym, ◌∙◌}
 use Rattle.frames.proofs.BodyFrames.{with_pair, circle_taken, circle_refused}
-use borrow.Author.Rules.{rules}
 use Rattle.frames.proofs.body_frames.circle_frame.Goals as goal
 
 pub returns-then-circle_in_range : goal.returns-then-circle_in_range

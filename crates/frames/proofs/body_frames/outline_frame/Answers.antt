@@ -1,7 +1,6 @@
 -- The builder's outline, or its refusal. Assumes nothing.
 use mathlib.Core.Path.{◌∙◌}
 use Rattle.frames.proofs.BodyFrames.{with_pair, outline_taken, outline_refused}
-use borrow.Author.Rules.{rules}
 use Rattle.frames.proofs.body_frames.outline_frame.Goals as goal
 
 pub returns-then-number-eq-ACCEPTED : goal.returns-then-number-eq-ACCEPTED

@@ -1,7 +1,6 @@
 -- No shape; the placement is in range, or refused. Assumes nothing.
 use mathlib.Core.Path.{sym, ◌∙◌}
 use Rattle.frames.proofs.BodyFrames.{with_pair, place_taken, place_refused, place_nothing}
-use borrow.Author.Rules.{rules}
 use Rattle.frames.proofs.body_frames.place_frame.Goals as goal
 
 pub returns-then-body-eq-NO_BODY : goal.returns-then-body-eq-NO_BODY

@@ -1,6 +1,5 @@
 -- No shape; an unknown turn; the placement is in range, or refused. Assumes nothing.
 use mathlib.Core.Path.{sym, ◌∙◌}
-use borrow.Author.Rules.{rules}
 use Rattle.frames.proofs.BodyFrames.{with_pair, turn_nothing, turn_unknown, turn_taken, turn_refused}
 use Rattle.frames.proofs.body_frames.turn_frame.Goals as goal
 

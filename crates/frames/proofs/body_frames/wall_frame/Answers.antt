@@ -1,7 +1,6 @@
 -- The wall, or its refusal. Assumes nothing.
 use mathlib.Core.Path.{◌∙◌}
 use Rattle.frames.proofs.BodyFrames.{with_pair, wall_taken, wall_refused}
-use borrow.Author.Rules.{rules}
 use Rattle.frames.proofs.body_frames.wall_frame.Goals as goal
 
 pub returns-then-number-eq-ACCEPTED : goal.returns-then-number-eq-ACCEPTED

@@ -3,7 +3,6 @@ use mathlib.Core.Path.{sym, ◌∙◌}
 use native.Mathlib.Omega.{arith}
 use borrow.Author.Tests.{eq-eqb, ne_eqb}
 use Rattle.record_definitions.specs.Frame.{wall_at}
-use borrow.Author.Rules.{rules}
 use Rattle.frames.proofs.body_frames.wall_read.Goals as goal
 
 pub returns-then-byte-eq0 : goal.returns-then-byte-eq0

@@ -1,14 +1,10 @@
 -- The points below i are in range. Assumes nothing.
 use mathlib.Core.Path.{◌≡◌, refl, sym, ◌∙◌}
-use Prim.Native.Nat.{◌≤◌, ◌-◌}
 use native.Mathlib.Omega.{arith}
-use lib.ListN.{length, take, drop}
+use lib.ListN.{length, take}
 use lib.Seq.{get_or-take, length-take-le}
-use borrow.Author.Tests.{not-true, not-false}
 use Rattle.algebra.proofs.All.{all_failed, all_next, all_ended}
 use Rattle.floats.specs.Ranges.{point_in_range}
-use Rattle.shape_definitions.specs.Polygon.{all_points}
-use borrow.Author.Rules.{rules}
 use Rattle.frames.proofs.chain_frame.all_in_range.Goals as goal
 
 pub loop-i-init : goal.loop-i-init

@@ -1,14 +1,9 @@
 -- The points below i are in range. Assumes nothing.
-use mathlib.Core.Path.{◌≡◌, refl, sym, ◌∙◌}
+use mathlib.Core.Path.{◌≡◌}
 use Prim.Native.Nat.{◌≤◌, ◌-◌}
-use native.Mathlib.Omega.{arith}
 use lib.ListN.{length, take, drop}
-use lib.Seq.{get_or-take, length-take-le}
-use borrow.Author.Tests.{not-true, not-false}
-use Rattle.algebra.proofs.All.{all_failed, all_next, all_ended}
 use Rattle.floats.specs.Ranges.{point_in_range}
 use Rattle.shape_definitions.specs.Polygon.{all_points}
-use borrow.Author.Rules.{rules}
 use Rattle.frames.proofs.chain_frame.all_in_range.Given as goal
 
 abbrev pub invariant-loop-i : goal.invariant-loop-i

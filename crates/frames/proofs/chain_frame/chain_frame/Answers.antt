@@ -2,7 +2,6 @@
 use mathlib.Core.Path.{◌∙◌}
 use Rattle.frames.proofs.BodyFrames.{with_pair}
 use Rattle.frames.proofs.ChainFrames.{few_points, chain_taken, chain_refused}
-use borrow.Author.Rules.{rules}
 use Rattle.frames.proofs.chain_frame.chain_frame.Goals as goal
 
 pub chain_refusal-number-requires : goal.chain_refusal-number-requires

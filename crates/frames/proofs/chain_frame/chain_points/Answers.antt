@@ -1,10 +1,8 @@
 -- The first k points are read. Assumes nothing.
-use Prim.Native.Nat.{◌-◌}
 use mathlib.Core.Path.{refl}
 use native.Mathlib.Omega.{arith}
 use Rattle.lines.specs.Fields.{points_at}
-use Rattle.frames.proofs.ChainFrames.{ReadSoFar, one_read, all_read}
-use borrow.Author.Rules.{rules}
+use Rattle.frames.proofs.ChainFrames.{one_read, all_read}
 use Rattle.frames.proofs.chain_frame.chain_points.Goals as goal
 
 pub loop-k-init : goal.loop-k-init

@@ -1,10 +1,6 @@
 -- The first k points are read. Assumes nothing.
 use Prim.Native.Nat.{◌-◌}
-use mathlib.Core.Path.{refl}
-use native.Mathlib.Omega.{arith}
-use Rattle.lines.specs.Fields.{points_at}
-use Rattle.frames.proofs.ChainFrames.{ReadSoFar, one_read, all_read}
-use borrow.Author.Rules.{rules}
+use Rattle.frames.proofs.ChainFrames.{ReadSoFar}
 use Rattle.frames.proofs.chain_frame.chain_points.Given as goal
 
 abbrev pub invariant-loop-k : goal.invariant-loop-k

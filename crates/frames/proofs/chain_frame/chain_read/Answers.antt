@@ -1,6 +1,5 @@
 -- The count, and that many points and two more. Assumes nothing.
 use Rattle.record_definitions.specs.Frame.{chain_at}
-use borrow.Author.Rules.{rules}
 use Rattle.frames.proofs.chain_frame.chain_read.Goals as goal
 
 pub returns : goal.returns

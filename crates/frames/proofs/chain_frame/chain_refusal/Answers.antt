@@ -1,8 +1,6 @@
 -- In their order. Assumes nothing.
 use mathlib.Core.Path.{sym, ◌∙◌}
-use borrow.Author.Tests.{not-true, not-false}
 use Rattle.frames.proofs.ChainFrames.{too_few, out_of_range, too_near, none_refused}
-use borrow.Author.Rules.{rules}
 use Rattle.frames.proofs.chain_frame.chain_refusal.Goals as goal
 
 pub returns-then-count-lt2 : goal.returns-then-count-lt2

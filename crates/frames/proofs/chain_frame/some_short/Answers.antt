@@ -1,15 +1,12 @@
 -- No piece below i is short. Assumes nothing.
 use mathlib.Core.Path.{◌≡◌, refl, sym, ◌∙◌, ap}
-use mathlib.Core.Bool.{not, false}
-use Prim.Native.Nat.{ℕ, ◌≤◌, ◌-◌}
+use mathlib.Core.Bool.{not}
+use Prim.Native.Nat.{ℕ}
 use native.Mathlib.Omega.{arith}
-use lib.ListN.{length, length-map}
 use Rattle.contact_definitions.specs.Searches.{some_below}
 use Rattle.contact_definitions.proofs.Searches.{some_here, none_next}
-use Rattle.record_definitions.specs.declared.world.Chain.{Chain}
 use Rattle.record_definitions.specs.Frame.{long_piece}
 use Rattle.frames.proofs.ChainFrames.{length_is}
-use borrow.Author.Rules.{rules}
 use Rattle.frames.proofs.chain_frame.some_short.Goals as goal
 
 pub loop-i-init : goal.loop-i-init

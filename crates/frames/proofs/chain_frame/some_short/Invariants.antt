@@ -1,15 +1,11 @@
 -- No piece below i is short. Assumes nothing.
-use mathlib.Core.Path.{◌≡◌, refl, sym, ◌∙◌, ap}
+use mathlib.Core.Path.{◌≡◌}
 use mathlib.Core.Bool.{not, false}
 use Prim.Native.Nat.{ℕ, ◌≤◌, ◌-◌}
-use native.Mathlib.Omega.{arith}
-use lib.ListN.{length, length-map}
+use lib.ListN.{length}
 use Rattle.contact_definitions.specs.Searches.{some_below}
-use Rattle.contact_definitions.proofs.Searches.{some_here, none_next}
 use Rattle.record_definitions.specs.declared.world.Chain.{Chain}
 use Rattle.record_definitions.specs.Frame.{long_piece}
-use Rattle.frames.proofs.ChainFrames.{length_is}
-use borrow.Author.Rules.{rules}
 use Rattle.frames.proofs.chain_frame.some_short.Given as goal
 
 abbrev pub invariant-loop-i : goal.invariant-loop-i

@@ -1,7 +1,6 @@
 -- Refused at once, or answered as the pieces are. Assumes nothing.
 use mathlib.Core.Path.{◌∙◌}
 use Rattle.frames.proofs.TestFrames.{answered, test_refused, test_run}
-use borrow.Author.Rules.{rules}
 use Rattle.frames.proofs.chain_test.chain_test.Goals as goal
 
 pub returns-then-number-ne-ACCEPTED : goal.returns-then-number-ne-ACCEPTED

@@ -1,9 +1,8 @@
 -- The piece, and what is kept of it. Assumes nothing.
-use mathlib.Core.Path.{◌≡◌, sym, ◌∙◌}
+use mathlib.Core.Path.{◌≡◌}
 use native.Mathlib.Omega.{arith}
-use lib.ListN.{length, length-map}
+use lib.ListN.{length}
 use Rattle.frames.proofs.ChainTests.{piece_run}
-use borrow.Author.Rules.{rules}
 use Rattle.frames.proofs.chain_test.piece_tested.Goals as goal
 
 pub returns : goal.returns

@@ -1,10 +1,8 @@
 -- The first piece, and after j turns j further ones. Assumes nothing.
-use mathlib.Core.Path.{◌≡◌, sym, ◌∙◌}
-use Prim.Native.Nat.{◌-◌}
+use mathlib.Core.Path.{◌≡◌, ◌∙◌}
 use native.Mathlib.Omega.{arith}
-use lib.ListN.{length, length-map}
-use Rattle.frames.proofs.ChainTests.{SoFar, begins, goes_on, further_is, pieces_refused, pieces_answered}
-use borrow.Author.Rules.{rules}
+use lib.ListN.{length}
+use Rattle.frames.proofs.ChainTests.{begins, goes_on, further_is, pieces_refused, pieces_answered}
 use Rattle.frames.proofs.chain_test.pieces_tested.Goals as goal
 
 pub loop-j-init : goal.loop-j-init

@@ -1,10 +1,6 @@
 -- The first piece, and after j turns j further ones. Assumes nothing.
-use mathlib.Core.Path.{◌≡◌, sym, ◌∙◌}
 use Prim.Native.Nat.{◌-◌}
-use native.Mathlib.Omega.{arith}
-use lib.ListN.{length, length-map}
-use Rattle.frames.proofs.ChainTests.{SoFar, begins, goes_on, further_is, pieces_refused, pieces_answered}
-use borrow.Author.Rules.{rules}
+use Rattle.frames.proofs.ChainTests.{SoFar}
 use Rattle.frames.proofs.chain_test.pieces_tested.Given as goal
 
 abbrev pub invariant-loop-j : goal.invariant-loop-j

@@ -1,5 +1,4 @@
 -- The refusal, said alone. Assumes nothing.
-use borrow.Author.Rules.{rules}
 use Rattle.frames.proofs.chain_test.refused.Goals as goal
 
 pub returns : goal.returns

@@ -1,5 +1,4 @@
 -- Six blank results. Assumes nothing.
-use borrow.Author.Rules.{rules}
 use Rattle.frames.proofs.changes.said_alone.Goals as goal
 
 pub returns : goal.returns

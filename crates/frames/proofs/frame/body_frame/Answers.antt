@@ -5,7 +5,6 @@ use Rattle.frames.proofs.FrameLengths.{chain_room, kind_left}
 use Rattle.frames.proofs.BodyFrames.{with_pair}
 use Rattle.frames.proofs.ByKind.{refused_frame, well, circle_is, outline_is, wall_is, place_is, turn_is}
 use Rattle.frames.proofs.ByKind.{chain_is}
-use borrow.Author.Rules.{rules}
 use Rattle.frames.proofs.frame.body_frame.Goals as goal
 
 pub returns-then-number-ne-ACCEPTED : goal.returns-then-number-ne-ACCEPTED

@@ -2,7 +2,6 @@
 use mathlib.Core.Path.{refl, ◌∙◌}
 use Rattle.record_definitions.specs.Frame.{test_change}
 use Rattle.frames.proofs.ByKind.{refused_frame, test_is}
-use borrow.Author.Rules.{rules}
 use Rattle.frames.proofs.frame.chain_test.Goals as goal
 
 pub returns-then-number-ne-ACCEPTED : goal.returns-then-number-ne-ACCEPTED

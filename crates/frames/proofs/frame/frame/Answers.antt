@@ -1,6 +1,5 @@
 -- By the kind, and whether the first body is a chain. Assumes nothing.
 use mathlib.Core.Path.{sym, ◌∙◌}
-use borrow.Author.Rules.{rules}
 use Rattle.frames.proofs.frame.frame.Goals as goal
 
 pub body_frame-made-requires : goal.body_frame-made-requires

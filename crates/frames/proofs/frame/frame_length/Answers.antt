@@ -2,7 +2,6 @@
 use mathlib.Core.Path.{sym, ◌∙◌}
 use Rattle.frames.proofs.FrameLengths.{circle_length, outline_length_is, wall_length_is, place_length}
 use Rattle.frames.proofs.FrameLengths.{test_length, turn_length, chain_length_is, no_length}
-use borrow.Author.Rules.{rules}
 use Rattle.frames.proofs.frame.frame_length.Goals as goal
 
 pub returns-in-1 : goal.returns-in-1

@@ -1,7 +1,6 @@
 -- In their order. Assumes nothing.
 use mathlib.Core.Path.{sym, ◌∙◌}
 use Rattle.record_definitions.specs.Frame.{frame_refusal}
-use borrow.Author.Rules.{rules}
 use Rattle.frames.proofs.frame.frame_refusal.Goals as goal
 
 pub returns-then-not-well_formed : goal.returns-then-not-well_formed

@@ -1,6 +1,5 @@
 -- Both ids of a test, the one of another frame. Assumes nothing.
 use borrow.Author.Tests.{eq-eqb, ne_eqb, lt-ltb, le-ltb}
-use borrow.Author.Rules.{rules}
 use Rattle.frames.proofs.frame.names_unknown.Goals as goal
 
 pub returns-then-byte-gt-LARGEST_ID : goal.returns-then-byte-gt-LARGEST_ID

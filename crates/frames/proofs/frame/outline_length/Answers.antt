@@ -1,6 +1,5 @@
 -- By the count. Assumes nothing.
 use borrow.Author.Tests.{le-leb, lt-leb}
-use borrow.Author.Rules.{rules}
 use Rattle.frames.proofs.frame.outline_length.Goals as goal
 
 pub returns-then-count-le8 : goal.returns-then-count-le8

@@ -1,7 +1,6 @@
 -- Refused as any frame is, or answered as the test is. Assumes nothing.
 use mathlib.Core.Path.{refl, ◌∙◌}
 use Rattle.frames.proofs.ByKind.{refused_frame, test_is}
-use borrow.Author.Rules.{rules}
 use Rattle.frames.proofs.frame.test_frame.Goals as goal
 
 pub returns-then-number-ne-ACCEPTED : goal.returns-then-number-ne-ACCEPTED

@@ -1,7 +1,6 @@
 -- Some length, and that one. Assumes nothing.
 use borrow.Author.Tests.{eq-eqb, ne_eqb}
 use Rattle.record_definitions.specs.Frame.{well_formed}
-use borrow.Author.Rules.{rules}
 use Rattle.frames.proofs.frame.well_formed.Goals as goal
 
 pub returns-then-size-eq0 : goal.returns-then-size-eq0

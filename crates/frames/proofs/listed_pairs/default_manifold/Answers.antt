@@ -1,5 +1,4 @@
 -- Two points that are none. Assumes nothing.
-use borrow.Author.Rules.{rules}
 use Rattle.frames.proofs.listed_pairs.default_manifold.Goals as goal
 
 pub returns : goal.returns

@@ -1,7 +1,6 @@
 -- By the second body's kind. Assumes nothing.
 use borrow.Author.Tests.{eq-eqb, ne_eqb}
 use Rattle.record_definitions.specs.Touch.{meet}
-use borrow.Author.Rules.{rules}
 use Rattle.frames.proofs.listed_pairs.meet.Goals as goal
 
 pub returns-then-kind-eq-CIRCLE : goal.returns-then-kind-eq-CIRCLE

@@ -1,7 +1,6 @@
 -- By the first body's kind. Assumes nothing.
 use borrow.Author.Tests.{eq-eqb, ne_eqb}
 use Rattle.record_definitions.specs.Touch.{meet_outline}
-use borrow.Author.Rules.{rules}
 use Rattle.frames.proofs.listed_pairs.meet_outline.Goals as goal
 
 pub returns-then-kind-eq-OUTLINE : goal.returns-then-kind-eq-OUTLINE

@@ -2,7 +2,6 @@
 use mathlib.Core.Path.{refl}
 use borrow.Author.Tests.{eq-eqb, ne_eqb}
 use Rattle.record_definitions.specs.World.{piece_of}
-use borrow.Author.Rules.{rules}
 use Rattle.frames.proofs.pieces.piece_of.Goals as goal
 
 pub returns-then-body-ne-CHAIN : goal.returns-then-body-ne-CHAIN

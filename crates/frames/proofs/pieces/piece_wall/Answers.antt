@@ -1,15 +1,14 @@
 -- Four points, one behind the other. Assumes nothing.
-use mathlib.Core.Path.{◌≡◌, sym, ◌∙◌}
+use mathlib.Core.Path.{◌≡◌}
 use Prim.Native.Nat.{◌+◌}
 use native.Mathlib.Omega.{arith}
 use lib.Ieee.{nan}
-use lib.ListN.{length, length-map}
+use lib.ListN.{length}
 use Rattle.algebra.proofs.Lists.{getD_within}
 use Rattle.floats.specs.declared.b2_math.B2vec2.{B2vec2}
 use Rattle.floats.specs.B2Math.{vec2}
 use Rattle.shape_definitions.specs.Outline.{origin}
 use Rattle.record_definitions.specs.World.{piece_wall}
-use borrow.Author.Rules.{rules}
 use Rattle.frames.proofs.pieces.piece_wall.Goals as goal
 
 pub returns : goal.returns

@@ -1,9 +1,7 @@
 -- Refused at once, or answered as the test is. Assumes nothing.
-use mathlib.Core.Path.{sym, ◌∙◌}
+use mathlib.Core.Path.{◌∙◌}
 use native.Mathlib.Omega.{arith}
-use lib.ListN.{length-map}
 use Rattle.frames.proofs.TestFrames.{test_refused, test_run, alone_refused, alone_answered, kept_read}
-use borrow.Author.Rules.{rules}
 use Rattle.frames.proofs.test_frame.test_frame.Goals as goal
 
 pub returns-then-number-ne-ACCEPTED : goal.returns-then-number-ne-ACCEPTED

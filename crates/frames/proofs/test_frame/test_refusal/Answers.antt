@@ -1,6 +1,5 @@
 -- In their order. Assumes nothing.
 use Rattle.record_definitions.specs.Frame.{test_refusal}
-use borrow.Author.Rules.{rules}
 use Rattle.frames.proofs.test_frame.test_refusal.Goals as goal
 
 pub returns-then-none_a-none_b : goal.returns-then-none_a-none_b

@@ -1,7 +1,6 @@
 -- Contact, world points, states, ages and touches, one after the other. Assumes nothing.
 use Rattle.contact_definitions.specs.PointStates.{ids_of}
 use Rattle.record_definitions.specs.Touch.{tested, tested_as, states_of}
-use borrow.Author.Rules.{rules}
 use Rattle.frames.proofs.test_frame.tested.Goals as goal
 
 pub returns : goal.returns

@@ -1,6 +1,5 @@
 -- Both skins. Assumes nothing.
 use Rattle.record_definitions.specs.Touch.{world_points}
-use borrow.Author.Rules.{rules}
 use Rattle.frames.proofs.test_frame.world_points_of.Goals as goal
 
 pub returns : goal.returns

@@ -1,6 +1,5 @@
 -- By the count. Assumes nothing.
 use borrow.Author.Tests.{eq-eqb, ne_eqb}
-use borrow.Author.Rules.{rules}
 use Rattle.frames.proofs.test_result.shown_kind.Goals as goal
 
 pub returns-then-count-eq0 : goal.returns-then-count-eq0

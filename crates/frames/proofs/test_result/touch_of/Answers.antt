@@ -1,8 +1,8 @@
 -- Both places of the world points, and of the manifold. Assumes nothing.
-use mathlib.Core.Path.{◌≡◌, sym, ◌∙◌}
+use mathlib.Core.Path.{◌≡◌}
 use native.Mathlib.Omega.{arith}
 use lib.Ieee.{nan}
-use lib.ListN.{length, length-map}
+use lib.ListN.{length}
 use Rattle.algebra.proofs.Lists.{getD_within}
 use Rattle.floats.specs.declared.b2_math.B2vec2.{B2vec2}
 use Rattle.floats.specs.B2Math.{vec2}
@@ -10,7 +10,6 @@ use Rattle.rounding.specs.Literals.{zero32}
 use Rattle.shape_definitions.specs.Outline.{origin}
 use Rattle.record_definitions.specs.Touch.{touch_of}
 use Rattle.frames.proofs.NextAges.{point_read}
-use borrow.Author.Rules.{rules}
 use Rattle.frames.proofs.test_result.touch_of.Goals as goal
 
 pub returns : goal.returns

@@ -2,7 +2,6 @@
 use mathlib.Core.Path.{sym, ◌∙◌}
 use native.Mathlib.Omega.{arith}
 use Rattle.record_definitions.proofs.Rulebook.{counted_by_rulebook}
-use borrow.Author.Rules.{rules}
 use Rattle.frames.proofs.test_result.touches_after.Goals as goal
 
 pub returns-then-before-gt0 : goal.returns-then-before-gt0

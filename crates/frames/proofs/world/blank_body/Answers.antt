@@ -1,6 +1,5 @@
 -- No shape. Assumes nothing.
 use Rattle.record_definitions.specs.World.{blank_body}
-use borrow.Author.Rules.{rules}
 use Rattle.frames.proofs.world.blank_body.Goals as goal
 
 pub returns : goal.returns

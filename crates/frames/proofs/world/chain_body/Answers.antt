@@ -1,6 +1,5 @@
 -- A chain, at the origin. Assumes nothing.
 use Rattle.record_definitions.specs.World.{chain_body}
-use borrow.Author.Rules.{rules}
 use Rattle.frames.proofs.world.chain_body.Goals as goal
 
 pub returns : goal.returns

@@ -1,6 +1,5 @@
 -- A circle, at the origin. Assumes nothing.
 use Rattle.record_definitions.specs.World.{circle_body}
-use borrow.Author.Rules.{rules}
 use Rattle.frames.proofs.world.circle_body.Goals as goal
 
 pub returns : goal.returns

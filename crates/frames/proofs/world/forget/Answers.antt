@@ -1,11 +1,9 @@
 -- The loop: the pairs with each of the first j partners are fresh. Assumes nothing.
-use Prim.Native.Nat.{◌-◌, ◌≤◌, ◌<◌}
 use mathlib.Core.Path.{◌≡◌, refl}
 use native.Mathlib.Numerals.{add-one}
 use native.Mathlib.Omega.{arith}
-use lib.ListN.{length, length-set}
-use Rattle.record_definitions.specs.World.{fresh_pair, forget_below}
-use borrow.Author.Rules.{rules}
+use lib.ListN.{length-set}
+use Rattle.record_definitions.specs.World.{forget_below}
 use Rattle.frames.proofs.world.forget.Goals as goal
 
 pub loop-j-init : goal.loop-j-init

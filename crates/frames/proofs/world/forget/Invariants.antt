@@ -1,11 +1,8 @@
 -- The loop: the pairs with each of the first j partners are fresh. Assumes nothing.
 use Prim.Native.Nat.{◌-◌, ◌≤◌, ◌<◌}
-use mathlib.Core.Path.{◌≡◌, refl}
-use native.Mathlib.Numerals.{add-one}
-use native.Mathlib.Omega.{arith}
-use lib.ListN.{length, length-set}
+use mathlib.Core.Path.{◌≡◌}
+use lib.ListN.{length}
 use Rattle.record_definitions.specs.World.{fresh_pair, forget_below}
-use borrow.Author.Rules.{rules}
 use Rattle.frames.proofs.world.forget.Given as goal
 
 abbrev pub invariant-loop-j : goal.invariant-loop-j

@@ -1,5 +1,4 @@
 -- No test yet. Assumes nothing.
-use borrow.Author.Rules.{rules}
 use Rattle.frames.proofs.world.fresh_kept.Goals as goal
 
 pub returns : goal.returns

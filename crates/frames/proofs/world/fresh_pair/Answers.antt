@@ -1,6 +1,5 @@
 -- No test yet, of any piece. Assumes nothing.
 use Rattle.record_definitions.specs.World.{fresh_pair}
-use borrow.Author.Rules.{rules}
 use Rattle.frames.proofs.world.fresh_pair.Goals as goal
 
 pub returns : goal.returns

@@ -1,6 +1,5 @@
 -- No bodies, and no tests. Assumes nothing.
 use Rattle.record_definitions.specs.World.{fresh_world}
-use borrow.Author.Rules.{rules}
 use Rattle.frames.proofs.world.fresh_world.Goals as goal
 
 pub returns : goal.returns

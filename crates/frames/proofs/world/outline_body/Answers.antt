@@ -1,6 +1,5 @@
 -- An outline, at the origin. Assumes nothing.
 use Rattle.record_definitions.specs.World.{outline_body}
-use borrow.Author.Rules.{rules}
 use Rattle.frames.proofs.world.outline_body.Goals as goal
 
 pub returns : goal.returns

@@ -1,6 +1,5 @@
 -- A wall, at the origin. Assumes nothing.
 use Rattle.record_definitions.specs.World.{wall_body}
-use borrow.Author.Rules.{rules}
 use Rattle.frames.proofs.world.wall_body.Goals as goal
 
 pub returns : goal.returns

@@ -5,7 +5,6 @@ use lib.Ieee.{binary32, add}
 use Rattle.contact_definitions.specs.Manifold.{with_count}
 use Rattle.contact_definitions.specs.B2CollidePolygon.{polygons_manifold, b2_collide_polygons}
 use Rattle.collision.proofs.Refused.{made_in_range, not_in_range, count_refused, count_taken, both_counted_well}
-use borrow.Author.Rules.{rules}
 use Rattle.outline_contacts.proofs.b2_collide_polygon.b2_collide_polygons.Goals as goal
 
 pub returns-then-wrong_a-wrong_b : goal.returns-then-wrong_a-wrong_b

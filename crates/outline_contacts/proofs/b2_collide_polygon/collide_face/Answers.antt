@@ -4,7 +4,6 @@ use Rattle.floats.specs.declared.b2_math.B2vec2.{B2vec2}
 use Rattle.floats.specs.B2Math.{b2_scale, b2_normalize, unit_or_same}
 use Rattle.rounding.specs.Literals.{half32}
 use Rattle.outline_contacts.proofs.Written.{only_the_kind, with_its_points}
-use borrow.Author.Rules.{rules}
 use Rattle.outline_contacts.proofs.b2_collide_polygon.collide_face.Goals as goal
 
 pub returns-then-c-lt2 : goal.returns-then-c-lt2

@@ -5,7 +5,6 @@ use lib.ListN.{get_or-replicate}
 use lib.Ieee.{nan}
 use Rattle.floats.specs.B2Common.{b2_max_float}
 use Rattle.outline_contacts.proofs.Separation.{greatest_separation}
-use borrow.Author.Rules.{rules}
 use Rattle.outline_contacts.proofs.b2_collide_polygon.max_separation_of_b.Goals as goal
 
 pub face_rows-requires : goal.face_rows-requires

@@ -1,5 +1,4 @@
 -- The place in frame 2, and the id by the flag. Assumes nothing.
-use borrow.Author.Rules.{rules}
 use Rattle.outline_contacts.proofs.b2_collide_polygon.placed_end.Goals as goal
 
 pub returns : goal.returns

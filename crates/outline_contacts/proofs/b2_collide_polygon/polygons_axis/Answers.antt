@@ -1,6 +1,5 @@
 -- By the three tests. Assumes nothing.
 use Rattle.outline_contacts.proofs.Chosen.{found, apart_by_a, apart_by_b, on_face_b, on_face_a}
-use borrow.Author.Rules.{rules}
 use Rattle.outline_contacts.proofs.b2_collide_polygon.polygons_axis.Goals as goal
 
 pub returns-then-a-total_radius : goal.returns-then-a-total_radius

@@ -3,7 +3,6 @@ use mathlib.Core.Path.{◌∙◌, subst}
 use lib.Ieee.{binary32, add}
 use Rattle.outline_contacts.specs.Outlines.{Placed}
 use Rattle.outline_contacts.proofs.Axes.{when_apart, on_face_of_a, on_face_of_b}
-use borrow.Author.Rules.{rules}
 use Rattle.outline_contacts.proofs.b2_collide_polygon.polygons_manifold.Goals as goal
 use Rattle.outline_contacts.proofs.b2_collide_polygon.polygons_manifold.Goals.{in-FaceA, in-FaceB}
 

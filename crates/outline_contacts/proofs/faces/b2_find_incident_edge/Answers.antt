@@ -1,18 +1,15 @@
 -- What the scan keeps from here is what it keeps of all places. Assumes nothing.
-use mathlib.Core.Path.{◌≡◌, sym, ◌∙◌, ap}
-use mathlib.Core.List.{map}
-use Prim.Native.Nat.{ℕ, ◌<◌, ◌≤◌, ◌-◌}
+use mathlib.Core.Path.{sym, ◌∙◌, ap}
+use Prim.Native.Nat.{ℕ, ◌<◌}
 use native.Mathlib.Omega.{arith}
 use lib.ListN.{length}
 use lib.Ieee.{Float, lt}
-use Rattle.algebra.specs.Loops.{places, scan}
 use Rattle.floats.specs.B2Math.{b2_dot}
 use Rattle.shape_definitions.specs.Outline.{point_at}
 use Rattle.contact_definitions.specs.declared.axis.Best.{Best}
 use Rattle.contact_definitions.specs.Searches.{valued, is_less, first_least}
 use Rattle.contact_definitions.proofs.Searches.{scan_starts, replaced_by, kept_over, scanned_all}
 use Rattle.outline_contacts.proofs.Gathered.{dot_is, corner_is}
-use borrow.Author.Rules.{rules}
 use Rattle.outline_contacts.proofs.faces.b2_find_incident_edge.Goals as goal
 use Rattle.outline_contacts.proofs.faces.b2_find_incident_edge.Goals.{then-dot-min_dot, else-dot-min_dot}
 
@@ -39,24 +36,24 @@ loop-i-preserved c =
     let value_is = dot_is args.n args.ns i in
     elim c.if-dot-min_dot.branch [
       | then-dot-min_dot w ↦ rw (w.index-is, w.min_dot-is) (
-      omega arith,
-      omega arith,
-      omega arith,
-      inv.3,
-      inv.4,
-      replaced_by is_less (valued f) best _ i args.count inv.5 _ (omega arith)
-          (ap (λ (x : Float). lt x loop.min_dot) (sym (value_is _ within)) ∙ w.if-dot-min_dot.true)
-          (ap (λ (x : Float). record { place = i; value = x }) (value_is _ within)),
-    )
+        omega arith,
+        omega arith,
+        omega arith,
+        inv.3,
+        inv.4,
+        replaced_by is_less (valued f) best _ i args.count inv.5 _ (omega arith)
+            (ap (λ (x : Float). lt x loop.min_dot) (sym (value_is _ within)) ∙ w.if-dot-min_dot.true)
+            (ap (λ (x : Float). record { place = i; value = x }) (value_is _ within)),
+      )
       | else-dot-min_dot w ↦ rw (w.index-is, w.min_dot-is) (
-      omega arith,
-      omega arith,
-      omega arith,
-      inv.3,
-      inv.4,
-      kept_over is_less (valued f) best _ i args.count inv.5 (omega arith)
-          (ap (λ (x : Float). lt x loop.min_dot) (sym (value_is _ within)) ∙ w.if-dot-min_dot.false),
-    )
+        omega arith,
+        omega arith,
+        omega arith,
+        inv.3,
+        inv.4,
+        kept_over is_less (valued f) best _ i args.count inv.5 (omega arith)
+            (ap (λ (x : Float). lt x loop.min_dot) (sym (value_is _ within)) ∙ w.if-dot-min_dot.false),
+      )
     ]
 
 pub returns : goal.returns

@@ -1,19 +1,12 @@
 -- What the scan keeps from here is what it keeps of all places. Assumes nothing.
-use mathlib.Core.Path.{◌≡◌, sym, ◌∙◌, ap}
+use mathlib.Core.Path.{◌≡◌}
 use mathlib.Core.List.{map}
-use mathlib.Core.Logic.{⊎_elim}
-use Prim.Native.Nat.{ℕ, ◌<◌, ◌≤◌, ◌-◌}
-use native.Mathlib.Omega.{arith}
+use Prim.Native.Nat.{◌<◌, ◌≤◌, ◌-◌}
 use lib.ListN.{length}
-use lib.Ieee.{Float, lt}
 use Rattle.algebra.specs.Loops.{places, scan}
 use Rattle.floats.specs.B2Math.{b2_dot}
 use Rattle.shape_definitions.specs.Outline.{point_at}
-use Rattle.contact_definitions.specs.declared.axis.Best.{Best}
 use Rattle.contact_definitions.specs.Searches.{valued, is_less, first_least}
-use Rattle.contact_definitions.proofs.Searches.{scan_starts, replaced_by, kept_over, scanned_all}
-use Rattle.outline_contacts.proofs.Gathered.{dot_is, corner_is}
-use borrow.Author.Rules.{rules}
 use Rattle.outline_contacts.proofs.faces.b2_find_incident_edge.Given as goal
 
 abbrev pub invariant-loop-i : goal.invariant-loop-i

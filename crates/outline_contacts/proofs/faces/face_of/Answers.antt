@@ -1,7 +1,6 @@
 -- The places and corners are gathered. Assumes nothing.
 use native.Mathlib.Omega.{arith}
 use Rattle.outline_contacts.proofs.Gathered.{face_is}
-use borrow.Author.Rules.{rules}
 use Rattle.outline_contacts.proofs.faces.face_of.Goals as goal
 
 pub after-i2-requires : goal.after-i2-requires

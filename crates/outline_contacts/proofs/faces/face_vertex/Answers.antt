@@ -1,5 +1,4 @@
 -- The id of its features. Assumes nothing.
-use borrow.Author.Rules.{rules}
 use Rattle.outline_contacts.proofs.faces.face_vertex.Goals as goal
 
 pub returns : goal.returns

@@ -1,5 +1,4 @@
 -- Both corners, carried. Assumes nothing.
-use borrow.Author.Rules.{rules}
 use Rattle.outline_contacts.proofs.faces.incident_ends.Goals as goal
 
 pub returns : goal.returns

@@ -1,6 +1,5 @@
 -- Each field in its turn. Assumes nothing.
 use Rattle.contact_definitions.specs.B2CollidePolygon.{face_along}
-use borrow.Author.Rules.{rules}
 use Rattle.outline_contacts.proofs.faces.placed_face.Goals as goal
 
 pub returns : goal.returns

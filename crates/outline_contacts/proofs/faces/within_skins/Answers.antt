@@ -1,6 +1,5 @@
 -- The distance from the face, against both skins. Assumes nothing.
 use Rattle.contact_definitions.specs.B2CollidePolygon.{within_skins}
-use borrow.Author.Rules.{rules}
 use Rattle.outline_contacts.proofs.faces.within_skins.Goals as goal
 
 pub returns : goal.returns

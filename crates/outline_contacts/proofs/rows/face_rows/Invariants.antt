@@ -1,13 +1,8 @@
 -- The faces below i are carried so far. Assumes nothing.
-use mathlib.Core.Path.{◌≡◌, ◌∙◌, ap, subst}
-use Prim.Native.Nat.{ℕ, ◌≤◌, ◌-◌}
-use native.Mathlib.Omega.{arith}
+use mathlib.Core.Path.{◌≡◌}
+use Prim.Native.Nat.{◌≤◌, ◌-◌}
 use lib.ListN.{length}
-use Rattle.floats.specs.B2Math.{b2_mul_rot_by_vec2, b2_mul_transform_by_vec2}
 use Rattle.outline_contacts.specs.FaceRows.{FaceRows}
-use Rattle.algebra.proofs.Lists.{getD_within}
-use Rattle.outline_contacts.proofs.RowPlaces.{face_rows_next}
-use borrow.Author.Rules.{rules}
 use Rattle.outline_contacts.proofs.rows.face_rows.Given as goal
 
 abbrev pub invariant-loop-i : goal.invariant-loop-i

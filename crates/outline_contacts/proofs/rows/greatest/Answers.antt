@@ -1,16 +1,11 @@
 -- What the scan keeps from here is what it keeps of all places. Assumes nothing.
-use mathlib.Core.Path.{◌≡◌, refl}
-use mathlib.Core.List.{map}
-use Prim.Native.Nat.{◌<◌, ◌≤◌, ◌-◌}
+use mathlib.Core.Path.{refl}
 use native.Mathlib.Omega.{arith}
-use lib.ListN.{length}
-use Rattle.algebra.specs.Loops.{places, scan}
 use Rattle.contact_definitions.specs.Searches.{valued, is_greater, first_greatest}
 use Rattle.contact_definitions.proofs.Searches.{scan_starts, replaced_by, kept_over, scanned_all}
 use Rattle.contact_definitions.specs.declared.axis.Best.{Best}
-use Rattle.outline_contacts.specs.FaceRows.{Eight, at}
+use Rattle.outline_contacts.specs.FaceRows.{at}
 use Rattle.outline_contacts.proofs.RowPlaces.{faced_is}
-use borrow.Author.Rules.{rules}
 use Rattle.outline_contacts.proofs.rows.greatest.Goals as goal
 use Rattle.outline_contacts.proofs.rows.greatest.Goals.{then-x-value, else-x-value}
 
@@ -36,21 +31,21 @@ loop-i-preserved c =
     let best : Best = record { place = loop.place; value = loop.value } in
     elim c.if-x-value.branch [
       | then-x-value w ↦ rw (w.place-is, w.value-is) (
-      omega arith,
-      omega arith,
-      omega arith,
-      inv.3,
-      inv.4,
-      replaced_by is_greater (valued (at s)) best _ i count inv.5 (valued (at s) i) (omega arith) w.if-x-value.true refl,
-    )
+        omega arith,
+        omega arith,
+        omega arith,
+        inv.3,
+        inv.4,
+        replaced_by is_greater (valued (at s)) best _ i count inv.5 (valued (at s) i) (omega arith) w.if-x-value.true refl,
+      )
       | else-x-value w ↦ rw (w.place-is, w.value-is) (
-      omega arith,
-      omega arith,
-      omega arith,
-      inv.3,
-      inv.4,
-      kept_over is_greater (valued (at s)) best _ i count inv.5 (omega arith) w.if-x-value.false,
-    )
+        omega arith,
+        omega arith,
+        omega arith,
+        inv.3,
+        inv.4,
+        kept_over is_greater (valued (at s)) best _ i count inv.5 (omega arith) w.if-x-value.false,
+      )
     ]
 
 pub returns : goal.returns

@@ -1,17 +1,11 @@
 -- What the scan keeps from here is what it keeps of all places. Assumes nothing.
-use mathlib.Core.Path.{◌≡◌, refl}
+use mathlib.Core.Path.{◌≡◌}
 use mathlib.Core.List.{map}
-use mathlib.Core.Logic.{⊎_elim}
 use Prim.Native.Nat.{◌<◌, ◌≤◌, ◌-◌}
-use native.Mathlib.Omega.{arith}
 use lib.ListN.{length}
 use Rattle.algebra.specs.Loops.{places, scan}
 use Rattle.contact_definitions.specs.Searches.{valued, is_greater, first_greatest}
-use Rattle.contact_definitions.proofs.Searches.{scan_starts, replaced_by, kept_over, scanned_all}
-use Rattle.contact_definitions.specs.declared.axis.Best.{Best}
 use Rattle.outline_contacts.specs.FaceRows.{Eight, at}
-use Rattle.outline_contacts.proofs.RowPlaces.{faced_is}
-use borrow.Author.Rules.{rules}
 use Rattle.outline_contacts.proofs.rows.greatest.Given as goal
 
 abbrev pub invariant-loop-i : goal.invariant-loop-i

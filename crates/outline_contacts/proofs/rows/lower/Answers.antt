@@ -1,11 +1,9 @@
 -- The places below i are done, the others as they were. Assumes nothing.
-use mathlib.Core.Path.{◌≡◌, refl, ◌∙◌, ap₂}
-use Prim.Native.Nat.{ℕ, ◌<◌, ◌≤◌, ◌-◌}
+use mathlib.Core.Path.{refl, ◌∙◌, ap₂}
 use native.Mathlib.Omega.{arith}
 use Rattle.floats.specs.B2Math.{b2_min}
-use Rattle.outline_contacts.specs.FaceRows.{Eight, at, distance_at}
+use Rattle.outline_contacts.specs.FaceRows.{at, distance_at}
 use Rattle.outline_contacts.proofs.RowPlaces.{eight_set, row_next, rest_next, distance_is}
-use borrow.Author.Rules.{rules}
 use Rattle.outline_contacts.proofs.rows.lower.Goals as goal
 
 pub loop-i-init : goal.loop-i-init

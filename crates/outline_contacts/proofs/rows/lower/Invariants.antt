@@ -1,11 +1,8 @@
 -- The places below i are done, the others as they were. Assumes nothing.
-use mathlib.Core.Path.{◌≡◌, refl, ◌∙◌, ap₂}
+use mathlib.Core.Path.{◌≡◌}
 use Prim.Native.Nat.{ℕ, ◌<◌, ◌≤◌, ◌-◌}
-use native.Mathlib.Omega.{arith}
 use Rattle.floats.specs.B2Math.{b2_min}
 use Rattle.outline_contacts.specs.FaceRows.{Eight, at, distance_at}
-use Rattle.outline_contacts.proofs.RowPlaces.{eight_set, row_next, rest_next, distance_is}
-use borrow.Author.Rules.{rules}
 use Rattle.outline_contacts.proofs.rows.lower.Given as goal
 
 abbrev pub invariant-loop-i : goal.invariant-loop-i

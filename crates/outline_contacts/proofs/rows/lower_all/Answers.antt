@@ -1,11 +1,6 @@
 -- The corners below j are passed so far, at every face. Assumes nothing.
-use mathlib.Core.Path.{◌≡◌}
-use Prim.Native.Nat.{◌≤◌, ◌-◌}
 use native.Mathlib.Omega.{arith}
-use lib.ListN.{length}
-use Rattle.outline_contacts.specs.FaceRows.{Eight}
-use Rattle.outline_contacts.proofs.Lowest.{Lowest, lowest_starts, lowest_next, lowest_ended}
-use borrow.Author.Rules.{rules}
+use Rattle.outline_contacts.proofs.Lowest.{lowest_starts, lowest_next, lowest_ended}
 use Rattle.outline_contacts.proofs.rows.lower_all.Goals as goal
 
 pub loop-j-init : goal.loop-j-init

@@ -1,11 +1,9 @@
 -- The corners below j are passed so far, at every face. Assumes nothing.
 use mathlib.Core.Path.{◌≡◌}
 use Prim.Native.Nat.{◌≤◌, ◌-◌}
-use native.Mathlib.Omega.{arith}
 use lib.ListN.{length}
 use Rattle.outline_contacts.specs.FaceRows.{Eight}
-use Rattle.outline_contacts.proofs.Lowest.{Lowest, lowest_starts, lowest_next, lowest_ended}
-use borrow.Author.Rules.{rules}
+use Rattle.outline_contacts.proofs.Lowest.{Lowest}
 use Rattle.outline_contacts.proofs.rows.lower_all.Given as goal
 
 abbrev pub invariant-loop-j : goal.invariant-loop-j

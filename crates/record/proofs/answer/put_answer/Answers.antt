@@ -2,7 +2,6 @@
 use native.Mathlib.Omega.{arith}
 use lib.ListN.{length-set}
 use Rattle.record.proofs.Parts.{accepted_put, refused_put, tested_put}
-use borrow.Author.Rules.{rules}
 use Rattle.record.proofs.answer.put_answer.Goals as goal
 
 pub bounds-out-1 : goal.bounds-out-1

@@ -5,7 +5,6 @@ use lib.ListN.{length, take}
 use lib.Seq.{length-take-le}
 use Rattle.record.proofs.Parts.{line_put}
 use Rattle.record.proofs.Lines.{line_fits}
-use borrow.Author.Rules.{rules}
 use Rattle.record.proofs.answer.put_answer_line.Goals as goal
 
 pub slice_bounds-put_line-end : goal.slice_bounds-put_line-end

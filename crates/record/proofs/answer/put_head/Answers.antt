@@ -4,7 +4,6 @@ use mathlib.Core.List.{◌++◌}
 use Rattle.algebra.proofs.Buffer.{over_next}
 use Rattle.lines.specs.Fields.{number_bytes}
 use Rattle.record_definitions.specs.Answer.{names_bytes, states_bytes, head_bytes}
-use borrow.Author.Rules.{rules}
 use Rattle.record.proofs.answer.put_head.Goals as goal
 
 pub returns : goal.returns

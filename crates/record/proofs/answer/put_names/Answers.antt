@@ -3,7 +3,6 @@ use mathlib.Core.List.{[], ◌∷◌}
 use native.Mathlib.Omega.{arith}
 use lib.ListN.{length-set}
 use Rattle.algebra.proofs.Buffer.{over_stores}
-use borrow.Author.Rules.{rules}
 use Rattle.record.proofs.answer.put_names.Goals as goal
 
 pub bounds-out-1 : goal.bounds-out-1

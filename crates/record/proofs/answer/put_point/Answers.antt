@@ -4,7 +4,6 @@ use mathlib.Core.List.{◌++◌}
 use Rattle.algebra.proofs.Buffer.{over_next}
 use Rattle.lines.specs.Fields.{number_bytes, vector_bytes, float_bytes}
 use Rattle.record_definitions.specs.Answer.{point_bytes}
-use borrow.Author.Rules.{rules}
 use Rattle.record.proofs.answer.put_point.Goals as goal
 
 pub returns : goal.returns

@@ -1,6 +1,5 @@
 -- The answer's line, and behind it those of the further results. Assumes nothing.
 use Rattle.record.proofs.Lines.{put_next, said_alone_put}
-use borrow.Author.Rules.{rules}
 use Rattle.record.proofs.answer.put_said_line.Goals as goal
 
 pub returns-then-further-eq0 : goal.returns-then-further-eq0

@@ -1,12 +1,11 @@
 -- The kind, then the number behind it. Assumes nothing.
-use mathlib.Core.Path.{refl, ◌∙◌, ap}
+use mathlib.Core.Path.{refl}
 use mathlib.Core.List.{[], ◌∷◌}
 use native.Mathlib.Omega.{arith}
-use lib.ListN.{length, set, length-set}
-use Rattle.algebra.proofs.Buffer.{over_next, over_stores, length_over}
+use lib.ListN.{set, length-set}
+use Rattle.algebra.proofs.Buffer.{over_next, over_stores}
 use Rattle.lines.specs.Fields.{number_bytes}
 use Rattle.record_definitions.proofs.Feeding.{length_lent}
-use borrow.Author.Rules.{rules}
 use Rattle.record.proofs.answer.put_step.Goals as goal
 
 pub slice_bounds-put_number-count : goal.slice_bounds-put_number-count

@@ -1,5 +1,4 @@
 -- The bytes, then their digits. Assumes nothing.
-use borrow.Author.Rules.{rules}
 use Rattle.record.proofs.answer.put_step_line.Goals as goal
 
 pub returns : goal.returns

@@ -5,7 +5,6 @@ use Rattle.lines.specs.Fields.{vector_bytes}
 use Rattle.record_definitions.specs.Answer.{point_bytes, head_bytes}
 use Rattle.record.proofs.Parts.{with_normal, with_first, head_length, with_normal_length, with_first_length}
 use Rattle.record.proofs.Parts.{no_point_put, one_point_put, two_points_put}
-use borrow.Author.Rules.{rules}
 use Rattle.record.proofs.answer.put_touch.Goals as goal
 
 pub returns-then-t-eq0 : goal.returns-then-t-eq0

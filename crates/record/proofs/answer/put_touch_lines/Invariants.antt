@@ -1,12 +1,6 @@
 -- The loop: the lines of the first i results stand at the front. Assumes nothing.
 use Prim.Native.Nat.{◌-◌}
-use mathlib.Core.Path.{◌≡◌}
-use native.Mathlib.Omega.{arith}
-use lib.ListN.{length}
-use Rattle.record_definitions.specs.Answer.{most_further}
-use Rattle.record.proofs.Rows.{row_held}
-use Rattle.record.proofs.Lines.{LinesSoFar, no_line_yet, line_more, lines_put}
-use borrow.Author.Rules.{rules}
+use Rattle.record.proofs.Lines.{LinesSoFar}
 use Rattle.record.proofs.answer.put_touch_lines.Given as goal
 
 abbrev pub invariant-loop-i : goal.invariant-loop-i

@@ -1,5 +1,4 @@
 -- Six tests. Assumes nothing.
-use borrow.Author.Rules.{rules}
 use Rattle.record.proofs.export.begin_all.Goals as goal
 
 pub returns : goal.returns

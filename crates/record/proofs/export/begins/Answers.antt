@@ -1,5 +1,4 @@
 -- Both bytes. Assumes nothing.
-use borrow.Author.Rules.{rules}
 use Rattle.record.proofs.export.begins.Goals as goal
 
 pub returns : goal.returns

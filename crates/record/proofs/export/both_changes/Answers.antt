@@ -1,7 +1,6 @@
 -- The first frame, and where it is taken the second. Assumes nothing.
 use Rattle.record.proofs.FiveFrames.{refused_alone, taken_both}
 use native.Mathlib.Omega.{arith}
-use borrow.Author.Rules.{rules}
 use Rattle.record.proofs.export.both_changes.Goals as goal
 
 pub frame-c-requires : goal.frame-c-requires

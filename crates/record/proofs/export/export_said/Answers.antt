@@ -4,9 +4,7 @@ use mathlib.Core.Path.{refl, sym, ◌∙◌}
 use native.Mathlib.Nat.{zero-add}
 use native.Mathlib.Omega.{arith}
 use lib.Seq.{length-take-le}
-use borrow.Author.Tests.{not-true, not-false}
 use Rattle.record_definitions.proofs.Exported.{not_in_order, not_that_long, out_of_order, four_frames, run_said}
-use borrow.Author.Rules.{rules}
 use Rattle.record.proofs.export.export_said.Goals as goal
 
 pub returns-then-frames-second : goal.returns-then-frames-second

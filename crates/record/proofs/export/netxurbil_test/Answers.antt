@@ -1,6 +1,5 @@
 -- Each way out. Assumes nothing.
 use Rattle.record_definitions.proofs.Exported.{too_short, was_refused, was_written}
-use borrow.Author.Rules.{rules}
 use Rattle.record.proofs.export.netxurbil_test.Goals as goal
 
 pub returns-then-out-lt-LONGEST_ANSWER : goal.returns-then-out-lt-LONGEST_ANSWER

@@ -4,7 +4,6 @@ use mathlib.Core.Path.{◌∙◌, ap}
 use native.Mathlib.Omega.{arith}
 use Rattle.record_definitions.specs.Frame.{frame_length}
 use Rattle.record_definitions.proofs.Exported.{length_at_most}
-use borrow.Author.Rules.{rules}
 use Rattle.record.proofs.export.outline_end.Goals as goal
 
 pub overflow_add-result : goal.overflow_add-result

@@ -1,7 +1,6 @@
 -- Both bodies, and their test. Assumes nothing.
 use Rattle.record.proofs.FiveFrames.{first_body_refused, second_body_refused, bodies_tested}
 use native.Mathlib.Omega.{arith}
-use borrow.Author.Rules.{rules}
 use Rattle.record.proofs.export.run.Goals as goal
 
 pub returns-then-refusal_in-ne0 : goal.returns-then-refusal_in-ne0

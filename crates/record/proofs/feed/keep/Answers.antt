@@ -2,7 +2,6 @@
 use native.Mathlib.Omega.{arith}
 use lib.ListN.{length-set}
 use Rattle.record_definitions.proofs.OneLine.{character_kept, character_dropped}
-use borrow.Author.Rules.{rules}
 use Rattle.record.proofs.feed.keep.Goals as goal
 
 pub returns-then-len-lt-KEPT_LENGTH : goal.returns-then-len-lt-KEPT_LENGTH

@@ -2,7 +2,6 @@
 use mathlib.Core.Path.{ap}
 use mathlib.Core.List.{[]}
 use Rattle.record_definitions.specs.declared.world.World.{World}
-use borrow.Author.Rules.{rules}
 use Rattle.record.proofs.feed.start.Goals as goal
 
 pub returns : goal.returns

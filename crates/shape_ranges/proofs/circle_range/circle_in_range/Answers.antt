@@ -1,6 +1,5 @@
 -- Radius and centre. Assumes nothing.
 use Rattle.shape_definitions.specs.Circle.{circle_in_range}
-use borrow.Author.Rules.{rules}
 use Rattle.shape_ranges.proofs.circle_range.circle_in_range.Goals as goal
 
 pub returns : goal.returns

@@ -4,7 +4,6 @@ use mathlib.Core.Bool.{Bool, true, false, not, ◌&&◌, ◌||◌}
 use Rattle.floats.specs.Ranges.{point_in_range}
 use Rattle.shape_definitions.specs.Edge.{edge_in_range}
 use Rattle.shape_ranges.proofs.InTurn.{first_fails, first_holds}
-use borrow.Author.Rules.{rules}
 use Rattle.shape_ranges.proofs.edge_range.edge_in_range.Goals as goal
 
 -- the ghost points count on a one-sided wall alone

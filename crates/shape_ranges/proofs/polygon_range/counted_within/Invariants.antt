@@ -1,16 +1,9 @@
 -- One of the first n points is out of range, or none is: the loop passes the places below i. Assumes nothing.
-use mathlib.Core.Path.{◌≡◌, refl, sym, ◌∙◌}
-use Prim.Native.Nat.{◌≤◌, ◌<◌, ◌-◌}
-use native.Mathlib.Nat.{le-min, min-le_left, min-le_right}
-use native.Mathlib.Omega.{arith}
-use lib.ListN.{length, take, drop, length-take}
-use lib.Seq.{get_or-take}
-use borrow.Author.Tests.{not-true, not-false}
+use mathlib.Core.Path.{◌≡◌}
+use Prim.Native.Nat.{◌≤◌, ◌-◌}
+use lib.ListN.{length, take, drop}
 use Rattle.floats.specs.Ranges.{vec2_within}
 use Rattle.shape_definitions.specs.Polygon.{all_points}
-use Rattle.algebra.proofs.All.{all_failed, all_next}
-use Rattle.shape_ranges.proofs.FourPlaces.{all_passed}
-use borrow.Author.Rules.{rules}
 use Rattle.shape_ranges.proofs.polygon_range.counted_within.Given as goal
 
 abbrev pub invariant-loop-i : goal.invariant-loop-i

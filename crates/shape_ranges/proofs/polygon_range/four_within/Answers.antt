@@ -1,12 +1,11 @@
 -- The places before from + j are tested. Assumes nothing.
 use mathlib.Core.Path.{◌≡◌, refl, ◌∙◌, ap}
-use Prim.Native.Nat.{ℕ, ◌≤◌, ◌-◌}
+use Prim.Native.Nat.{ℕ}
 use native.Mathlib.Omega.{arith}
-use lib.ListN.{length, take, drop}
+use lib.ListN.{take, drop}
 use Rattle.floats.specs.Ranges.{vec2_within}
 use Rattle.shape_definitions.specs.Polygon.{all_points}
 use Rattle.shape_ranges.proofs.FourPlaces.{one_more}
-use borrow.Author.Rules.{rules}
 use Rattle.shape_ranges.proofs.polygon_range.four_within.Goals as goal
 
 pub loop-j-init : goal.loop-j-init

@@ -1,12 +1,9 @@
 -- The places before from + j are tested. Assumes nothing.
-use mathlib.Core.Path.{◌≡◌, refl, ◌∙◌, ap}
-use Prim.Native.Nat.{ℕ, ◌≤◌, ◌-◌}
-use native.Mathlib.Omega.{arith}
+use mathlib.Core.Path.{◌≡◌}
+use Prim.Native.Nat.{◌≤◌, ◌-◌}
 use lib.ListN.{length, take, drop}
 use Rattle.floats.specs.Ranges.{vec2_within}
 use Rattle.shape_definitions.specs.Polygon.{all_points}
-use Rattle.shape_ranges.proofs.FourPlaces.{one_more}
-use borrow.Author.Rules.{rules}
 use Rattle.shape_ranges.proofs.polygon_range.four_within.Given as goal
 
 abbrev pub invariant-loop-j : goal.invariant-loop-j

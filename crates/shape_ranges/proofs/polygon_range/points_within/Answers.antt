@@ -2,7 +2,6 @@
 use mathlib.Core.Path.{sym, ◌∙◌}
 use Rattle.floats.specs.Ranges.{vec2_within}
 use Rattle.shape_ranges.proofs.FourPlaces.{first_four, both_fours}
-use borrow.Author.Rules.{rules}
 use Rattle.shape_ranges.proofs.polygon_range.points_within.Goals as goal
 
 pub returns-then-n-le4 : goal.returns-then-n-le4

@@ -1,11 +1,9 @@
 -- Each part of the test has its own function; the first that fails decides. Assumes nothing.
 use mathlib.Core.Path.{sym, ◌∙◌, ap₂}
 use mathlib.Core.Bool.{◌&&◌}
-use borrow.Author.Tests.{not-true}
 use Rattle.floats.specs.Ranges.{point_in_range, normal_in_range}
 use Rattle.shape_definitions.specs.Validate.{polygon_in_range}
 use Rattle.shape_ranges.proofs.InTurn.{first_fails, first_holds, fails_before}
-use borrow.Author.Rules.{rules}
 use Rattle.shape_ranges.proofs.polygon_range.polygon_in_range.Goals as goal
 
 pub returns-then-not-radius-centroid : goal.returns-then-not-radius-centroid

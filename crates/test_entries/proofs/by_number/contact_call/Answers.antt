@@ -1,7 +1,6 @@
 -- `contact_call` answers what the entry of its number answers, and nothing under another number. Assumes nothing.
 use Rattle.test_entries.specs.ByNumber.{contact_answer}
 use Rattle.test_entries.proofs.UnderNumber.{under_number, no_contact}
-use borrow.Author.Rules.{rules}
 use Rattle.test_entries.proofs.by_number.contact_call.Goals as goal
 
 pub returns-in-7 : goal.returns-in-7

@@ -1,7 +1,6 @@
 -- `shape_call` answers what the entry of its number answers, and nothing under another number. Assumes nothing.
 use Rattle.test_entries.specs.ByNumber.{shape_answer}
 use Rattle.test_entries.proofs.UnderNumber.{under_number, no_shape}
-use borrow.Author.Rules.{rules}
 use Rattle.test_entries.proofs.by_number.shape_call.Goals as goal
 
 pub returns-in-1 : goal.returns-in-1

@@ -5,7 +5,6 @@ use Rattle.measured_definitions.specs.MeasuredBoxes.{measured_boxes, boxes_answe
 use Rattle.wire.specs.MeasuredRecords.{boxes_answer_words}
 use Rattle.wire.proofs.Requests.{other_length, answered}
 use Rattle.test_entries.specs.Measured.{measured_boxes_answer}
-use borrow.Author.Rules.{rules}
 use Rattle.test_entries.proofs.measured.boxes.Goals as goal
 
 pub returns-then-input-ne68 : goal.returns-then-input-ne68

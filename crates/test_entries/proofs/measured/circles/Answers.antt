@@ -5,7 +5,6 @@ use Rattle.measured_definitions.specs.MeasuredCircles.{measured_circles, circles
 use Rattle.wire.specs.MeasuredRecords.{circles_answer_words}
 use Rattle.wire.proofs.Requests.{other_length, answered}
 use Rattle.test_entries.specs.Measured.{measured_circles_answer}
-use borrow.Author.Rules.{rules}
 use Rattle.test_entries.proofs.measured.circles.Goals as goal
 
 pub returns-then-input-ne52 : goal.returns-then-input-ne52

@@ -6,7 +6,6 @@ use borrow.Author.Tests.{lt-ltb, le-ltb}
 use Rattle.headings.proofs.Table.{lent_length}
 use Rattle.wire.proofs.Requests.{other_length, answered}
 use Rattle.test_entries.specs.Numbers.{heading_answer}
-use borrow.Author.Rules.{rules}
 use Rattle.test_entries.proofs.numbers.heading.Goals as goal
 
 pub returns-then-input-ne8 : goal.returns-then-input-ne8

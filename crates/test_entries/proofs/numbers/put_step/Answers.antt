@@ -1,5 +1,4 @@
 -- The words of a step and its root are written. Assumes nothing.
-use borrow.Author.Rules.{rules}
 use Rattle.wire.proofs.Bytes.{written_as}
 use Rattle.test_entries.proofs.numbers.put_step.Goals as goal
 

@@ -3,7 +3,6 @@ use mathlib.Core.Path.{refl}
 use mathlib.Core.Bool.{true}
 use Rattle.wire.proofs.Requests.{other_length, answered}
 use Rattle.test_entries.specs.Numbers.{root_answer}
-use borrow.Author.Rules.{rules}
 use Rattle.test_entries.proofs.numbers.root.Goals as goal
 
 pub returns-then-input-ne8 : goal.returns-then-input-ne8

@@ -1,7 +1,6 @@
 -- Entry 1 answers the outline of the request's points, or nothing where their number is not the request's length.
 -- Assumes nothing.
 use Rattle.test_entries.proofs.SetEntry.{set_short, set_malformed, set_answered}
-use borrow.Author.Rules.{rules}
 use Rattle.test_entries.proofs.outlines.set.Goals as goal
 
 pub returns-then-input-lt152 : goal.returns-then-input-lt152

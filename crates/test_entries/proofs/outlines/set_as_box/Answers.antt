@@ -3,7 +3,6 @@ use mathlib.Core.Path.{refl}
 use mathlib.Core.Bool.{true}
 use Rattle.wire.proofs.Requests.{other_length, answered}
 use Rattle.test_entries.specs.Outlines.{box_answer}
-use borrow.Author.Rules.{rules}
 use Rattle.test_entries.proofs.outlines.set_as_box.Goals as goal
 
 pub returns-then-input-ne156 : goal.returns-then-input-ne156

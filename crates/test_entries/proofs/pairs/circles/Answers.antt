@@ -1,7 +1,6 @@
 -- Entry 7 answers the manifold of two circles, or nothing to another length or kind. Assumes nothing.
 use Rattle.wire.proofs.Requests.{other_length, unknown, answered}
 use Rattle.test_entries.specs.Pairs.{circles_answer}
-use borrow.Author.Rules.{rules}
 use Rattle.test_entries.proofs.pairs.circles.Goals as goal
 
 pub returns-then-input-ne124 : goal.returns-then-input-ne124

@@ -3,7 +3,6 @@ use mathlib.Core.Path.{ap₂}
 use mathlib.Core.Bool.{◌&&◌}
 use Rattle.wire.proofs.Requests.{other_length, unknown, answered}
 use Rattle.test_entries.specs.Pairs.{edge_and_polygon_answer}
-use borrow.Author.Rules.{rules}
 use Rattle.test_entries.proofs.pairs.edge_and_polygon.Goals as goal
 
 pub returns-then-input-ne284 : goal.returns-then-input-ne284

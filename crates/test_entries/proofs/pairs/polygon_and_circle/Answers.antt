@@ -1,7 +1,6 @@
 -- Entry 8 answers the manifold of an outline and a circle, or nothing to another length or kind. Assumes nothing.
 use Rattle.wire.proofs.Requests.{other_length, unknown, answered}
 use Rattle.test_entries.specs.Pairs.{polygon_and_circle_answer}
-use borrow.Author.Rules.{rules}
 use Rattle.test_entries.proofs.pairs.polygon_and_circle.Goals as goal
 
 pub returns-then-input-ne256 : goal.returns-then-input-ne256

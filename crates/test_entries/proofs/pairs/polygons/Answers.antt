@@ -1,7 +1,6 @@
 -- Entry 9 answers the manifold of two outlines, or nothing to another length or kind. Assumes nothing.
 use Rattle.wire.proofs.Requests.{other_length, unknown, answered}
 use Rattle.test_entries.specs.Pairs.{polygons_answer}
-use borrow.Author.Rules.{rules}
 use Rattle.test_entries.proofs.pairs.polygons.Goals as goal
 
 pub returns-then-input-ne388 : goal.returns-then-input-ne388

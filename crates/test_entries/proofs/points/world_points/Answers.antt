@@ -1,7 +1,6 @@
 -- Entry 13 answers the world points, or nothing to another length or kind. Assumes nothing.
 use Rattle.wire.proofs.Requests.{other_length, unknown, answered}
 use Rattle.test_entries.specs.Points.{world_points_answer}
-use borrow.Author.Rules.{rules}
 use Rattle.test_entries.proofs.points.world_points.Goals as goal
 
 pub returns-then-input-ne140 : goal.returns-then-input-ne140

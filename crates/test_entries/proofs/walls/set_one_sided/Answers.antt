@@ -1,7 +1,6 @@
 -- Entry 5 answers a wall that is met from one side, or nothing to another length or flag. Assumes nothing.
 use Rattle.wire.proofs.Requests.{other_length, unknown, answered}
 use Rattle.test_entries.specs.Walls.{one_sided_answer}
-use borrow.Author.Rules.{rules}
 use Rattle.test_entries.proofs.walls.set_one_sided.Goals as goal
 
 pub returns-then-input-ne76 : goal.returns-then-input-ne76

@@ -1,7 +1,6 @@
 -- Entry 6 answers a wall that is met from both sides, or nothing to another length or flag. Assumes nothing.
 use Rattle.wire.proofs.Requests.{other_length, unknown, answered}
 use Rattle.test_entries.specs.Walls.{two_sided_answer}
-use borrow.Author.Rules.{rules}
 use Rattle.test_entries.proofs.walls.set_two_sided.Goals as goal
 
 pub returns-then-input-ne60 : goal.returns-then-input-ne60
