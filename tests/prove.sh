@@ -37,8 +37,10 @@ stamped() {
 
 # sources: the kit and every file that is proved, in one line
 sources() {
-    { rt version; find crates crates.txt -regex 'crates/[^/]*/out' -prune -o -type f -print0 | sort -z | xargs -0 sha256sum; } |
-        sha256sum
+    {
+        rt version < /dev/null # it takes no folder there
+        find crates crates.txt -regex 'crates/[^/]*/out' -prune -o -type f -print0 | sort -z | xargs -0 sha256sum
+    } | sha256sum
 }
 up_to_date() { [ -s "$1" ] && [ -s "$2" ] && [ "$(sources) $(sha256sum < "$1")" = "$(cat "$2")" ]; }
 
