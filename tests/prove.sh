@@ -66,7 +66,7 @@ needed() {
 }
 
 # left CRATE: those of them without a proof as new as their files and as what they stand on, each with a guess of its
-# seconds: two for a function, and eight
+# seconds: one for a function, and ten
 left() {
     local name over one mark stale=" "
     needed "$1" | while read -r name over; do
@@ -76,7 +76,7 @@ left() {
         [ -n "$one" ] || [ -z "$mark" ] ||
             [ -n "$(find "crates/$name" -path "crates/$name/out" -prune -o -type f -newer "$mark" -print -quit)" ] || continue
         stale+="$name "
-        echo "$name $((8 + 2 * $(cat "crates/$name"/src/*.rt | grep -cE '(^| )fn ')))"
+        echo "$name $((10 + $(cat "crates/$name"/src/*.rt | grep -cE '(^| )fn ')))"
     done
 }
 
