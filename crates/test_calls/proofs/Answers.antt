@@ -5,7 +5,6 @@ use mathlib.Core.List.{List, []}
 use borrow.Author.Tests.{ne_eqb, lt-ltb, le-ltb}
 use lib.ListN.{length}
 use Rattle.test_entries.specs.Numbers.{root_answer, normalize_answer, heading_answer, root_step_answer}
-use Rattle.test_entries.specs.Measured.{measured_circles_answer, measured_boxes_answer}
 use Rattle.test_entries.specs.ByNumber.{shape_answer, contact_answer}
 use Rattle.wire.specs.Words.{word_at}
 use Rattle.test_calls.specs.Entries.{entry_answer, answer}
@@ -35,38 +34,14 @@ module _ (request : List ℕ) (entry : ℕ) (room : 4 ≤ length request) (entry
   unfolding entry_answer
   root_step_entry is = sym (simp is) ∙ answers
 
-  pub circles_entry : entry ≡ 20 → measured_circles_answer request ≡ answer request
-  unfolding entry_answer
-  circles_entry is = sym (simp is) ∙ answers
-
-  pub boxes_entry : entry ≡ 21 → measured_boxes_answer request ≡ answer request
-  unfolding entry_answer
-  boxes_entry is = sym (simp is) ∙ answers
-
-  module _ (no_15 : entry ≡ 15 → ⊥) (no_16 : entry ≡ 16 → ⊥) (no_17 : entry ≡ 17 → ⊥) (no_18 : entry ≡ 18 → ⊥)
-      (no_20 : entry ≡ 20 → ⊥) (no_21 : entry ≡ 21 → ⊥) where
+  module _ (no_15 : entry ≡ 15 → ⊥) (no_16 : entry ≡ 16 → ⊥) (no_17 : entry ≡ 17 → ⊥)
+      (no_18 : entry ≡ 18 → ⊥) where
     pub shape_entry : entry < 7 → shape_answer entry request ≡ answer request
     unfolding entry_answer
     shape_entry below =
-        sym (simp (
-          ne_eqb _ _ no_15,
-          ne_eqb _ _ no_16,
-          ne_eqb _ _ no_17,
-          ne_eqb _ _ no_18,
-          ne_eqb _ _ no_20,
-          ne_eqb _ _ no_21,
-          lt-ltb _ _ below,
-        )) ∙ answers
+        sym (simp (ne_eqb _ _ no_15, ne_eqb _ _ no_16, ne_eqb _ _ no_17, ne_eqb _ _ no_18, lt-ltb _ _ below)) ∙ answers
 
     pub contact_entry : 7 ≤ entry → contact_answer entry request ≡ answer request
     unfolding entry_answer
     contact_entry above =
-        sym (simp (
-          ne_eqb _ _ no_15,
-          ne_eqb _ _ no_16,
-          ne_eqb _ _ no_17,
-          ne_eqb _ _ no_18,
-          ne_eqb _ _ no_20,
-          ne_eqb _ _ no_21,
-          le-ltb _ _ above,
-        )) ∙ answers
+        sym (simp (ne_eqb _ _ no_15, ne_eqb _ _ no_16, ne_eqb _ _ no_17, ne_eqb _ _ no_18, le-ltb _ _ above)) ∙ answers

@@ -3,7 +3,6 @@
 -- all. Definitions only.
 use Rattle.std.specs.Prelude.{ℕ, cond, List, [], ltb, eqb, length}
 use Rattle.test_entries.specs.Numbers.{root_answer, normalize_answer, heading_answer, root_step_answer}
-use Rattle.test_entries.specs.Measured.{measured_circles_answer, measured_boxes_answer}
 use Rattle.test_entries.specs.ByNumber.{shape_answer, contact_answer}
 use Rattle.wire.specs.Words.{word_at}
 
@@ -14,9 +13,7 @@ entry_answer entry request =
     (cond (eqb entry 16) (normalize_answer request)
     (cond (eqb entry 17) (heading_answer request)
     (cond (eqb entry 18) (root_step_answer request)
-    (cond (eqb entry 20) (measured_circles_answer request)
-    (cond (eqb entry 21) (measured_boxes_answer request)
-    (cond (ltb entry 7) (shape_answer entry request) (contact_answer entry request)))))))
+    (cond (ltb entry 7) (shape_answer entry request) (contact_answer entry request)))))
 
 unfoldable pub answer : List ℕ → List ℕ
 answer request = cond (ltb (length request) 4) [] (entry_answer (word_at request 0) request)

@@ -4,6 +4,7 @@
 
 ghost use Rattle.wire.specs.Words.{Written};
 ghost use Rattle.test_calls.specs.Entries.{answer};
+ghost use Rattle.test_calls.specs.Measured.{measured_answer};
 
 use wire::words;
 
@@ -22,8 +23,6 @@ pub extern "C" fn calls(input: &[u8], out: &mut [u8]) -> u32
         16 => test_entries::numbers::normalize(input, out),
         17 => test_entries::numbers::heading(input, out),
         18 => test_entries::numbers::root_step(input, out),
-        20 => test_entries::measured::circles(input, out),
-        21 => test_entries::measured::boxes(input, out),
         _ => {
             if entry < 7 {
                 test_entries::by_number::shape_call(entry, input, out)
@@ -31,5 +30,21 @@ pub extern "C" fn calls(input: &[u8], out: &mut [u8]) -> u32
                 test_entries::by_number::contact_call(entry, input, out)
             }
         }
+    }
+}
+
+// Measured bodies by numbers of their own, 20 and 21; what is written is as `calls` says.
+#[unsafe(no_mangle)]
+pub extern "C" fn measured_calls(input: &[u8], out: &mut [u8]) -> u32
+    ensures { Written (measured_answer input.now) out.old result out.new }
+{
+    if input.len() < 4 {
+        return 0;
+    }
+    let entry = words::word(input, 0);
+    match entry {
+        20 => test_entries::measured::circles(input, out),
+        21 => test_entries::measured::boxes(input, out),
+        _ => 0,
     }
 }

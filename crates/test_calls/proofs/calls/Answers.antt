@@ -1,7 +1,7 @@
 -- `calls` answers what the entry named by the first word answers, and nothing to any other request. Assumes nothing.
 use Rattle.wire.proofs.Bytes.{nothing_written, written_as}
 use Rattle.test_calls.proofs.Answers.{no_entry, root_entry, normalize_entry, heading_entry, root_step_entry}
-use Rattle.test_calls.proofs.Answers.{circles_entry, boxes_entry, shape_entry, contact_entry}
+use Rattle.test_calls.proofs.Answers.{shape_entry, contact_entry}
 use Rattle.test_calls.proofs.calls.Goals as goal
 
 pub returns-then-input-lt4 : goal.returns-then-input-lt4
@@ -27,28 +27,18 @@ returns-in-18 c =
     written_as _ _ _ _ _ (root_step_entry _ _ c.if-input-lt4.false c.word-entry.ensures c.in-18.is)
     c.root_step.ensures
 
-pub returns-in-20 : goal.returns-in-20
-returns-in-20 c =
-    written_as _ _ _ _ _ (circles_entry _ _ c.if-input-lt4.false c.word-entry.ensures c.in-20.is)
-    c.circles.ensures
-
-pub returns-in-21 : goal.returns-in-21
-returns-in-21 c =
-    written_as _ _ _ _ _ (boxes_entry _ _ c.if-input-lt4.false c.word-entry.ensures c.in-21.is)
-    c.boxes.ensures
-
 pub returns-then-entry-lt7 : goal.returns-then-entry-lt7
 returns-then-entry-lt7 c =
     let none = c.in_default.in_default-own.rest in
     written_as _ _ _ _ _
-    (shape_entry _ _ c.if-input-lt4.false c.word-entry.ensures none.0.0.0.0.0.1 none.0.0.0.0.1
-    none.0.0.0.1 none.0.0.1 none.0.1 none.1 c.if-entry-lt7.true)
+    (shape_entry _ _ c.if-input-lt4.false c.word-entry.ensures none.0.0.0.1 none.0.0.1
+    none.0.1 none.1 c.if-entry-lt7.true)
     c.shape_call.ensures
 
 pub returns-else-entry-lt7 : goal.returns-else-entry-lt7
 returns-else-entry-lt7 c =
     let none = c.in_default.in_default-own.rest in
     written_as _ _ _ _ _
-    (contact_entry _ _ c.if-input-lt4.false c.word-entry.ensures none.0.0.0.0.0.1 none.0.0.0.0.1
-    none.0.0.0.1 none.0.0.1 none.0.1 none.1 c.if-entry-lt7.false)
+    (contact_entry _ _ c.if-input-lt4.false c.word-entry.ensures none.0.0.0.1 none.0.0.1
+    none.0.1 none.1 c.if-entry-lt7.false)
     c.contact_call.ensures
