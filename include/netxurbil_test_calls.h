@@ -19,8 +19,7 @@ extern "C" {
    normal impulse, tangent impulse, id. CLIPV is 3: point, id. WMAN is 8: normal, two points, two separations. An id
    is one word, its bytes index A, index B, type A, type B, highest first. A state is 0 for null, 1 for add, 2 for
    persist, 3 for remove. Points are x then y. A count may be any word; a kind, flag or state that is none of these
-   makes the request malformed. A refused call answers the record that it was given. SPAN is 2: lowest, highest, in
-   whole 1/256 m and two's complement.
+   makes the request malformed. A refused call answers the record that it was given.
 
       1, POLY, n, n points                     the outline builder: refusal, POLY
       2, POLY, hx, hy                          a box: refusal, POLY
@@ -45,12 +44,17 @@ extern "C" {
      17, turn number                           its heading, in 4,096ths of a turn: refusal, sine, cosine; 14, 0, 0
                                                above 4,095
      18, x                                     the square root of x and the step that gives it: refusal, step (0
-                                               special operands, 1 exact results, 2 rounding), root
+                                               special operands, 1 exact results, 2 rounding), root */
+uint32_t calls(const uint8_t *input, size_t input_length, uint8_t *out, size_t out_length);
+
+/* The same of measured bodies, which have numbers of their own. SPAN is 2 words: lowest, highest, in whole 1/256 m and
+   two's complement.
+
      20, 3 SPAN, 3 SPAN                        measured circles A and B, x, y, radius of each: refusal, verdict (0
                                                none, 1 surely touching, 2 surely apart, 3 either), then x, y, radius
                                                of A and of B, touching, and again, apart; zeros but for an either
      21, 4 SPAN, 4 SPAN                        measured boxes A and B, x, y, hx, hy of each: the same with these */
-uint32_t calls(const uint8_t *input, size_t input_length, uint8_t *out, size_t out_length);
+uint32_t measured_calls(const uint8_t *input, size_t input_length, uint8_t *out, size_t out_length);
 
 /* The records of the outline builder, as the code has them. */
 struct netxurbil_vec2 {

@@ -5,7 +5,7 @@ use crate::measured::{limits, touch_each_other, Measured, EITHER, OUT_OF_LIMITS,
 use crate::measured_export;
 use crate::measured_ranges::{each_in_turn, good, spoil};
 use crate::row::Row;
-use crate::support::{calls, Random, Tally};
+use crate::support::{calls, measured_calls, Random, Tally};
 use crate::table::{CIRCLES, HEADING};
 
 pub const ROWS: [Row; 2] = [
@@ -17,6 +17,7 @@ pub const ROWS: [Row; 2] = [
         reachable: &[0, OUT_OF_LIMITS],
         length: 1 + 12,
         record: 1 + 12,
+        ours: measured_calls,
         ..HEADING
     },
     Row {
@@ -27,6 +28,7 @@ pub const ROWS: [Row; 2] = [
         reachable: &[0, OUT_OF_LIMITS],
         length: 1 + 16,
         record: 1 + 16,
+        ours: measured_calls,
         ..HEADING
     },
 ];
@@ -110,12 +112,12 @@ fn to_report(measured: &Measured, ours: &[u32], random: &mut Random) -> Vec<Vec<
 /// What is wrong with our answer.
 fn faults(row: &Row, measured: &Measured, tally: &mut Tally, random: &mut Random) -> Vec<&'static str> {
     let request = measured.request(row.entry);
-    let ours = calls(&request);
+    let ours = measured_calls(&request);
     if ours.len() != 1 + row.record {
         return vec!["the number of words"];
     }
     let Some((refusal, verdict, ways)) = expected(measured) else { return vec!["the second program"] };
-    let swapped = calls(&measured.swapped().request(row.entry));
+    let swapped = measured_calls(&measured.swapped().request(row.entry));
     let mut list = vec![
         ("the refusal", ours[0] == refusal),
         ("the verdict", ours[1] == verdict),

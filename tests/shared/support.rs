@@ -6,6 +6,8 @@ extern "C" {
     // A `&[u8]` of Rattle is a pointer and a length.
     #[link_name = "calls"]
     fn calls_raw(input: *const u8, input_len: usize, out: *mut u8, out_len: usize) -> u32;
+    #[link_name = "measured_calls"]
+    fn measured_calls_raw(input: *const u8, input_len: usize, out: *mut u8, out_len: usize) -> u32;
 }
 
 pub fn to_bytes(words: &[u32]) -> Vec<u8> {
@@ -21,10 +23,22 @@ pub fn calls_bytes(input: &[u8], out: &mut [u8]) -> u32 {
     unsafe { calls_raw(input.as_ptr(), input.len(), out.as_mut_ptr(), out.len()) }
 }
 
+/// The same of `measured_calls`.
+pub fn measured_calls_bytes(input: &[u8], out: &mut [u8]) -> u32 {
+    unsafe { measured_calls_raw(input.as_ptr(), input.len(), out.as_mut_ptr(), out.len()) }
+}
+
 /// A request in words and its answer in words; a malformed request has none.
 pub fn calls(request: &[u32]) -> Vec<u32> {
     let mut out = [0u8; 256];
     let count = calls_bytes(&to_bytes(request), &mut out) as usize;
+    to_words(&out[..4 * count])
+}
+
+/// The same of measured bodies.
+pub fn measured_calls(request: &[u32]) -> Vec<u32> {
+    let mut out = [0u8; 256];
+    let count = measured_calls_bytes(&to_bytes(request), &mut out) as usize;
     to_words(&out[..4 * count])
 }
 
