@@ -1,6 +1,5 @@
 // The contact calls as a program of Rattle makes them: shapes stand in arrays, and a pass calls one after another, each
 // on the answer of the last.
-use crate::manifolds;
 use crate::manifolds::Manifold;
 use bench_passes::clip_records::Clip;
 use bench_passes::state_records::States;
@@ -8,8 +7,7 @@ use bench_passes::{clip_passes, pair_passes, state_passes};
 
 #[unsafe(no_mangle)]
 pub extern "C" fn pass_circles(old: Manifold, a: &[f32], b: &[f32], order: &[u32]) -> Manifold {
-    let answer = manifolds::answer_in(old);
-    manifolds::answer_out(pair_passes::circles(answer, a, b, order))
+    pair_passes::circles(old.into(), a, b, order).into()
 }
 
 #[unsafe(no_mangle)]
@@ -20,8 +18,7 @@ pub extern "C" fn pass_polygon_and_circle(
     b: &[f32],
     order: &[u32],
 ) -> Manifold {
-    let answer = manifolds::answer_in(old);
-    manifolds::answer_out(pair_passes::polygon_and_circle(answer, a, count_a, b, order))
+    pair_passes::polygon_and_circle(old.into(), a, count_a, b, order).into()
 }
 
 #[unsafe(no_mangle)]
@@ -33,8 +30,7 @@ pub extern "C" fn pass_polygons(
     count_b: usize,
     order: &[u32],
 ) -> Manifold {
-    let answer = manifolds::answer_in(old);
-    manifolds::answer_out(pair_passes::polygons(answer, a, count_a, b, count_b, order))
+    pair_passes::polygons(old.into(), a, count_a, b, count_b, order).into()
 }
 
 #[unsafe(no_mangle)]
@@ -45,8 +41,7 @@ pub extern "C" fn pass_edge_and_circle(
     b: &[f32],
     order: &[u32],
 ) -> Manifold {
-    let answer = manifolds::answer_in(old);
-    manifolds::answer_out(pair_passes::edge_and_circle(answer, a, one_sided, b, order))
+    pair_passes::edge_and_circle(old.into(), a, one_sided, b, order).into()
 }
 
 #[unsafe(no_mangle)]
@@ -58,8 +53,7 @@ pub extern "C" fn pass_edge_and_polygon(
     count_b: usize,
     order: &[u32],
 ) -> Manifold {
-    let answer = manifolds::answer_in(old);
-    manifolds::answer_out(pair_passes::edge_and_polygon(answer, a, one_sided, b, count_b, order))
+    pair_passes::edge_and_polygon(old.into(), a, one_sided, b, count_b, order).into()
 }
 
 #[unsafe(no_mangle)]

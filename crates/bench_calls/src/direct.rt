@@ -48,8 +48,7 @@ pub extern "C" fn direct_outline(points: &[f32], out: &mut [f32]) -> u32 {
         return 0;
     }
     let n = points.len() / 2;
-    let read = if n < 8 { n } else { 8 };
-    let ps = outlines::points(points, read);
+    let ps = outlines::points(points, n.min(8));
     let answer = b2_polygon_shape::b2_polygon_shape_set_core(empty_outline(), ps, n);
     outlines::put_answer(answer, out)
 }
@@ -73,15 +72,15 @@ pub extern "C" fn direct_validate(shape: &[f32], count: usize) -> u32 {
     }
     let vertices = outlines::points(shape, 8);
     let normals = outlines::points(&shape[16..], 8);
-    let answer = b2_polygon_shape::b2_polygon_shape_validate(B2polygonShape {
+    let convex = b2_polygon_shape::b2_polygon_shape_validate(B2polygonShape {
         m_radius: B2_POLYGON_RADIUS,
         m_centroid: outlines::point(shape, 16),
         m_vertices: vertices,
         m_normals: normals,
         m_count: count,
     });
-    if answer.refusal != 0 {
-        return 256 + (answer.refusal as u32);
+    match convex {
+        Ok(valid) => u32::from(valid),
+        Err(why) => 256 + u32::from(u8::from(why)),
     }
-    if answer.valid { 1 } else { 0 }
 }

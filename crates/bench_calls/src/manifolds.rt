@@ -1,7 +1,8 @@
 // Manifolds as records that C can name: without an enum, and with the refusal beside them.
 use bench_passes::numbers::kind_in;
+use bench_passes::passes::Left;
 use contact_definitions::b2_collision::{
-    B2contactFeature, B2contactId, B2manifold, B2manifoldPoint, B2manifoldType, ManifoldAnswer,
+    B2contactFeature, B2contactId, B2manifold, B2manifoldPoint,
 };
 use floats::b2_math::B2vec2;
 
@@ -30,79 +31,71 @@ pub struct Manifold {
     pub refusal: u32,
 }
 
-fn point_in(p: Point) -> B2manifoldPoint {
-    let local_point = p.local_point;
-    B2manifoldPoint {
-        local_point,
-        normal_impulse: p.normal_impulse,
-        tangent_impulse: p.tangent_impulse,
-        id: B2contactId {
-            cf: B2contactFeature {
-                index_a: p.index_a,
-                index_b: p.index_b,
-                type_a: p.type_a,
-                type_b: p.type_b,
+impl From<Point> for B2manifoldPoint {
+    fn from(p: Point) -> B2manifoldPoint {
+        let local_point = p.local_point;
+        B2manifoldPoint {
+            local_point,
+            normal_impulse: p.normal_impulse,
+            tangent_impulse: p.tangent_impulse,
+            id: B2contactId {
+                cf: B2contactFeature {
+                    index_a: p.index_a,
+                    index_b: p.index_b,
+                    type_a: p.type_a,
+                    type_b: p.type_b,
+                },
             },
-        },
-        age: 0,
+            age: 0,
+        }
     }
 }
 
-fn manifold_in(m: Manifold) -> B2manifold {
-    let local_normal = m.local_normal;
-    let local_point = m.local_point;
-    B2manifold {
-        points: [point_in(m.first), point_in(m.second)],
-        local_normal,
-        local_point,
-        manifold_type: kind_in(m.kind),
-        point_count: m.count,
+impl From<Manifold> for B2manifold {
+    fn from(m: Manifold) -> B2manifold {
+        let local_normal = m.local_normal;
+        let local_point = m.local_point;
+        B2manifold {
+            points: [m.first.into(), m.second.into()],
+            local_normal,
+            local_point,
+            manifold_type: kind_in(m.kind),
+            point_count: m.count,
+        }
     }
 }
 
-pub fn answer_in(m: Manifold) -> ManifoldAnswer {
-    ManifoldAnswer {
-        manifold: manifold_in(m),
-        refusal: 0,
+impl From<B2manifoldPoint> for Point {
+    fn from(p: B2manifoldPoint) -> Point {
+        let local_point = p.local_point;
+        let f = p.id.cf;
+        Point {
+            local_point,
+            normal_impulse: p.normal_impulse,
+            tangent_impulse: p.tangent_impulse,
+            index_a: f.index_a,
+            index_b: f.index_b,
+            type_a: f.type_a,
+            type_b: f.type_b,
+        }
     }
 }
 
-fn point_out(p: B2manifoldPoint) -> Point {
-    let local_point = p.local_point;
-    let f = p.id.cf;
-    Point {
-        local_point,
-        normal_impulse: p.normal_impulse,
-        tangent_impulse: p.tangent_impulse,
-        index_a: f.index_a,
-        index_b: f.index_b,
-        type_a: f.type_a,
-        type_b: f.type_b,
-    }
-}
-
-fn kind_out(kind: B2manifoldType) -> u32 {
-    match kind {
-        B2manifoldType::ECircles => 0,
-        B2manifoldType::EFaceA => 1,
-        B2manifoldType::EFaceB => 2,
-    }
-}
-
-pub fn answer_out(a: ManifoldAnswer) -> Manifold {
-    let m = a.manifold;
-    let kind = m.manifold_type;
-    let p0 = m.points[0];
-    let p1 = m.points[1];
-    let local_normal = m.local_normal;
-    let local_point = m.local_point;
-    Manifold {
-        first: point_out(p0),
-        second: point_out(p1),
-        local_normal,
-        local_point,
-        count: m.point_count,
-        kind: kind_out(kind),
-        refusal: a.refusal as u32,
+impl From<Left<B2manifold>> for Manifold {
+    fn from(left: Left<B2manifold>) -> Manifold {
+        let m = left.value;
+        let p0 = m.points[0];
+        let p1 = m.points[1];
+        let local_normal = m.local_normal;
+        let local_point = m.local_point;
+        Manifold {
+            first: p0.into(),
+            second: p1.into(),
+            local_normal,
+            local_point,
+            count: m.point_count,
+            kind: u32::from(u8::from(m.manifold_type)),
+            refusal: u32::from(left.refusal()),
+        }
     }
 }

@@ -2,7 +2,8 @@
 ghost use Rattle.std.specs.Prelude.{◌+◌, ◌*◌, ◌≤◌, length};
 
 use floats::b2_math::B2vec2;
-use shape_definitions::b2_polygon_shape::PolygonAnswer;
+use shape_definitions::b2_polygon_shape::B2polygonShape;
+use shape_definitions::refusal::Refusal;
 
 pub fn point(xs: &[f32], i: usize) -> B2vec2
     requires { 2 * i + 2 ≤ length xs.now }
@@ -19,10 +20,8 @@ pub fn points(xs: &[f32], n: usize) -> [B2vec2; 8]
     requires { (n ≤ 8) × (2 * n ≤ length xs.now) }
 {
     let mut ps = [B2vec2 { x: 0.0, y: 0.0 }; 8];
-    let mut i = 0usize;
-    while i < n {
+    for i in 0..n {
         ps[i] = point(xs, i);
-        i += 1;
     }
     ps
 }
@@ -38,28 +37,23 @@ pub fn put_point(out: &mut [f32], p: B2vec2)
 pub fn put_points(out: &mut [f32], ps: [B2vec2; 8])
     requires { 16 ≤ length out.old }
 {
-    let mut i = 0usize;
-    while i < 8 {
-        let at = 2 * i;
-        put_point(&mut out[at..], ps[i]);
-        i += 1;
+    for (i, p) in ps.iter().enumerate() {
+        put_point(&mut out[2 * i..], *p);
     }
 }
 
 // An accepted outline's corners, normals and centroid at the front of out: 1, or 256 and the refusal with nothing
 // written.
-pub fn put_answer(answer: PolygonAnswer, out: &mut [f32]) -> u32
+pub fn put_answer(answer: Result<B2polygonShape, Refusal>, out: &mut [f32]) -> u32
     requires { 34 ≤ length out.old }
 {
-    let refusal = answer.refusal;
-    if refusal != 0 {
-        return 256 + (refusal as u32);
+    match answer {
+        Ok(shape) => {
+            put_points(out, shape.m_vertices);
+            put_points(&mut out[16..], shape.m_normals);
+            put_point(&mut out[32..], shape.m_centroid);
+            1
+        }
+        Err(why) => 256 + u32::from(u8::from(why)),
     }
-    let shape = answer.shape;
-    let vertices = shape.m_vertices;
-    let normals = shape.m_normals;
-    put_points(out, vertices);
-    put_points(&mut out[16..], normals);
-    put_point(&mut out[32..], shape.m_centroid);
-    1
 }

@@ -1,8 +1,9 @@
 // Boxes and walls over a record that the caller has, as records that C can name: for the comparison of what is kept.
 // Nothing but safety is promised.
 use floats::b2_math::{B2Rot, B2vec2};
-use shape_definitions::b2_edge_shape::{B2edgeShape, EdgeAnswer};
+use shape_definitions::b2_edge_shape::B2edgeShape;
 use shape_definitions::b2_polygon_shape::{B2polygonShape, PolygonAnswer};
+use shape_definitions::refusal::Refusal;
 use shapes::{b2_edge_shape, b2_polygon_shape};
 
 #[repr(C)]
@@ -17,23 +18,34 @@ pub struct Wall {
     pub refusal: u8,
 }
 
-fn wall_in(w: Wall) -> B2edgeShape {
-    let m_vertex0 = w.vertex0;
-    let m_vertex1 = w.vertex1;
-    let m_vertex2 = w.vertex2;
-    let m_vertex3 = w.vertex3;
-    B2edgeShape {
-        m_radius: w.radius,
-        m_vertex0,
-        m_vertex1,
-        m_vertex2,
-        m_vertex3,
-        m_one_sided: w.one_sided,
+// The number of the refusal, 0 where there is none.
+fn refusal_of<T: Copy>(answer: Result<T, Refusal>) -> u8 {
+    match answer {
+        Ok(_) => 0,
+        Err(why) => u8::from(why),
     }
 }
 
-fn wall_out(a: EdgeAnswer) -> Wall {
-    let w = a.shape;
+impl From<Wall> for B2edgeShape {
+    fn from(w: Wall) -> B2edgeShape {
+        let m_vertex0 = w.vertex0;
+        let m_vertex1 = w.vertex1;
+        let m_vertex2 = w.vertex2;
+        let m_vertex3 = w.vertex3;
+        B2edgeShape {
+            m_radius: w.radius,
+            m_vertex0,
+            m_vertex1,
+            m_vertex2,
+            m_vertex3,
+            m_one_sided: w.one_sided,
+        }
+    }
+}
+
+// Where the call is refused, what was given, and why.
+fn wall_out(given: B2edgeShape, answer: Result<B2edgeShape, Refusal>) -> Wall {
+    let w = answer.unwrap_or(given);
     let vertex0 = w.m_vertex0;
     let vertex1 = w.m_vertex1;
     let vertex2 = w.m_vertex2;
@@ -45,13 +57,23 @@ fn wall_out(a: EdgeAnswer) -> Wall {
         vertex2,
         vertex3,
         one_sided: w.m_one_sided,
-        refusal: a.refusal,
+        refusal: refusal_of(answer),
+    }
+}
+
+fn outline_out(given: B2polygonShape, answer: Result<B2polygonShape, Refusal>) -> PolygonAnswer {
+    PolygonAnswer {
+        refusal: refusal_of(answer),
+        shape: answer.unwrap_or(given),
     }
 }
 
 #[unsafe(no_mangle)]
 pub extern "C" fn over_box(old: B2polygonShape, hx: f32, hy: f32) -> PolygonAnswer {
-    b2_polygon_shape::b2_polygon_shape_set_as_box(old, hx, hy)
+    outline_out(
+        old,
+        b2_polygon_shape::b2_polygon_shape_set_as_box(old, hx, hy),
+    )
 }
 
 #[unsafe(no_mangle)]
@@ -64,7 +86,8 @@ pub extern "C" fn over_box_angle(
     cosine: f32,
 ) -> PolygonAnswer {
     let q = B2Rot { s: sine, c: cosine };
-    b2_polygon_shape::b2_polygon_shape_set_as_box_angle(old, hx, hy, center, q)
+    let answer = b2_polygon_shape::b2_polygon_shape_set_as_box_angle(old, hx, hy, center, q);
+    outline_out(old, answer)
 }
 
 #[unsafe(no_mangle)]
@@ -75,10 +98,12 @@ pub extern "C" fn over_one_sided(
     v2: B2vec2,
     v3: B2vec2,
 ) -> Wall {
-    wall_out(b2_edge_shape::b2_set_one_sided(wall_in(old), v0, v1, v2, v3))
+    let old = B2edgeShape::from(old);
+    wall_out(old, b2_edge_shape::b2_set_one_sided(old, v0, v1, v2, v3))
 }
 
 #[unsafe(no_mangle)]
 pub extern "C" fn over_two_sided(old: Wall, v1: B2vec2, v2: B2vec2) -> Wall {
-    wall_out(b2_edge_shape::b2_set_two_sided(wall_in(old), v1, v2))
+    let old = B2edgeShape::from(old);
+    wall_out(old, b2_edge_shape::b2_set_two_sided(old, v1, v2))
 }

@@ -2,9 +2,11 @@
 // placement and radius. World manifolds as records that C can name. A case without numbers has none but 0.
 ghost use Rattle.std.specs.Prelude.{◌+◌, ◌≤◌, length};
 
-use bench_passes::numbers::{CASES, at_most_cases, kind_in, origin, placement, vector};
+use bench_passes::numbers::{CASES, kind_in, origin, placement, vector};
+use bench_passes::passes;
+use bench_passes::passes::Left;
 use contact_definitions::b2_collision::{
-    B2contactFeature, B2contactId, B2manifold, B2manifoldPoint, B2worldManifold, WorldAnswer,
+    B2contactFeature, B2contactId, B2manifold, B2manifoldPoint, B2manifoldType, B2worldManifold,
 };
 use floats::b2_math::{B2Transform, B2vec2};
 
@@ -31,32 +33,35 @@ pub struct Question {
     pub radius_b: f32,
 }
 
-pub fn answer_in(w: World) -> WorldAnswer {
-    let normal = w.normal;
-    let first = w.first;
-    let second = w.second;
-    let world = B2worldManifold {
-        normal,
-        points: [first, second],
-        separations: [w.separation0, w.separation1],
-    };
-    WorldAnswer { world, refusal: 0 }
+impl From<World> for B2worldManifold {
+    fn from(w: World) -> B2worldManifold {
+        let normal = w.normal;
+        let first = w.first;
+        let second = w.second;
+        B2worldManifold {
+            normal,
+            points: [first, second],
+            separations: [w.separation0, w.separation1],
+        }
+    }
 }
 
-pub fn answer_out(a: WorldAnswer) -> World {
-    let w = a.world;
-    let normal = w.normal;
-    let first = w.points[0];
-    let second = w.points[1];
-    let separation0 = w.separations[0];
-    let separation1 = w.separations[1];
-    World {
-        normal,
-        first,
-        second,
-        separation0,
-        separation1,
-        refusal: a.refusal as u32,
+impl From<Left<B2worldManifold>> for World {
+    fn from(left: Left<B2worldManifold>) -> World {
+        let w = left.value;
+        let normal = w.normal;
+        let first = w.points[0];
+        let second = w.points[1];
+        let separation0 = w.separations[0];
+        let separation1 = w.separations[1];
+        World {
+            normal,
+            first,
+            second,
+            separation0,
+            separation1,
+            refusal: u32::from(left.refusal()),
+        }
     }
 }
 
@@ -97,7 +102,7 @@ fn nothing() -> Question {
         points: [point_of(zero), point_of(zero)],
         local_normal: zero,
         local_point: zero,
-        manifold_type: kind_in(0),
+        manifold_type: B2manifoldType::ECircles,
         point_count: 0,
     };
     Question {
@@ -122,13 +127,9 @@ fn question_at(x: &[f32], i: usize, kind: u32, count: usize) -> Question
 }
 
 pub fn all_questions(x: &[f32], kind: u32, count: usize) -> [Question; CASES] {
-    let n = at_most_cases(x.len() / NUMBERS);
-    let mut all = [nothing(); CASES];
-    let mut k = 0usize;
-    while k < n {
-        let at = k * NUMBERS;
-        all[k] = question_at(x, at, kind, count);
-        k += 1;
-    }
-    all
+    passes::all(
+        x.len() / NUMBERS,
+        nothing(),
+        |k| question_at(x, k * NUMBERS, kind, count),
+    )
 }

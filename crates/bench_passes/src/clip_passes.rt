@@ -1,10 +1,9 @@
 // Passes over segments: each clipped over what was left of the last.
 ghost use Rattle.std.specs.Prelude.{◌+◌, ◌≤◌, length};
 
-use crate::clip_records::Clip;
 use crate::numbers::CASES;
-use crate::{clip_records, numbers};
-use contact_definitions::b2_collision::{B2clipVertex, B2contactFeature, B2contactId, ClipAnswer};
+use crate::{clip_records, passes};
+use contact_definitions::b2_collision::{B2clipVertex, B2contactFeature, B2contactId, Clip};
 use contacts::b2_collision;
 use floats::b2_math::B2vec2;
 
@@ -53,40 +52,24 @@ fn segment_at(x: &[f32], i: usize, index: usize) -> Segment
 }
 
 fn all_segments(x: &[f32]) -> [Segment; CASES] {
-    let n = numbers::at_most_cases(x.len() / SEGMENT);
     let none = Segment {
         ends: [end_of(0.0, 0.0, 0), end_of(0.0, 0.0, 0)],
         normal: B2vec2 { x: 0.0, y: 0.0 },
         offset: 0.0,
         index: 0,
     };
-    let mut all = [none; CASES];
-    let mut k = 0usize;
-    while k < n {
-        let at = k * SEGMENT;
-        all[k] = segment_at(x, at, k % 8);
-        k += 1;
-    }
-    all
+    passes::all(
+        x.len() / SEGMENT,
+        none,
+        |k| segment_at(x, k * SEGMENT, k % 8),
+    )
 }
 
-fn clip_once(last: ClipAnswer, s: Segment) -> ClipAnswer {
-    let ends = s.ends;
-    let points = last.points;
-    b2_collision::b2_clip_segment_to_line(points, ends, s.normal, s.offset, s.index)
-}
-
-fn clips(mut answer: ClipAnswer, x: &[f32], order: &[u32]) -> ClipAnswer {
+pub fn clip(old: clip_records::Clip, x: &[f32], order: &[u32]) -> clip_records::Clip {
     let segments = all_segments(x);
-    let mut i = 0usize;
-    while i < order.len() {
-        let k = numbers::case(order[i]);
-        answer = clip_once(answer, segments[k]);
-        i += 1;
-    }
-    answer
-}
-
-pub fn clip(old: Clip, x: &[f32], order: &[u32]) -> Clip {
-    clip_records::answer_out(clips(clip_records::answer_in(old), x, order))
+    let left = passes::pass(Clip::from(old), order, |last, k| {
+        let s = segments[k];
+        b2_collision::b2_clip_segment_to_line(last.out, s.ends, s.normal, s.offset, s.index)
+    });
+    left.into()
 }

@@ -4,6 +4,7 @@
 #![tactic(auto)]
 
 pub mod numbers;
+pub mod passes;
 
 // Contact calls of two shapes, and the shapes with their placements.
 pub mod pair_passes;

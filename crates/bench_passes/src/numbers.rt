@@ -1,24 +1,11 @@
 // How many cases there are; vectors, placements and kinds of manifolds from numbers.
-ghost use Rattle.std.specs.Prelude.{◌+◌, ◌<◌, ◌≤◌, length};
+ghost use Rattle.std.specs.Prelude.{◌+◌, ◌≤◌, length};
 
 use contact_definitions::b2_collision::B2manifoldType;
 use floats::b2_math::{B2Rot, B2Transform, B2vec2};
 
 // How many cases a pass is over.
 pub const CASES: usize = 1024;
-
-// The case of a number.
-pub fn case(k: u32) -> usize
-    ensures { result < 1024 }
-{
-    (k % 1024) as usize
-}
-
-pub fn at_most_cases(n: usize) -> usize
-    ensures { (result ≤ 1024) × (result ≤ n) }
-{
-    if n < CASES { n } else { CASES }
-}
 
 pub fn vector(x: &[f32], i: usize) -> B2vec2
     requires { i + 2 ≤ length x.now }
@@ -50,9 +37,5 @@ pub fn origin() -> B2Transform {
 
 // 0 circles, 1 face A, any other face B.
 pub fn kind_in(kind: u32) -> B2manifoldType {
-    match kind {
-        0 => B2manifoldType::ECircles,
-        1 => B2manifoldType::EFaceA,
-        _ => B2manifoldType::EFaceB,
-    }
+    B2manifoldType::try_from(kind).unwrap_or(B2manifoldType::EFaceB)
 }

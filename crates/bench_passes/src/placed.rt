@@ -2,7 +2,8 @@
 // and radius; an outline's eight corners, eight normals, centroid and radius. A case without numbers has none but 0.
 ghost use Rattle.std.specs.Prelude.{◌+◌, ◌≤◌, length};
 
-use crate::numbers::{CASES, at_most_cases, origin, placement, vector};
+use crate::numbers::{CASES, origin, placement, vector};
+use crate::passes;
 use floats::b2_math::{B2Transform, B2vec2};
 use shape_definitions::b2_circle_shape::B2circleShape;
 use shape_definitions::b2_edge_shape::B2edgeShape;
@@ -16,20 +17,8 @@ const EDGE: usize = 13;
 const POLYGON: usize = 39;
 
 #[derive(Clone, Copy)]
-pub struct PlacedCircle {
-    pub shape: B2circleShape,
-    pub place: B2Transform,
-}
-
-#[derive(Clone, Copy)]
-pub struct PlacedEdge {
-    pub shape: B2edgeShape,
-    pub place: B2Transform,
-}
-
-#[derive(Clone, Copy)]
-pub struct PlacedPolygon {
-    pub shape: B2polygonShape,
+pub struct Placed<S> {
+    pub shape: S,
     pub place: B2Transform,
 }
 
@@ -90,35 +79,35 @@ fn polygon(x: &[f32], i: usize, m_count: usize) -> B2polygonShape
     }
 }
 
-fn placed_circle(x: &[f32], i: usize) -> PlacedCircle
+fn placed_circle(x: &[f32], i: usize) -> Placed<B2circleShape>
     requires { i + 7 ≤ length x.now }
 {
-    PlacedCircle {
+    Placed {
         shape: circle(x, i),
         place: placement(x, i + 3),
     }
 }
 
-fn placed_edge(x: &[f32], i: usize, m_one_sided: bool) -> PlacedEdge
+fn placed_edge(x: &[f32], i: usize, m_one_sided: bool) -> Placed<B2edgeShape>
     requires { i + 13 ≤ length x.now }
 {
-    PlacedEdge {
+    Placed {
         shape: edge(x, i, m_one_sided),
         place: placement(x, i + 9),
     }
 }
 
-fn placed_polygon(x: &[f32], i: usize, m_count: usize) -> PlacedPolygon
+fn placed_polygon(x: &[f32], i: usize, m_count: usize) -> Placed<B2polygonShape>
     requires { i + 39 ≤ length x.now }
 {
-    PlacedPolygon {
+    Placed {
         shape: polygon(x, i, m_count),
         place: placement(x, i + 35),
     }
 }
 
-fn no_circle() -> PlacedCircle {
-    PlacedCircle {
+fn no_circle() -> Placed<B2circleShape> {
+    Placed {
         shape: B2circleShape {
             m_radius: 0.0,
             m_p: B2vec2 { x: 0.0, y: 0.0 },
@@ -127,9 +116,9 @@ fn no_circle() -> PlacedCircle {
     }
 }
 
-fn no_edge(m_one_sided: bool) -> PlacedEdge {
+fn no_edge(m_one_sided: bool) -> Placed<B2edgeShape> {
     let zero = B2vec2 { x: 0.0, y: 0.0 };
-    PlacedEdge {
+    Placed {
         shape: B2edgeShape {
             m_radius: 0.0,
             m_vertex0: zero,
@@ -142,9 +131,9 @@ fn no_edge(m_one_sided: bool) -> PlacedEdge {
     }
 }
 
-fn no_polygon(m_count: usize) -> PlacedPolygon {
+fn no_polygon(m_count: usize) -> Placed<B2polygonShape> {
     let zero = B2vec2 { x: 0.0, y: 0.0 };
-    PlacedPolygon {
+    Placed {
         shape: B2polygonShape {
             m_radius: 0.0,
             m_centroid: zero,
@@ -156,35 +145,26 @@ fn no_polygon(m_count: usize) -> PlacedPolygon {
     }
 }
 
-pub fn all_circles(x: &[f32]) -> [PlacedCircle; CASES] {
-    let n = at_most_cases(x.len() / CIRCLE);
-    let mut all = [no_circle(); CASES];
-    let mut k = 0usize;
-    while k < n {
-        all[k] = placed_circle(x, k * CIRCLE);
-        k += 1;
-    }
-    all
+pub fn all_circles(x: &[f32]) -> [Placed<B2circleShape>; CASES] {
+    passes::all(
+        x.len() / CIRCLE,
+        no_circle(),
+        |k| placed_circle(x, k * CIRCLE),
+    )
 }
 
-pub fn all_edges(x: &[f32], m_one_sided: bool) -> [PlacedEdge; CASES] {
-    let n = at_most_cases(x.len() / EDGE);
-    let mut all = [no_edge(m_one_sided); CASES];
-    let mut k = 0usize;
-    while k < n {
-        all[k] = placed_edge(x, k * EDGE, m_one_sided);
-        k += 1;
-    }
-    all
+pub fn all_edges(x: &[f32], m_one_sided: bool) -> [Placed<B2edgeShape>; CASES] {
+    passes::all(
+        x.len() / EDGE,
+        no_edge(m_one_sided),
+        |k| placed_edge(x, k * EDGE, m_one_sided),
+    )
 }
 
-pub fn all_polygons(x: &[f32], m_count: usize) -> [PlacedPolygon; CASES] {
-    let n = at_most_cases(x.len() / POLYGON);
-    let mut all = [no_polygon(m_count); CASES];
-    let mut k = 0usize;
-    while k < n {
-        all[k] = placed_polygon(x, k * POLYGON, m_count);
-        k += 1;
-    }
-    all
+pub fn all_polygons(x: &[f32], m_count: usize) -> [Placed<B2polygonShape>; CASES] {
+    passes::all(
+        x.len() / POLYGON,
+        no_polygon(m_count),
+        |k| placed_polygon(x, k * POLYGON, m_count),
+    )
 }

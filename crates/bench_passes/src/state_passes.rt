@@ -3,9 +3,9 @@ ghost use Rattle.std.specs.Prelude.{◌+◌, ◌≤◌, length};
 
 use crate::numbers::CASES;
 use crate::state_records::States;
-use crate::{numbers, state_records};
+use crate::{passes, state_records};
 use contact_definitions::b2_collision::{
-    B2contactFeature, B2contactId, B2manifold, B2manifoldPoint, B2manifoldType, PointStatesAnswer,
+    B2contactFeature, B2contactId, B2manifold, B2manifoldPoint, B2manifoldType,
 };
 use contacts::b2_collision;
 use floats::b2_math::B2vec2;
@@ -28,10 +28,6 @@ fn point_of(index_a: u8, index_b: u8, type_a: u8, type_b: u8) -> B2manifoldPoint
         },
         age: 0,
     }
-}
-
-fn wide(x: u8) -> usize {
-    x as usize
 }
 
 fn manifold_of(first: B2manifoldPoint, second: B2manifoldPoint, point_count: usize) -> B2manifold {
@@ -58,40 +54,25 @@ fn point_at(x: &[u8], i: usize) -> B2manifoldPoint
 fn manifold_at(x: &[u8], i: usize) -> B2manifold
     requires { i + 9 ≤ length x.now }
 {
-    manifold_of(point_at(x, i), point_at(x, i + 4), wide(x[i + 8]))
+    manifold_of(point_at(x, i), point_at(x, i + 4), usize::from(x[i + 8]))
 }
 
 // Each case's first manifold, from 0 on, or its second, from 9 on: their bytes stand side by side.
 fn all_manifolds(x: &[u8], from: usize) -> [B2manifold; CASES]
     requires { from ≤ 9 }
 {
-    let n = numbers::at_most_cases(x.len() / MARKS);
-    let mut all = [no_manifold(); CASES];
-    let mut k = 0usize;
-    while k < n {
-        all[k] = manifold_at(x, k * MARKS + from);
-        k += 1;
-    }
-    all
-}
-
-fn states_once(last: PointStatesAnswer, a: B2manifold, b: B2manifold) -> PointStatesAnswer {
-    let given = last.states;
-    b2_collision::b2_get_point_states(given, a, b)
-}
-
-fn all_states(mut answer: PointStatesAnswer, x: &[u8], order: &[u32]) -> PointStatesAnswer {
-    let first = all_manifolds(x, 0);
-    let second = all_manifolds(x, 9);
-    let mut i = 0usize;
-    while i < order.len() {
-        let k = numbers::case(order[i]);
-        answer = states_once(answer, first[k], second[k]);
-        i += 1;
-    }
-    answer
+    passes::all(
+        x.len() / MARKS,
+        no_manifold(),
+        |k| manifold_at(x, k * MARKS + from),
+    )
 }
 
 pub fn states(x: &[u8], order: &[u32]) -> States {
-    state_records::answer_out(all_states(state_records::no_answer(), x, order))
+    let first = all_manifolds(x, 0);
+    let second = all_manifolds(x, 9);
+    let left = passes::pass(state_records::null_states(), order, |given, k| {
+        b2_collision::b2_get_point_states(given, first[k], second[k])
+    });
+    left.into()
 }

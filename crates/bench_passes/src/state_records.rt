@@ -1,5 +1,6 @@
 // States as records that C can name, with the refusal beside them.
-use contact_definitions::b2_collision::{B2pointState, PointStates, PointStatesAnswer};
+use crate::passes::Left;
+use contact_definitions::b2_collision::{B2pointState, PointStates};
 
 // States by their numbers: 0 null, 1 add, 2 persist, 3 remove.
 #[repr(C)]
@@ -12,7 +13,7 @@ pub struct States {
     pub refusal: u8,
 }
 
-fn null_states() -> PointStates {
+pub fn null_states() -> PointStates {
     PointStates {
         old0: B2pointState::B2NullState,
         old1: B2pointState::B2NullState,
@@ -21,33 +22,15 @@ fn null_states() -> PointStates {
     }
 }
 
-pub fn no_answer() -> PointStatesAnswer {
-    PointStatesAnswer {
-        states: null_states(),
-        refusal: 0,
-    }
-}
-
-fn state_out(s: B2pointState) -> u8 {
-    match s {
-        B2pointState::B2NullState => 0,
-        B2pointState::B2AddState => 1,
-        B2pointState::B2PersistState => 2,
-        B2pointState::B2RemoveState => 3,
-    }
-}
-
-pub fn answer_out(a: PointStatesAnswer) -> States {
-    let s = a.states;
-    let old0 = s.old0;
-    let old1 = s.old1;
-    let new0 = s.new0;
-    let new1 = s.new1;
-    States {
-        old0: state_out(old0),
-        old1: state_out(old1),
-        new0: state_out(new0),
-        new1: state_out(new1),
-        refusal: a.refusal,
+impl From<Left<PointStates>> for States {
+    fn from(left: Left<PointStates>) -> States {
+        let s = left.value;
+        States {
+            old0: u8::from(s.old0),
+            old1: u8::from(s.old1),
+            new0: u8::from(s.new0),
+            new1: u8::from(s.new1),
+            refusal: left.refusal(),
+        }
     }
 }

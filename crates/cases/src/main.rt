@@ -3,60 +3,35 @@
 
 #![tactic(auto)]
 
-ghost use Rattle.std.specs.Prelude.{◌<◌, ◌≤◌};
-
 use floats::b2_math::B2vec2;
 use floats::bits;
 use shape_definitions::b2_polygon_shape::B2polygonShape;
-use shape_definitions::refusal;
+use shape_definitions::refusal::Refusal;
 use shapes::b2_polygon_shape;
-use std::io;
+use std::{array, io};
 
 mod outlines;
 
-fn print_word(rt: &impl Print, n: u32) -> io::Result<()> {
-    print!(rt; " {n:08x}")
-}
+const ORIGIN: B2vec2 = B2vec2 { x: 0.0, y: 0.0 };
 
-fn print_point(rt: &impl Print, p: B2vec2) -> io::Result<()> {
-    print_word(rt, bits::f32_to_bits(p.x))?;
-    print_word(rt, bits::f32_to_bits(p.y))
-}
-
-// Point i of list k.
-fn point(k: usize, i: usize) -> B2vec2
-    requires { (k < 12) × (i < 9) }
-{
-    let coordinates = outlines::COORDINATES;
-    let at = k * 18 + i * 2;
+fn point([x, y]: [u32; 2]) -> B2vec2 {
     B2vec2 {
-        x: bits::f32_from_bits(coordinates[at]),
-        y: bits::f32_from_bits(coordinates[at + 1]),
+        x: bits::f32_from_bits(x),
+        y: bits::f32_from_bits(y),
     }
 }
 
-// The first eight points of list k.
-fn points(k: usize) -> [B2vec2; 8]
-    requires { k < 12 }
-{
-    [
-        point(k, 0),
-        point(k, 1),
-        point(k, 2),
-        point(k, 3),
-        point(k, 4),
-        point(k, 5),
-        point(k, 6),
-        point(k, 7),
-    ]
+fn print_point(rt: &impl Print, p: B2vec2) -> io::Result<()> {
+    let x = bits::f32_to_bits(p.x);
+    let y = bits::f32_to_bits(p.y);
+    print!(rt; " {x:08x} {y:08x}")
 }
 
-fn print_list(rt: &impl Print, k: usize, count: usize) -> io::Result<()>
-    requires { (k < 12) × (count ≤ 9) }
-{
+fn print_list(rt: &impl Print, list: &[[u32; 2]]) -> io::Result<()> {
+    let count = list.len();
     print!(rt; "{count:02x}")?;
-    for i in 0..count {
-        print_point(rt, point(k, i))?;
+    for p in list {
+        print_point(rt, point(*p))?;
     }
     print!(rt; " : ")
 }
@@ -64,46 +39,39 @@ fn print_list(rt: &impl Print, k: usize, count: usize) -> io::Result<()>
 fn print_outline(rt: &impl Print, shape: B2polygonShape) -> io::Result<()> {
     let count = shape.m_count;
     print!(rt; " {count:02x}")?;
-    let vs = shape.m_vertices;
-    for i in 0..8 {
-        if i < count {
-            print_point(rt, vs[i])?;
-        }
+    for p in shape.m_vertices.iter().take(count) {
+        print_point(rt, *p)?;
     }
     print_point(rt, shape.m_centroid)
 }
 
-fn empty_outline() -> B2polygonShape {
-    let origin = B2vec2 { x: 0.0, y: 0.0 };
-    B2polygonShape {
+// The outline of a list's points, of which at most eight are given.
+fn outline(list: &[[u32; 2]]) -> Result<B2polygonShape, Refusal> {
+    let empty = B2polygonShape {
         m_radius: 0.0,
-        m_centroid: origin,
-        m_vertices: [origin; 8],
-        m_normals: [origin; 8],
+        m_centroid: ORIGIN,
+        m_vertices: [ORIGIN; 8],
+        m_normals: [ORIGIN; 8],
         m_count: 0,
-    }
-}
-
-fn print_case(rt: &impl Print, k: usize, count: usize) -> io::Result<()>
-    requires { (k < 12) × (count ≤ 9) }
-{
-    print_list(rt, k, count)?;
-    let answer = b2_polygon_shape::b2_polygon_shape_set_core(empty_outline(), points(k), count);
-    let refusal = answer.refusal;
-    print!(rt; "{refusal:02x}")?;
-    if refusal == refusal::ACCEPTED {
-        print_outline(rt, answer.shape)?;
-    }
-    println!(rt; "")
+    };
+    let points = array::from_fn(|i| list.get(i).map_or(ORIGIN, |p| point(*p)));
+    b2_polygon_shape::b2_polygon_shape_set_core(empty, points, list.len())
 }
 
 fn main(rt: HostRuntime) -> io::Result<()> {
-    let counts = outlines::COUNTS;
-    for k in 0..outlines::CASES {
-        let count = counts[k];
-        if count <= 9 {
-            print_case(&rt, k, count)?;
+    for list in outlines::LISTS {
+        print_list(&rt, list)?;
+        match outline(list) {
+            Ok(shape) => {
+                print!(rt; "00")?;
+                print_outline(&rt, shape)?;
+            }
+            Err(why) => {
+                let refusal = u8::from(why);
+                print!(rt; "{refusal:02x}")?;
+            }
         }
+        println!(rt; "")?;
     }
     Ok(())
 }

@@ -21,8 +21,8 @@ use Rattle.shape_definitions.specs.Validate.{polygon_in_range}
 use Rattle.shape_definitions.specs.Outline.{point_at}
 use Rattle.shape_definitions.specs.Refusal.{accepted, shape_out_of_range}
 use Rattle.contact_definitions.specs.declared.b2_collision.B2manifold.{B2manifold}
-use Rattle.contact_definitions.specs.declared.b2_collision.ManifoldAnswer.{ManifoldAnswer}
-use Rattle.contact_definitions.specs.declared.b2_collision.WorldAnswer.{WorldAnswer}
+use Rattle.contact_definitions.specs.Answers.{ManifoldAnswer}
+use Rattle.contact_definitions.specs.Answers.{WorldAnswer}
 use Rattle.contact_definitions.specs.Manifold.{default_manifold, manifold_refused, manifold_accepted}
 use Rattle.contact_definitions.specs.B2CollideEdge.{edge_circle_answer, b2_collide_edge_and_circle}
 use Rattle.contact_definitions.specs.B2CollideEdge.{b2_collide_edge_and_polygon}

@@ -2,7 +2,9 @@
 -- points keeps. Assumes nothing.
 use mathlib.Core.Path.{◌≡◌, sym, ◌∙◌, ap, ap₂}
 use mathlib.Core.Bool.{Bool, true, false}
-use lib.Ieee.{Float, binary32, add}
+use Rattle.std.specs.declared.option.Option.{Option}
+use Rattle.std.specs.declared.option.Option.TheVariants.{None, Some}
+use lib.Ieee.{binary32, add}
 use Rattle.floats.specs.declared.b2_math.B2vec2.{B2vec2}
 use Rattle.floats.specs.declared.b2_math.B2Transform.{B2Transform}
 use Rattle.floats.specs.B2Math.{vec2, b2_mul_transform_by_vec2, b2_mul_t_transform_by_vec2}
@@ -16,7 +18,6 @@ use Rattle.contact_definitions.specs.B2CollideCircle.{farther, circles_manifold,
 use Rattle.contact_definitions.specs.B2CollideCircle.{polygon_circle_manifold}
 use Rattle.contact_definitions.proofs.Counts.{one_point_anew}
 use Rattle.circle_contacts.specs.declared.outline_meeting.Meeting.{Meeting}
-use Rattle.circle_contacts.specs.declared.outline_meeting.Meeting.TheVariants.{Nothing, Point}
 use Rattle.circle_contacts.specs.Meetings.{met, AtOutline}
 use Rattle.circle_contacts.specs.Meetings.{outline_circle}
 
@@ -46,7 +47,7 @@ module _ (m : B2manifold) (a : B2circleShape) (xfA : B2Transform) (b : B2circleS
 
 -- ---- an outline and a circle: r is where they meet, the circle's centre carried by both placements to c
 module _ (m : B2manifold) (a : B2polygonShape) (xfA : B2Transform) (b : B2circleShape) (xfB : B2Transform)
-    (placed c : B2vec2) (r : Meeting)
+    (placed c : B2vec2) (r : Option Meeting)
     (placed_is : placed ≡ b2_mul_transform_by_vec2 xfB b.m_p) (c_is : c ≡ b2_mul_t_transform_by_vec2 xfA placed)
     (meets : AtOutline a.m_vertices a.m_normals a.m_count c
     (add binary32 a.m_radius b.m_radius) r) where
@@ -58,13 +59,13 @@ module _ (m : B2manifold) (a : B2polygonShape) (xfA : B2Transform) (b : B2circle
       (add binary32 a.m_radius b.m_radius) b.m_p)
       (c_is ∙ ap (b2_mul_t_transform_by_vec2 xfA) placed_is)
 
-  pub meets_not : (made : B2manifold) → r ≡ Nothing → made ≡ with_count m 0 → made ≡ outline_circle m a xfA b xfB
+  pub meets_not : (made : B2manifold) → r ≡ None → made ≡ with_count m 0 → made ≡ outline_circle m a xfA b xfB
   meets_not made nothing made_is =
-      made_is ∙ ap (λ (t : Meeting). met t (with_count m 0) b.m_p) (sym nothing) ∙ met_is
+      made_is ∙ ap (λ (t : Option Meeting). met t (with_count m 0) b.m_p) (sym nothing) ∙ met_is
 
-  pub meets_at : (made : B2manifold) (nx ny x y : Float) → r ≡ Point nx ny x y
-      → made ≡ with_one_point m EFaceA (vec2 nx ny) (vec2 x y) b.m_p default_id
+  pub meets_at : (made : B2manifold) (point : Meeting) → r ≡ Some point
+      → made ≡ with_one_point m EFaceA (vec2 point.nx point.ny) (vec2 point.x point.y) b.m_p default_id
       → made ≡ outline_circle m a xfA b xfB
-  meets_at made nx ny x y at made_is =
-      made_is ∙ one_point_anew m EFaceA (vec2 nx ny) (vec2 x y) b.m_p default_id
-      ∙ ap (λ (t : Meeting). met t (with_count m 0) b.m_p) (sym at) ∙ met_is
+  meets_at made point at made_is =
+      made_is ∙ one_point_anew m EFaceA (vec2 point.nx point.ny) (vec2 point.x point.y) b.m_p default_id
+      ∙ ap (λ (t : Option Meeting). met t (with_count m 0) b.m_p) (sym at) ∙ met_is

@@ -1,8 +1,9 @@
 -- The search for the face that a circle's centre is farthest out of, a face at a time: what is known after the places
 -- below i, and how it begins, goes on and ends. Assumes nothing.
-use mathlib.Core.Path.{◌≡◌, refl, sym, ◌∙◌, ap, ap₂}
+use mathlib.Core.Path.{◌≡◌, refl, sym, ◌∙◌, ap}
 use mathlib.Core.Bool.{Bool, true, false, cond}
 use mathlib.Core.List.{List, map}
+use Rattle.std.specs.declared.option.Option.TheVariants.{None, Some}
 use Prim.Native.Nat.{ℕ, ◌+◌, ◌-◌, ◌≤◌, ◌<◌}
 use native.Mathlib.Nat.{sub-zero}
 use native.Mathlib.Omega.{arith}
@@ -11,28 +12,15 @@ use lib.Ieee.{Float, neg, lt}
 use Rattle.algebra.specs.Loops.{places, scan}
 use Rattle.floats.specs.declared.b2_math.B2vec2.{B2vec2}
 use Rattle.floats.specs.B2Common.{b2_max_float}
-use Rattle.floats.specs.B2Math.{b2_sub, b2_dot}
 use Rattle.shape_definitions.specs.Outline.{point_at, place_after}
 use Rattle.algebra.proofs.Lists.{getD_within}
 use Rattle.contact_definitions.specs.declared.axis.Best.{Best}
 use Rattle.contact_definitions.specs.Searches.{some_below, valued, is_greater, first_greatest}
 use Rattle.contact_definitions.proofs.Searches.{scanned, scanned_all, some_here, none_next}
-use Rattle.circle_contacts.specs.declared.outline_meeting.Side.{Side}
 use Rattle.circle_contacts.specs.Meetings.{out_of_face, SideOf}
 
 abbrev best_at : ℕ → Float → Best
 best_at index separation = record { place = index; value = separation }
-
-true_is_not_false : true ≡ false → ⊥
-true_is_not_false h = let z : ◌≡◌ {A = ℕ} 0 1 = cc in omega arith
-
--- s, from what is read at place i
-pub read_at : (vs ns : List B2vec2) (c : B2vec2) (i : ℕ) (v n d e : B2vec2) (s : Float) → length vs ≡ 8 → length ns ≡ 8
-    → i < 8 → v ≡ get_or vs i d → n ≡ get_or ns i d → e ≡ b2_sub c v → s ≡ b2_dot n e → s ≡ out_of_face vs ns c i
-read_at vs ns c i v n d e s vs_eight ns_eight within v_is n_is e_is s_is =
-    s_is
-    ∙ ap₂ b2_dot (n_is ∙ getD_within ns i d _ (omega arith))
-    (e_is ∙ ap (b2_sub c) (v_is ∙ getD_within vs i d _ (omega arith)))
 
 module _ (vs ns : List B2vec2) (count : ℕ) (c : B2vec2) (radius : Float) where
   -- the best face of the places below i is `index`, and c is out of none of them by more than the radius
@@ -61,13 +49,10 @@ module _ (vs ns : List B2vec2) (count : ℕ) (c : B2vec2) (radius : Float) where
   }
 
   -- c is out of face i by more than the radius
-  pub outside_at : (i : ℕ) (s : Float) (r : Side) → i < count → s ≡ out_of_face vs ns c i → lt radius s ≡ true
-      → r.outside ≡ true → SideOf vs ns count c radius r
-  outside_at i s r within s_here far out = record {
-    outside_is = out
-        ∙ sym (some_here (λ k. lt radius (out_of_face vs ns c k)) i count within (ap (lt radius) (sym s_here) ∙ far));
-    face = λ never. absurd (true_is_not_false (sym out ∙ never));
-  }
+  pub outside_at : (i : ℕ) (s : Float) → i < count → s ≡ out_of_face vs ns c i → lt radius s ≡ true
+      → SideOf vs ns count c radius None
+  outside_at i s within s_here far =
+      some_here (λ k. lt radius (out_of_face vs ns c k)) i count within (ap (lt radius) (sym s_here) ∙ far)
 
   -- s is how far c is out of face i, by no more than the radius
   module _ (index : ℕ) (separation : Float) (i : ℕ) (so_far : SoFar index separation i) (within : i < count)
@@ -120,13 +105,12 @@ module _ (vs ns : List B2vec2) (count : ℕ) (c : B2vec2) (radius : Float) where
   pub side_found : (index : ℕ) (separation : Float) (i next : ℕ) (v1 v2 normal d : B2vec2)
       → SoFar index separation i → count ≤ i → next < count → next ≡ place_after count index
       → v1 ≡ get_or vs index d → v2 ≡ get_or vs next d → normal ≡ get_or ns index d
-      → SideOf vs ns count c radius (record {
-        outside = false;
+      → SideOf vs ns count c radius (Some (record {
         separation = separation;
         v1 = v1;
         v2 = v2;
         normal = normal;
-      })
+      }))
   side_found index separation i next v1 v2 normal d so_far past next_in next_is v1_is v2_is normal_is =
       let eight = so_far.vs_eight in
       let eight_normals = so_far.ns_eight in
@@ -135,15 +119,14 @@ module _ (vs ns : List B2vec2) (count : ℕ) (c : B2vec2) (radius : Float) where
       let in_count = so_far.in_count in
       let all : i ≡ count = omega arith in
       let best = scanned_all is_greater (valued (out_of_face vs ns c)) (best_at index separation)
-      (first_greatest (out_of_face vs ns c) count) i count so_far.best_is past in
-      record {
-        outside_is = sym (ap (some_below (λ k. lt radius (out_of_face vs ns c k))) (sym all) ∙ so_far.none_out);
-        face = λ _. record {
+      (first_greatest (out_of_face vs ns c) count) i count so_far.best_is past in (
+        ap (some_below (λ k. lt radius (out_of_face vs ns c k))) (sym all) ∙ so_far.none_out,
+        record {
           separation_is = ap (λ (b : Best). b.value) best;
           v1_is = v1_is ∙ getD_within vs index d _ (omega arith) ∙ ap (λ (b : Best). point_at vs b.place) best;
           v2_is = v2_is ∙ getD_within vs next d _ (omega arith) ∙ ap (point_at vs) next_is
               ∙ ap (λ (b : Best). point_at vs (place_after count b.place)) best;
           normal_is = normal_is ∙ getD_within ns index d _ (omega arith)
               ∙ ap (λ (b : Best). point_at ns b.place) best;
-        };
-      }
+        },
+      )

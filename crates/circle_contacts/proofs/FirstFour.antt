@@ -3,6 +3,7 @@
 use mathlib.Core.Path.{◌≡◌, refl, sym, ◌∙◌, ap}
 use mathlib.Core.Bool.{Bool, true, false, cond, ◌||◌}
 use mathlib.Core.List.{List}
+use Rattle.std.specs.declared.option.Option.TheVariants.{None}
 use mathlib.Core.Logic.{◌⊎◌, inl, inr}
 use Prim.Native.Nat.{ℕ, ◌+◌, ◌≤◌, ◌<◌}
 use native.Mathlib.Omega.{arith}
@@ -12,7 +13,6 @@ use Rattle.algebra.proofs.Booleans.{or_fails, or_holds}
 use Rattle.rounding.proofs.Comparison.{lt_irreflexive}
 use Rattle.floats.specs.declared.b2_math.B2vec2.{B2vec2}
 use Rattle.contact_definitions.specs.declared.axis.Best.{Best}
-use Rattle.circle_contacts.specs.declared.outline_meeting.Side.{Side}
 use Rattle.circle_contacts.specs.Meetings.{out_of_face, SideOf}
 use Rattle.circle_contacts.specs.FirstFour.{LastOfFour, some_above, taken, no_best, best_of_four}
 use Rattle.circle_contacts.proofs.FarthestSide.{SoFar, sides_begin, outside_at, side_taken, side_left}
@@ -61,24 +61,24 @@ module _ (vs ns : List B2vec2) (count : ℕ) (c : B2vec2) (radius : Float) where
         go (inr two) = let is = two.0 in let all = two.1 in omega arith
 
     -- c is out of one of them
-    pub one_outside : (r : Side) (above : Bool) → above ≡ some_above radius s0 s1 s2 s3 → above ≡ true
-        → r.outside ≡ true → SideOf vs ns count c radius r
-    one_outside r above above_is holds out = fourth (or_holds _ _ (sym above_is ∙ holds))
+    pub one_outside : (above : Bool) → above ≡ some_above radius s0 s1 s2 s3 → above ≡ true
+        → SideOf vs ns count c radius None
+    one_outside above above_is holds = fourth (or_holds _ _ (sym above_is ∙ holds))
       where
         at_place : (i : ℕ) (s : Float) → i < count → s ≡ out_of_face vs ns c i → lt radius s ≡ true
-            → SideOf vs ns count c radius r
-        at_place i s within s_is far = outside_at vs ns count c radius i s r within s_is far out
+            → SideOf vs ns count c radius None
+        at_place i s within s_is far = outside_at vs ns count c radius i s within s_is far
 
-        second : (lt radius s0 ≡ true) ⊎ (lt radius s1 ≡ true) → SideOf vs ns count c radius r
+        second : (lt radius s0 ≡ true) ⊎ (lt radius s1 ≡ true) → SideOf vs ns count c radius None
         second (inl far) = at_place 0 s0 (omega (arith, four.some)) four.s0_is far
         second (inr far) = at_place 1 s1 (omega (arith, four.some)) four.s1_is far
 
-        third : ((lt radius s0 || lt radius s1) ≡ true) ⊎ (lt radius s2 ≡ true) → SideOf vs ns count c radius r
+        third : ((lt radius s0 || lt radius s1) ≡ true) ⊎ (lt radius s2 ≡ true) → SideOf vs ns count c radius None
         third (inl far) = second (or_holds _ _ far)
         third (inr far) = at_place 2 s2 (omega (arith, four.some)) four.s2_is far
 
         fourth : (((lt radius s0 || lt radius s1) || lt radius s2) ≡ true) ⊎ (lt radius s3 ≡ true)
-            → SideOf vs ns count c radius r
+            → SideOf vs ns count c radius None
         fourth (inl far) = third (or_holds _ _ far)
         fourth (inr far) = at_place last s3 last_within four.s3_is far
 

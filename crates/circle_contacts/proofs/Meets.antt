@@ -1,8 +1,9 @@
--- Where a circle meets a corner, a face and an outline: each way out of the code is what the definition says. Assumes
+-- Where a circle meets a corner and a face: each way out of the code is what the definition says. Assumes
 -- nothing.
 use mathlib.Core.Path.{◌≡◌, refl, sym, ◌∙◌, ap, ap₂}
 use mathlib.Core.Bool.{Bool, true, false, cond, ◌||◌}
-use mathlib.Core.List.{List}
+use Rattle.std.specs.declared.option.Option.{Option}
+use Rattle.std.specs.declared.option.Option.TheVariants.{None, Some}
 use Prim.Native.Nat.{ℕ}
 use native.Mathlib.Omega.{arith}
 use lib.Ieee.{Float, lt, le}
@@ -12,18 +13,16 @@ use Rattle.floats.specs.B2Common.{b2_epsilon}
 use Rattle.floats.specs.B2Math.{b2_add, b2_sub, b2_scale, b2_dot, b2_normalize, unit_or}
 use Rattle.contact_definitions.specs.B2CollideCircle.{farther, circle_at_corner, circle_at_face}
 use Rattle.circle_contacts.specs.declared.outline_meeting.Meeting.{Meeting}
-use Rattle.circle_contacts.specs.declared.outline_meeting.Meeting.TheVariants.{Nothing, Point}
-use Rattle.circle_contacts.specs.declared.outline_meeting.Side.{Side}
-use Rattle.circle_contacts.specs.Meetings.{AtCorner, AtFace, AtOutline, SideOf}
+use Rattle.circle_contacts.specs.Meetings.{AtCorner, AtFace}
 
 -- ---- a corner
 module _ (v normal c : B2vec2) (radius : Float) (far : Bool) (far_is : far ≡ farther radius c v) where
-  pub corner_far : far ≡ true → AtCorner v normal c radius Nothing
+  pub corner_far : far ≡ true → AtCorner v normal c radius None
   unfolding circle_at_corner
   corner_far h old centre = simp (sym far_is ∙ h)
 
   pub corner_near : (d n : B2vec2) → far ≡ false → d ≡ b2_sub c v → n ≡ unit_or normal (b2_normalize d)
-      → AtCorner v normal c radius (Point n.x n.y v.x v.y)
+      → AtCorner v normal c radius (Some (record { nx = n.x; ny = n.y; x = v.x; y = v.y }))
   unfolding circle_at_corner
   corner_near d n h d_is n_is old centre = simp (sym far_is ∙ h, n_is, d_is)
 
@@ -31,7 +30,7 @@ module _ (v normal c : B2vec2) (radius : Float) (far : Bool) (far_is : far ≡ f
 module _ (v1 v2 normal c : B2vec2) (separation radius : Float) (sum middle : B2vec2) (sum_is_lem : sum ≡ b2_add v1 v2)
     (middle_is : middle ≡ b2_scale half32 sum) where
   pub face_inside : lt separation b2_epsilon ≡ true
-      → AtFace v1 v2 normal separation c radius (Point normal.x normal.y middle.x middle.y)
+      → AtFace v1 v2 normal separation c radius (Some (record { nx = normal.x; ny = normal.y; x = middle.x; y = middle.y }))
   unfolding circle_at_face
   face_inside inside old centre = simp (inside, middle_is, sum_is_lem)
 
@@ -46,7 +45,7 @@ module _ (v1 v2 normal c : B2vec2) (separation radius : Float) (sum middle : B2v
     second_test t h = ap (λ (u : Float). le u zero32) (sym (u2_is ∙ ap₂ b2_dot d2_is e2_is)) ∙ h
 
     -- v is the end that the tests t1 and t2 choose
-    at_end : (t1 t2 : Bool) (v : B2vec2) (r : Meeting) → le u1 zero32 ≡ t1 → le u2 zero32 ≡ t2 → (t1 || t2) ≡ true
+    at_end : (t1 t2 : Bool) (v : B2vec2) (r : Option Meeting) → le u1 zero32 ≡ t1 → le u2 zero32 ≡ t2 → (t1 || t2) ≡ true
         → v ≡ cond t1 v1 v2
         → AtCorner v normal c radius r → AtFace v1 v2 normal separation c radius r
     unfolding circle_at_face
@@ -61,7 +60,7 @@ module _ (v1 v2 normal c : B2vec2) (separation radius : Float) (sum middle : B2v
         never : false ≡ true → ⊥
         never h = let z : ◌≡◌ {A = ℕ} 0 1 = cc in omega arith
 
-    pub face_corner : (v : B2vec2) (r : Meeting) → (le u1 zero32 || le u2 zero32) ≡ true → v ≡ cond (le u1 zero32) v1 v2
+    pub face_corner : (v : B2vec2) (r : Option Meeting) → (le u1 zero32 || le u2 zero32) ≡ true → v ≡ cond (le u1 zero32) v1 v2
         → AtCorner v normal c radius r → AtFace v1 v2 normal separation c radius r
     face_corner v r some v_is meets = at_end (le u1 zero32) (le u2 zero32) v r refl refl some v_is meets
 
@@ -80,29 +79,15 @@ module _ (v1 v2 normal c : B2vec2) (separation radius : Float) (sum middle : B2v
           ap (lt radius) (sym (s_is ∙ ap (λ (d : B2vec2). b2_dot d normal)
           (d3_is ∙ ap (b2_sub c) (middle_is ∙ ap (b2_scale half32) sum_is_lem)))) ∙ h
 
-      pub face_far : lt radius s ≡ true → AtFace v1 v2 normal separation c radius Nothing
+      pub face_far : lt radius s ≡ true → AtFace v1 v2 normal separation c radius None
       unfolding circle_at_face
       face_far h old centre =
           let not = neither (le u1 zero32) (le u2 zero32) none in
           simp (outside, first_test false not.0, second_test false not.1, third_test true h)
 
       pub face_near : lt radius s ≡ false
-          → AtFace v1 v2 normal separation c radius (Point normal.x normal.y middle.x middle.y)
+          → AtFace v1 v2 normal separation c radius (Some (record { nx = normal.x; ny = normal.y; x = middle.x; y = middle.y }))
       unfolding circle_at_face
       face_near h old centre =
           let not = neither (le u1 zero32) (le u2 zero32) none in
           simp (outside, first_test false not.0, second_test false not.1, third_test false h, middle_is, sum_is_lem)
-
--- ---- an outline
-module _ (vs ns : List B2vec2) (count : ℕ) (c : B2vec2) (radius : Float) (side : Side)
-    (side_is : SideOf vs ns count c radius side) where
-  pub outline_far : side.outside ≡ true → AtOutline vs ns count c radius Nothing
-  outline_far h old centre = simp (sym side_is.outside_is ∙ h)
-
-  pub outline_near : (r : Meeting) → side.outside ≡ false → AtFace side.v1 side.v2 side.normal
-      side.separation c radius r
-      → AtOutline vs ns count c radius r
-  outline_near r h meets old centre =
-      let face = side_is.face h in
-      meets old centre
-      ∙ simp (sym side_is.outside_is ∙ h, face.separation_is, face.v1_is, face.v2_is, face.normal_is)

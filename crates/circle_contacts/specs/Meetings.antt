@@ -1,6 +1,6 @@
 -- What the parts of outline against circle hand to each other: the face that the circle's centre is farthest out of,
 -- where the circle meets the outline, and the manifold of that. Definitions only.
-use Rattle.std.specs.Prelude.{◌≡◌, false, cond, List, ℕ, Float}
+use Rattle.std.specs.Prelude.{◌≡◌, true, false, cond, List, ℕ, Float, Option, None, Some}
 use Rattle.std.specs.Float.Ieee.{lt, add}
 use Rattle.std.specs.Float.{binary32}
 use Rattle.floats.specs.declared.b2_math.B2vec2.{B2vec2}
@@ -16,21 +16,20 @@ use Rattle.contact_definitions.specs.Searches.{some_below, first_greatest}
 use Rattle.contact_definitions.specs.Manifold.{default_id, with_one_point, with_count}
 use Rattle.contact_definitions.specs.B2CollideCircle.{circle_at_corner, circle_at_face, polygon_circle_manifold}
 use Rattle.circle_contacts.specs.declared.outline_meeting.Meeting.{Meeting}
-use Rattle.circle_contacts.specs.declared.outline_meeting.Meeting.TheVariants.{Nothing, Point}
 use Rattle.circle_contacts.specs.declared.outline_meeting.Side.{Side}
 
 -- the manifold of a meeting, of the manifold without points and the circle's centre
-abbrev pub met : Meeting → B2manifold → B2vec2 → B2manifold
-met Nothing old centre = old
-met (Point nx ny x y) old centre = with_one_point old EFaceA (vec2 nx ny) (vec2 x y) centre default_id
+abbrev pub met : Option Meeting → B2manifold → B2vec2 → B2manifold
+met None old centre = old
+met (Some at) old centre = with_one_point old EFaceA (vec2 at.nx at.ny) (vec2 at.x at.y) centre default_id
 
 -- r is where the circle meets a corner of a face with this normal
-abbrev pub AtCorner : B2vec2 → B2vec2 → B2vec2 → Float → Meeting → Type 0
+abbrev pub AtCorner : B2vec2 → B2vec2 → B2vec2 → Float → Option Meeting → Type 0
 AtCorner v normal c radius r =
     (old : B2manifold) (centre : B2vec2) → met r old centre ≡ circle_at_corner old v normal c radius centre
 
 -- r is where the circle meets the face from v1 to v2
-abbrev pub AtFace : B2vec2 → B2vec2 → B2vec2 → Float → B2vec2 → Float → Meeting → Type 0
+abbrev pub AtFace : B2vec2 → B2vec2 → B2vec2 → Float → B2vec2 → Float → Option Meeting → Type 0
 AtFace v1 v2 normal separation c radius r =
     (old : B2manifold) (centre : B2vec2) → met r old centre ≡ circle_at_face old v1 v2 normal separation c radius centre
 
@@ -46,12 +45,14 @@ pub record FaceAt (vs ns : List B2vec2) (count : ℕ) (best : Best) (r : Side) :
   pub normal_is : r.normal ≡ point_at ns best.place
 
 -- r is the face that c is farthest out of, unless c is out of some face by more than the radius
-pub record SideOf (vs ns : List B2vec2) (count : ℕ) (c : B2vec2) (radius : Float) (r : Side) : Type 0 where
-  pub outside_is : r.outside ≡ some_below (λ i. lt radius (out_of_face vs ns c i)) count
-  pub face : r.outside ≡ false → FaceAt vs ns count (first_greatest (out_of_face vs ns c) count) r
+abbrev pub SideOf : List B2vec2 → List B2vec2 → ℕ → B2vec2 → Float → Option Side → Type 0
+SideOf vs ns count c radius None = some_below (λ i. lt radius (out_of_face vs ns c i)) count ≡ true
+SideOf vs ns count c radius (Some side) =
+    (some_below (λ i. lt radius (out_of_face vs ns c i)) count ≡ false)
+    × FaceAt vs ns count (first_greatest (out_of_face vs ns c) count) side
 
 -- r is where the circle meets the outline of the first count corners
-abbrev pub AtOutline : List B2vec2 → List B2vec2 → ℕ → B2vec2 → Float → Meeting → Type 0
+abbrev pub AtOutline : List B2vec2 → List B2vec2 → ℕ → B2vec2 → Float → Option Meeting → Type 0
 AtOutline vs ns count c radius r =
     (old : B2manifold) (centre : B2vec2)
     → met r old centre

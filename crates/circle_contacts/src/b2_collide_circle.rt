@@ -1,21 +1,19 @@
 // Circle against circle, and outline against circle (Box2D's b2_collide_circle.cpp).
 ghost use Rattle.std.specs.Prelude.{◌≡◌, ◌≤◌, ◌<◌};
+ghost use Rattle.contact_definitions.specs.Answers.{manifold_answered};
 ghost use Rattle.contact_definitions.specs.B2CollideCircle.{circles_manifold, b2_collide_circles};
 ghost use Rattle.contact_definitions.specs.B2CollideCircle.{b2_collide_polygon_and_circle};
 ghost use Rattle.contact_definitions.specs.Manifold.{with_count};
 ghost use Rattle.circle_contacts.specs.Meetings.{outline_circle};
 
 use crate::outline_meeting;
-use crate::outline_meeting::Meeting;
-use collision::{manifold_answer, manifolds, pair_ranges};
-use contact_definitions::b2_collision::{
-    B2contactFeatureType, B2manifold, B2manifoldType, ManifoldAnswer,
-};
+use collision::{manifold_answer, manifolds, pair_ranges, reach};
+use contact_definitions::b2_collision::{B2contactFeatureType, B2manifold, B2manifoldType};
 use floats::b2_math;
 use floats::b2_math::{B2Transform, B2vec2};
 use shape_definitions::b2_circle_shape::B2circleShape;
 use shape_definitions::b2_polygon_shape::B2polygonShape;
-use shape_definitions::refusal;
+use shape_definitions::refusal::Refusal;
 
 // The manifold of two circles, of the given one: at the centres, where they are not farther apart than both radii.
 fn circles_manifold(
@@ -32,7 +30,7 @@ fn circles_manifold(
     let radius = a.m_radius + b.m_radius;
     let at_a = b2_math::b2_mul_transform_by_vec2(xfa, pa);
     let at_b = b2_math::b2_mul_transform_by_vec2(xfb, pb);
-    if outline_meeting::farther_than(radius, at_b, at_a) {
+    if reach::farther_than(radius, at_b, at_a) {
         return manifolds::no_points(m);
     }
     let zero = B2vec2 { x: 0.0, y: 0.0 };
@@ -53,15 +51,15 @@ pub fn b2_collide_circles(
     xfa: B2Transform,
     b: B2circleShape,
     xfb: B2Transform,
-) -> ManifoldAnswer
-    ensures { result ≡ b2_collide_circles m a xfa b xfb }
+) -> Result<B2manifold, Refusal>
+    ensures { manifold_answered m result ≡ b2_collide_circles m a xfa b xfb }
 {
     let shapes = pair_ranges::circles_in_range(a, b);
     let placed = pair_ranges::placements_in_range(xfa, xfb);
     if shapes & placed {
-        return manifold_answer::accepted(circles_manifold(m, a, xfa, b, xfb));
+        return Ok(circles_manifold(m, a, xfa, b, xfb));
     }
-    manifold_answer::out_of_range(m, shapes)
+    Err(manifold_answer::out_of_range(shapes))
 }
 
 // The manifold of an outline and a circle, of the given one: the circle's centre is taken to the outline's frame.
@@ -84,12 +82,11 @@ fn polygon_circle_manifold(
         xfa,
         b2_math::b2_mul_transform_by_vec2(xfb, centre),
     );
-    let meeting = outline_meeting::polygon_meeting(vs, ns, count, c, radius);
-    match meeting {
-        Meeting::Nothing => manifolds::no_points(m),
-        Meeting::Point(nx, ny, x, y) => {
-            let normal = B2vec2 { x: nx, y: ny };
-            let point = B2vec2 { x: x, y: y };
+    match outline_meeting::polygon_meeting(vs, ns, count, c, radius) {
+        None => manifolds::no_points(m),
+        Some(at) => {
+            let normal = B2vec2 { x: at.nx, y: at.ny };
+            let point = B2vec2 { x: at.x, y: at.y };
             manifolds::circle_point(
                 m,
                 B2manifoldType::EFaceA,
@@ -109,17 +106,17 @@ pub fn b2_collide_polygon_and_circle(
     xfa: B2Transform,
     b: B2circleShape,
     xfb: B2Transform,
-) -> ManifoldAnswer
-    ensures { result ≡ b2_collide_polygon_and_circle m a xfa b xfb }
+) -> Result<B2manifold, Refusal>
+    ensures { manifold_answered m result ≡ b2_collide_polygon_and_circle m a xfa b xfb }
 {
     let count = a.m_count;
     if manifold_answer::miscounted(count) {
-        return manifold_answer::refused(m, refusal::COUNT_OUT_OF_RANGE);
+        return Err(Refusal::CountOutOfRange);
     }
     let shapes = pair_ranges::polygon_circle_in_range(a, b);
     let placed = pair_ranges::placements_in_range(xfa, xfb);
     if shapes & placed {
-        return manifold_answer::accepted(polygon_circle_manifold(m, a, xfa, b, xfb));
+        return Ok(polygon_circle_manifold(m, a, xfa, b, xfb));
     }
-    manifold_answer::out_of_range(m, shapes)
+    Err(manifold_answer::out_of_range(shapes))
 }

@@ -1,39 +1,32 @@
 // Where a circle meets an outline, in the outline's frame: the face that its centre is farthest out of, and then the
 // middle of that face or one of its ends.
-ghost use Rattle.std.specs.Prelude.{◌≡◌, true, cond, ◌≤◌, ◌<◌};
-ghost use Rattle.contact_definitions.specs.B2CollideCircle.{farther};
+ghost use Rattle.std.specs.Prelude.{◌≡◌, cond, ◌≤◌, ◌<◌};
 ghost use Rattle.circle_contacts.specs.Meetings.{AtCorner, AtFace, AtOutline, SideOf, out_of_face};
 ghost use Rattle.circle_contacts.specs.FirstFour.{LastOfFour, some_above, taken, best_of_four};
 
+use collision::reach::farther_than;
 use contact_definitions::axis::Best;
 use floats::b2_common::{B2_EPSILON, B2_MAX_FLOAT};
 use floats::b2_math::B2vec2;
 use floats::{b2_math, unit};
 use shape_ranges::places;
 
-// How a circle meets an outline: not, or with the normal's and a point's coordinates.
+// How a circle meets an outline: the normal's and a point's coordinates.
 #[derive(Clone, Copy)]
-pub enum Meeting {
-    Nothing,
-    Point(f32, f32, f32, f32),
+pub struct Meeting {
+    pub nx: f32,
+    pub ny: f32,
+    pub x: f32,
+    pub y: f32,
 }
 
-// The face that a circle's centre is farthest out of: its ends, its normal, and by how much; outside where the centre
-// is out of some face by more than the radius, and then the rest is free.
+// The face that a circle's centre is farthest out of: its ends, its normal, and by how much.
 #[derive(Clone, Copy)]
 pub struct Side {
-    pub outside: bool,
     pub separation: f32,
     pub v1: B2vec2,
     pub v2: B2vec2,
     pub normal: B2vec2,
-}
-
-// Whether p and q are farther apart than the radius.
-pub fn farther_than(radius: f32, p: B2vec2, q: B2vec2) -> bool
-    ensures { result ≡ farther radius p q }
-{
-    b2_math::b2_distance_vec2_squared(p, q) > radius * radius
 }
 
 // How far c is out of face i.
@@ -95,22 +88,16 @@ fn best_of_four(s0: f32, s1: f32, s2: f32, s3: f32) -> Best
     better(b2, 3, s3)
 }
 
-// Outside.
-fn beyond(c: B2vec2) -> Side
-    ensures { result.outside ≡ true }
-{
-    Side {
-        outside: true,
-        separation: 0.0,
-        v1: c,
-        v2: c,
-        normal: c,
-    }
-}
-
-// The first four faces are worked out side by side, and one test asks all of them. The scan keeps the place alone, so
+// The face that c is farthest out of, unless it is out of some face by more than the radius. The first four faces are
+// worked out side by side, and one test asks all of them. The scan keeps the place alone, so
 // that it is compiled to conditional moves: which face is the best is not to be foreseen.
-fn circle_side(vs: [B2vec2; 8], ns: [B2vec2; 8], count: usize, c: B2vec2, radius: f32) -> Side
+fn circle_side(
+    vs: [B2vec2; 8],
+    ns: [B2vec2; 8],
+    count: usize,
+    c: B2vec2,
+    radius: f32,
+) -> Option<Side>
     requires { (2 < count) × (count ≤ 8) }
     ensures { SideOf vs ns count c radius result }
 {
@@ -120,22 +107,20 @@ fn circle_side(vs: [B2vec2; 8], ns: [B2vec2; 8], count: usize, c: B2vec2, radius
     let s2 = out_of_face(vs, ns, 2, c);
     let s3 = out_of_face(vs, ns, last, c);
     if some_above(radius, s0, s1, s2, s3) {
-        return beyond(c);
+        return None;
     }
     let best = best_of_four(s0, s1, s2, s3);
     let mut separation = best.value;
     let mut index = best.place;
-    let mut i = last + 1;
-    while i < count {
+    for i in last + 1..count {
         let s = out_of_face(vs, ns, i, c);
         if s > radius {
-            return beyond(c);
+            return None;
         }
         if s > separation {
             separation = s;
             index = i;
         }
-        i += 1;
     }
     let next = places::after(index, count);
     let v1 = B2vec2 {
@@ -150,24 +135,28 @@ fn circle_side(vs: [B2vec2; 8], ns: [B2vec2; 8], count: usize, c: B2vec2, radius
         x: ns[index].x,
         y: ns[index].y,
     };
-    Side {
-        outside: false,
-        separation: separation,
-        v1: v1,
-        v2: v2,
-        normal: normal,
-    }
+    Some(Side {
+        separation,
+        v1,
+        v2,
+        normal,
+    })
 }
 
 // At a corner of a face with this normal, which stands in where c has no distance from the corner.
-fn corner_meeting(v: B2vec2, normal: B2vec2, c: B2vec2, radius: f32) -> Meeting
+fn corner_meeting(v: B2vec2, normal: B2vec2, c: B2vec2, radius: f32) -> Option<Meeting>
     ensures { AtCorner v normal c radius result }
 {
     if farther_than(radius, c, v) {
-        return Meeting::Nothing;
+        return None;
     }
     let n = unit::unit_or(b2_math::b2_sub(c, v), normal);
-    Meeting::Point(n.x, n.y, v.x, v.y)
+    Some(Meeting {
+        nx: n.x,
+        ny: n.y,
+        x: v.x,
+        y: v.y,
+    })
 }
 
 fn nearer_end(first: bool, v1: B2vec2, v2: B2vec2) -> B2vec2
@@ -184,12 +173,17 @@ fn face_meeting(
     separation: f32,
     c: B2vec2,
     radius: f32,
-) -> Meeting
+) -> Option<Meeting>
     ensures { AtFace v1 v2 normal separation c radius result }
 {
     let middle = b2_math::b2_scale(0.5, b2_math::b2_add(v1, v2));
     if separation < B2_EPSILON {
-        return Meeting::Point(normal.x, normal.y, middle.x, middle.y);
+        return Some(Meeting {
+            nx: normal.x,
+            ny: normal.y,
+            x: middle.x,
+            y: middle.y,
+        });
     }
     let first = b2_math::b2_dot(b2_math::b2_sub(c, v1), b2_math::b2_sub(v2, v1)) <= 0.0;
     let second = b2_math::b2_dot(b2_math::b2_sub(c, v2), b2_math::b2_sub(v1, v2)) <= 0.0;
@@ -198,25 +192,28 @@ fn face_meeting(
         return corner_meeting(v, normal, c, radius);
     }
     if b2_math::b2_dot(b2_math::b2_sub(c, middle), normal) > radius {
-        return Meeting::Nothing;
+        return None;
     }
-    Meeting::Point(normal.x, normal.y, middle.x, middle.y)
+    Some(Meeting {
+        nx: normal.x,
+        ny: normal.y,
+        x: middle.x,
+        y: middle.y,
+    })
 }
 
-// Where a circle with its centre at c meets an outline, in the outline's frame.
+// Where a circle with its centre at c meets an outline, in the outline's frame. The outline's rows are handed on by
+// themselves: an outline by value is copied whole.
 pub fn polygon_meeting(
     vs: [B2vec2; 8],
     ns: [B2vec2; 8],
     count: usize,
     c: B2vec2,
     radius: f32,
-) -> Meeting
+) -> Option<Meeting>
     requires { (2 < count) × (count ≤ 8) }
     ensures { AtOutline vs ns count c radius result }
 {
-    let side = circle_side(vs, ns, count, c, radius);
-    if side.outside {
-        return Meeting::Nothing;
-    }
+    let side = circle_side(vs, ns, count, c, radius)?;
     face_meeting(side.v1, side.v2, side.normal, side.separation, c, radius)
 }

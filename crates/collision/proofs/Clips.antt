@@ -13,8 +13,7 @@ use Rattle.floats.specs.declared.b2_math.B2vec2.{B2vec2}
 use Rattle.floats.specs.Ranges.{contact_point_in_range, contact_number_in_range}
 use Rattle.contact_definitions.specs.declared.b2_collision.B2clipVertex.{B2clipVertex}
 use Rattle.contact_definitions.specs.Clip.{clip_distance, clipped_by, clipped, clip_in_range}
-use Rattle.contact_definitions.proofs.Clipping.{never_three}
-use Rattle.collision.specs.declared.clip.Clip.{Clip}
+use Rattle.contact_definitions.specs.declared.b2_collision.Clip.{Clip}
 use Rattle.collision.specs.ClipPlaces.{left_over, two_ends}
 
 -- ---- what is left, over two places
@@ -80,15 +79,6 @@ module _ (ends : List B2clipVertex) (ends_two : length ends ≡ 2) (normal1 : B2
   none_after few =
       let count = count_is in
       ap (λ (l : List B2clipVertex). left_over l ends) (sym (none_of_few once normal2 offset2 index2 (omega arith)))
-
-  pub clipped_again : 2 ≤ first.count → (second : Clip)
-      → second ≡ left_over (clipped first.out normal2 offset2 index2) ends
-      → second ≡ left_over (clipped once normal2 offset2 index2) ends
-  clipped_again enough second second_is =
-      let count = count_is in
-      second_is ∙ ap (λ (l : List B2clipVertex). left_over (clipped l normal2 offset2 index2) ends)
-      (ap (λ (c : Clip). c.out) first_is
-      ∙ over_both once ends ends_two (omega arith) (never_three ends normal1 offset1 index1))
 
 pub ends_in_range : (ends : List B2clipVertex) (d : B2clipVertex) (normal : B2vec2) (offset : Float) (s t u v : Bool)
     → length ends ≡ 2 → s ≡ contact_point_in_range (get_or ends 0 d).v → t ≡ contact_point_in_range (get_or ends 1 d).v

@@ -1,20 +1,19 @@
 -- The manifold from what the clipping left and from the points that are kept, as the code has them. Assumes nothing.
-use mathlib.Core.Path.{◌≡◌, refl, sym, ap, ap₂, ◌∙◌}
+use mathlib.Core.Path.{◌≡◌, refl, ap, ◌∙◌}
 use mathlib.Core.Bool.{Bool, true, false}
 use mathlib.Core.List.{List, [], ◌∷◌}
 use Prim.Native.Nat.{ℕ, suc, ◌<◌, ◌≤◌}
 use native.Mathlib.Omega.{arith}
 use lib.ListN.{length, get_or}
-use Rattle.algebra.specs.Buffer.{over}
 use Rattle.floats.specs.declared.b2_math.B2vec2.{B2vec2}
 use Rattle.contact_definitions.specs.declared.b2_collision.B2manifoldPoint.{B2manifoldPoint}
 use Rattle.contact_definitions.specs.declared.b2_collision.B2manifold.{B2manifold}
 use Rattle.contact_definitions.specs.declared.b2_collision.B2clipVertex.{B2clipVertex}
 use Rattle.contact_definitions.specs.Manifold.{default_point}
 use Rattle.contact_definitions.specs.ReferenceFace.{only, points_from, with_points, manifold_of_ends}
-use Rattle.collision.specs.declared.clip.Clip.{Clip}
+use Rattle.contact_definitions.specs.declared.b2_collision.Clip.{Clip}
 use Rattle.collision.specs.ClipPlaces.{left_over}
-use Rattle.algebra.proofs.Two.{Two, two, two_of, first_place, second_place, one_over, two_over}
+use Rattle.algebra.proofs.Two.{Two, two, two_of}
 use Rattle.collision.proofs.Clips.{over_both}
 use Rattle.collision.specs.declared.manifolds.Kept.{Kept}
 use Rattle.collision.specs.KeptPoints.{point_at_end, kept_ends, points_of, points_kept}
@@ -88,47 +87,6 @@ module _ (m : B2manifold) (normal point : B2vec2) (near : B2clipVertex → Bool)
         two_left k d (two_of left (omega arith))
         (k_is ∙ ap (λ (l : List B2clipVertex). points_kept made m.points
         (kept_ends (near (get_or l 0 d)) (near (get_or l 1 d)) (get_or l 0 d) (get_or l 1 d))) (out_is enough))
-
--- ---- the points of the ends that are near, by the two tests
-module _ (made : B2manifoldPoint → B2clipVertex → B2manifoldPoint) (old : List B2manifoldPoint) (d : B2manifoldPoint)
-    (old_two : length old ≡ 2) (near0 near1 : Bool) (e0 e1 : B2clipVertex) where
-  abbrev kept : Kept
-  kept = points_kept made old (kept_ends near0 near1 e0 e1)
-
-  kept_of : (new : List B2manifoldPoint) (ends : List B2clipVertex) → kept_ends near0 near1 e0 e1 ≡ ends
-      → new ≡ over (points_of made old 0 ends) old
-      → ◌≡◌ {A = Kept} (record { points = new; count = length (points_of made old 0 ends) }) kept
-  kept_of new ends ends_are New_is =
-      ap (λ (l : List B2manifoldPoint). record { points = l; count = length (points_of made old 0 ends) }) New_is
-      ∙ ap (points_kept made old) (sym ends_are)
-
-  pub both_near : near0 ≡ true → near1 ≡ true → (p q : B2manifoldPoint) → p ≡ made (get_or old 0 d) e0
-      → q ≡ made (get_or old 1 d) e1 → ◌≡◌ {A = Kept} (record { points = p ∷ q ∷ []; count = 2 }) kept
-  both_near first second p q p_is q_is =
-      kept_of (p ∷ q ∷ []) (e0 ∷ e1 ∷ []) (rw (first, second))
-      (ap₂ (λ (a b : B2manifoldPoint). a ∷ b ∷ []) (p_is ∙ ap (λ (o : B2manifoldPoint). made o e0) (first_place old d
-      default_point old_two))
-      (q_is ∙ ap (λ (o : B2manifoldPoint). made o e1) (second_place old d default_point old_two))
-      ∙ two_over old _ _ old_two)
-
-  one_near : (e : B2clipVertex) → kept_ends near0 near1 e0 e1 ≡ e ∷ [] → (p : B2manifoldPoint)
-      → p ≡ made (get_or old 0 d) e → ◌≡◌ {A = Kept} (record { points = p ∷ get_or old 1 d ∷ []; count = 1 }) kept
-  one_near e ends_are p p_is =
-      kept_of (p ∷ get_or old 1 d ∷ []) (e ∷ []) ends_are
-      (ap (λ (a : B2manifoldPoint). a ∷ get_or old 1 d ∷ [])
-      (p_is ∙ ap (λ (o : B2manifoldPoint). made o e) (first_place old d default_point old_two))
-      ∙ one_over old _ d old_two)
-
-  pub first_near : near0 ≡ true → near1 ≡ false → (p : B2manifoldPoint) → p ≡ made (get_or old 0 d) e0
-      → ◌≡◌ {A = Kept} (record { points = p ∷ get_or old 1 d ∷ []; count = 1 }) kept
-  first_near first second = one_near e0 (rw (first, second))
-
-  pub second_near : near0 ≡ false → near1 ≡ true → (p : B2manifoldPoint) → p ≡ made (get_or old 0 d) e1
-      → ◌≡◌ {A = Kept} (record { points = p ∷ get_or old 1 d ∷ []; count = 1 }) kept
-  second_near first second = one_near e1 (rw (first, second))
-
-  pub none_near : near0 ≡ false → near1 ≡ false → ◌≡◌ {A = Kept} (record { points = old; count = 0 }) kept
-  none_near first second = kept_of old [] (rw (first, second)) refl
 
 -- ---- ends that are placed first, and then kept as they are
 pub placed_first : (placed : B2clipVertex → B2clipVertex) (old : List B2manifoldPoint) (near0 near1 : Bool)

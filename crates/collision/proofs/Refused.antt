@@ -8,9 +8,11 @@ use lib.Dec.{ltb}
 use borrow.Author.Tests.{ltb-false}
 use Rattle.floats.specs.declared.b2_math.B2Transform.{B2Transform}
 use Rattle.floats.specs.Ranges.{transform_in_range}
-use Rattle.shape_definitions.specs.Refusal.{shape_out_of_range, placement_out_of_range, count_out_of_range}
+use Rattle.shape_definitions.specs.declared.refusal.Refusal.{Refusal}
+use Rattle.shape_definitions.specs.declared.refusal.Refusal.TheVariants.{ShapeOutOfRange, PlacementOutOfRange}
+use Rattle.shape_definitions.specs.Refusal.{number_of, shape_out_of_range, placement_out_of_range, count_out_of_range}
 use Rattle.contact_definitions.specs.declared.b2_collision.B2manifold.{B2manifold}
-use Rattle.contact_definitions.specs.declared.b2_collision.ManifoldAnswer.{ManifoldAnswer}
+use Rattle.contact_definitions.specs.Answers.{ManifoldAnswer}
 use Rattle.contact_definitions.specs.Manifold.{manifold_refused, manifold_accepted, where_in_range, miscounted}
 use Rattle.contact_definitions.specs.Manifold.{unless_miscounted}
 
@@ -30,7 +32,7 @@ module _ (old : B2manifold) (shapes : Bool) (xfA xfB : B2Transform) (answer : Ma
   in_range false p both = never (sym both)
 
   out : (s p : Bool) → (s && p) ≡ false
-      → cond s (manifold_refused placement_out_of_range old) (manifold_refused shape_out_of_range old) ≡ by s p
+      → manifold_refused (number_of (cond s PlacementOutOfRange ShapeOutOfRange)) old ≡ by s p
   out true true neither = never neither
   out true false neither = refl
   out false p neither = refl
@@ -44,24 +46,23 @@ module _ (old : B2manifold) (shapes : Bool) (xfA xfB : B2Transform) (answer : Ma
     all_in_range r both r_is = r_is ∙ in_range s p both ∙ as_found
 
     -- the manifold that was made, where it is that of the answer
-    pub made_in_range : (made m : B2manifold) (r : ManifoldAnswer) → answer ≡ manifold_accepted m → (s && p) ≡ true
-        → r ≡ manifold_accepted made → made ≡ m → r ≡ where_in_range shapes xfA xfB old answer
-    made_in_range made m r answer_is both r_is made_is =
-        all_in_range r both (r_is ∙ ap manifold_accepted made_is ∙ sym answer_is)
+    pub made_in_range : (made m : B2manifold) → answer ≡ manifold_accepted m → (s && p) ≡ true → made ≡ m
+        → manifold_accepted made ≡ where_in_range shapes xfA xfB old answer
+    made_in_range made m answer_is both made_is =
+        all_in_range (manifold_accepted made) both (ap manifold_accepted made_is ∙ sym answer_is)
 
-    pub not_in_range : (r : ManifoldAnswer) → (s && p) ≡ false
-        → r ≡ cond s (manifold_refused placement_out_of_range old) (manifold_refused shape_out_of_range old)
-        → r ≡ where_in_range shapes xfA xfB old answer
-    not_in_range r neither r_is = r_is ∙ out s p neither ∙ as_found
+    pub not_in_range : (why : Refusal) → (s && p) ≡ false → why ≡ cond s PlacementOutOfRange ShapeOutOfRange
+        → manifold_refused (number_of why) old ≡ where_in_range shapes xfA xfB old answer
+    not_in_range why neither why_is =
+        ap (λ (w : Refusal). manifold_refused (number_of w) old) why_is ∙ out s p neither ∙ as_found
 
 -- ---- 7 before the ranges
-module _ (old : B2manifold) (wrong : Bool) (answer r : ManifoldAnswer) where
-  pub count_refused : wrong ≡ true → r ≡ manifold_refused count_out_of_range old → r
-      ≡ unless_miscounted wrong old answer
-  count_refused h r_is = simp h r_is
+module _ (old : B2manifold) (wrong : Bool) (answer : ManifoldAnswer) where
+  pub count_refused : wrong ≡ true → manifold_refused count_out_of_range old ≡ unless_miscounted wrong old answer
+  count_refused h = simp h refl
 
-  pub count_taken : wrong ≡ false → r ≡ answer → r ≡ unless_miscounted wrong old answer
-  count_taken h r_is = simp h r_is
+  pub count_taken : (r : ManifoldAnswer) → wrong ≡ false → r ≡ answer → r ≡ unless_miscounted wrong old answer
+  count_taken r h r_is = simp h r_is
 
 pub counted_well : (n : ℕ) → miscounted n ≡ false → (2 < n) × (n ≤ 8)
 counted_well n h = by_few (ltb n 3) refl (ltb 8 n) refl h

@@ -1,13 +1,13 @@
 -- Point states from counted ids, by the count. Assumes nothing.
 use mathlib.Core.Path.{◌≡◌, refl, sym, ◌∙◌, ap, ap₂}
-use mathlib.Core.Bool.{Bool, true, false, cond, ◌||◌, or-false}
+use mathlib.Core.Bool.{Bool, false, cond, ◌||◌, or-false}
 use mathlib.Core.List.{List, [], ◌∷◌, map}
 use Prim.Native.Nat.{ℕ, zero, suc, ◌≤◌}
 use native.Mathlib.Omega.{arith}
-use lib.Dec.{eqb}
+use lib.Dec.{ltb}
 use lib.ListN.{length, get_or, take}
 use lib.Seq.{take-nil}
-use borrow.Author.Tests.{eq-eqb, ne_eqb, eqb-true, eqb-false}
+use borrow.Author.Tests.{eq-eqb, ne_eqb, lt-ltb}
 use Rattle.contact_definitions.specs.declared.b2_collision.B2contactId.{B2contactId}
 use Rattle.contact_definitions.specs.declared.b2_collision.B2manifold.{B2manifold}
 use Rattle.contact_definitions.specs.declared.b2_collision.B2manifoldPoint.{B2manifoldPoint}
@@ -54,45 +54,41 @@ module _ (id : B2contactId) (others : CountedIds) where
       ∙ sym (ap (id_among id) (two_ids others some more))
 
 -- ---- the state of a point
-module _ (alone : B2pointState) (mine others : CountedIds) where
-  state_as : (l : List B2contactId) (i : ℕ) → ids_in mine ≡ l
-      → point_state alone l (ids_in others) i ≡ point_state alone (ids_in mine) (ids_in others) i
-  state_as l i mine_is = ap (λ (m : List B2contactId). point_state alone m (ids_in others) i) (sym mine_is)
+module _ (alone : B2pointState) (others : List B2contactId) where
+  abbrev state_if : Bool → B2contactId → B2pointState
+  state_if counted id = cond counted (cond (id_among id others) B2PersistState alone) B2NullState
 
-  pub no_first_state : mine.count ≡ 0 → B2NullState ≡ point_state alone (ids_in mine) (ids_in others) 0
-  unfolding point_state
-  no_first_state none = state_as [] 0 (no_ids mine none)
+  first_by : (n : ℕ) (a b : B2contactId) → state_if (ltb 0 n) a
+      ≡ point_state alone (ids_in (record { count = n; first = a; second = b })) others 0
+  unfolding point_state ids_in
+  first_by zero a b = refl
+  first_by (suc zero) a b = refl
+  first_by (suc (suc n)) a b =
+      simp (
+        lt-ltb 0 (suc (suc n)) (omega arith),
+        two_ids (record { count = suc (suc n); first = a; second = b })
+            (λ none. omega arith) (λ one. omega arith),
+      )
 
-  pub no_second_state : mine.count ≡ 0 → B2NullState ≡ point_state alone (ids_in mine) (ids_in others) 1
-  unfolding point_state
-  no_second_state none = state_as [] 1 (no_ids mine none)
+  second_by : (n : ℕ) (a b : B2contactId) → state_if (ltb 1 n) b
+      ≡ point_state alone (ids_in (record { count = n; first = a; second = b })) others 1
+  unfolding point_state ids_in
+  second_by zero a b = refl
+  second_by (suc zero) a b = refl
+  second_by (suc (suc n)) a b =
+      simp (
+        lt-ltb 1 (suc (suc n)) (omega arith),
+        two_ids (record { count = suc (suc n); first = a; second = b })
+            (λ none. omega arith) (λ one. omega arith),
+      )
 
-  pub second_of_one : (mine.count ≡ 0 → ⊥) → mine.count ≡ 1 → B2NullState
-      ≡ point_state alone (ids_in mine) (ids_in others) 1
-  unfolding point_state
-  second_of_one some one = state_as (mine.first ∷ []) 1 (one_id mine some one)
+  pub first_state : (mine : CountedIds) → state_if (ltb 0 mine.count) mine.first
+      ≡ point_state alone (ids_in mine) others 0
+  first_state mine = first_by mine.count mine.first mine.second
 
-  abbrev chosen_state : Bool → B2pointState
-  chosen_state t = cond t B2PersistState alone
-
-  -- by whether there are one or two of mine
-  first_by : (b : Bool) → eqb mine.count 1 ≡ b → (mine.count ≡ 0 → ⊥)
-      → chosen_state (id_among mine.first (ids_in others)) ≡ point_state alone (ids_in mine) (ids_in others) 0
-  unfolding point_state
-  first_by true one some = state_as (mine.first ∷ []) 0 (one_id mine some (eqb-true mine.count 1 one))
-  first_by false more some = state_as (mine.first ∷ mine.second ∷ []) 0
-      (two_ids mine some (eqb-false mine.count 1 more))
-
-  module _ (r : Bool) where
-    pub first_state_is : (t : Bool) → r ≡ id_among mine.first (ids_in others) → r ≡ t → (mine.count ≡ 0 → ⊥)
-        → chosen_state t ≡ point_state alone (ids_in mine) (ids_in others) 0
-    first_state_is t r_is r_t some = ap chosen_state (sym r_t ∙ r_is) ∙ first_by (eqb mine.count 1) refl some
-
-    pub second_state_is : (t : Bool) → r ≡ id_among mine.second (ids_in others) → r ≡ t → (mine.count ≡ 0 → ⊥)
-        → (mine.count ≡ 1 → ⊥) → chosen_state t ≡ point_state alone (ids_in mine) (ids_in others) 1
-    unfolding point_state
-    second_state_is t r_is r_t some more =
-        ap chosen_state (sym r_t ∙ r_is) ∙ state_as (mine.first ∷ mine.second ∷ []) 1 (two_ids mine some more)
+  pub second_state : (mine : CountedIds) → state_if (ltb 1 mine.count) mine.second
+      ≡ point_state alone (ids_in mine) others 1
+  second_state mine = second_by mine.count mine.first mine.second
 
 -- ---- the ids that a manifold counts
 abbrev id_of : B2manifoldPoint → B2contactId

@@ -20,9 +20,9 @@ use Rattle.contact_definitions.specs.declared.b2_collision.B2manifold.{B2manifol
 use Rattle.contact_definitions.specs.declared.b2_collision.B2worldManifold.{B2worldManifold}
 use Rattle.contact_definitions.specs.Manifold.{default_point, manifold_point, counted_points}
 use Rattle.contact_definitions.specs.WorldManifold.{plane_middle, plane_separation, carried_points, world_of_face}
-use Rattle.algebra.proofs.Two.{Two, two, two_of, second_place}
+use Rattle.algebra.proofs.Two.{Two, two, two_of}
 use Rattle.collision.specs.declared.world_points.WorldPoint.{WorldPoint}
-use Rattle.collision.specs.FacePoints.{at_plane, second_kept, second_of}
+use Rattle.collision.specs.FacePoints.{at_plane, second_of}
 
 -- ---- the middle from either side
 sums_commute : (a b : B2vec2) → b2_add a b ≡ b2_add b a
@@ -50,26 +50,6 @@ module _ {A : Type 0} (carry : B2manifoldPoint → B2vec2) (value : B2vec2 → A
       go (suc zero) some few (two p q) (two a b) = refl
       go (suc (suc zero)) some few (two p q) (two a b) = refl
       go (suc (suc (suc n))) some few (two p q) (two a b) = absurd (omega arith)
-
-pub kept_is : (old : B2worldManifold) (d : B2vec2) (e : Float) → length old.points ≡ 2
-    → length old.separations ≡ 2 → ◌≡◌ {A = WorldPoint} (record {
-      middle = get_or old.points 1 d;
-      separation = get_or old.separations 1 e;
-    }) (second_kept old)
-kept_is old d e points_two separations_two =
-    ap₂ (λ (p : B2vec2) (s : Float). record { middle = p; separation = s })
-    (second_place old.points d origin points_two) (second_place old.separations e zero32 separations_two)
-
-pub counted_is : (m : B2manifold) (d : B2manifoldPoint) (normal plane carried : B2vec2) (radius1 : Float)
-    (xf2 : B2Transform) (radius2 : Float) (r : WorldPoint) → length m.points ≡ 2
-    → carried ≡ b2_mul_transform_by_vec2 xf2 (get_or m.points 1 d).local_point
-    → r ≡ at_plane normal plane radius1 radius2 carried
-    → r ≡ at_plane normal plane radius1 radius2 (b2_mul_transform_by_vec2 xf2 (manifold_point m 1).local_point)
-counted_is m d normal plane carried radius1 xf2 radius2 r m_two carried_is r_is =
-    r_is ∙ ap (at_plane normal plane radius1 radius2) carried_is
-    ∙ ap (λ (p : B2manifoldPoint). at_plane normal plane radius1 radius2
-    (b2_mul_transform_by_vec2 xf2 p.local_point))
-    (second_place m.points d default_point m_two)
 
 chosen_middle : (t : Bool) (a b : WorldPoint) → (cond t a b).middle ≡ cond t a.middle b.middle
 chosen_middle true a b = refl

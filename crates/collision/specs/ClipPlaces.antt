@@ -2,7 +2,7 @@
 use Rattle.std.specs.Prelude.{List, [], ◌∷◌, length}
 use Rattle.algebra.specs.Buffer.{over}
 use Rattle.contact_definitions.specs.declared.b2_collision.B2clipVertex.{B2clipVertex}
-use Rattle.collision.specs.declared.clip.Clip.{Clip}
+use Rattle.contact_definitions.specs.declared.b2_collision.Clip.{Clip}
 
 abbrev pub left_over : List B2clipVertex → List B2clipVertex → Clip
 left_over left old = record { out = over left old; count = length left }

@@ -1,29 +1,26 @@
 // Point states and clipping as calls (Box2D's b2_collision.cpp): 7 for a count above 2, 9 for a number out of range.
 // Its world points stand in b2_world_manifold.
-ghost use Rattle.std.specs.Prelude.{◌≡◌};
-ghost use Rattle.contact_definitions.specs.PointStates.{same_id, id_among, ids_of, ids_in, point_state, states_of_ids};
+ghost use Rattle.std.specs.Prelude.{◌≡◌, cond};
+ghost use Rattle.contact_definitions.specs.Answers.{clip_answered, states_answered};
+ghost use Rattle.contact_definitions.specs.PointStates.{same_id, id_among, ids_of, ids_in, states_of_ids};
 ghost use Rattle.contact_definitions.specs.PointStates.{b2_get_point_states};
+ghost use Rattle.contact_definitions.specs.declared.b2_collision.B2pointState.TheVariants.{B2NullState, B2PersistState};
 ghost use Rattle.contact_definitions.specs.Clip.{clip_in_range, b2_clip_segment_to_line};
 
 use crate::clip;
 use contact_definitions::b2_collision::{
-    B2clipVertex, B2contactId, B2manifold, B2pointState, ClipAnswer, CountedIds, PointStates,
-    PointStatesAnswer,
+    B2clipVertex, B2contactId, B2manifold, B2pointState, Clip, CountedIds, PointStates,
 };
 use floats::b2_common::B2_MAX_MANIFOLD_POINTS;
 use floats::b2_math::B2vec2;
 use floats::ranges;
-use shape_definitions::refusal;
+use shape_definitions::refusal::Refusal;
 
 // Whether two ids are one: all four numbers.
 pub fn same_id(a: B2contactId, b: B2contactId) -> bool
     ensures { result ≡ same_id a b }
 {
-    let index_a = a.cf.index_a == b.cf.index_a;
-    let index_b = a.cf.index_b == b.cf.index_b;
-    let type_a = a.cf.type_a == b.cf.type_a;
-    let type_b = a.cf.type_b == b.cf.type_b;
-    index_a & index_b & type_a & type_b
+    a == b
 }
 
 fn id_among(id: B2contactId, others: CountedIds) -> bool
@@ -41,29 +38,14 @@ fn id_among(id: B2contactId, others: CountedIds) -> bool
     first | second
 }
 
-fn first_state(alone: B2pointState, mine: CountedIds, others: CountedIds) -> B2pointState
-    ensures { result ≡ point_state alone (ids_in mine) (ids_in others) 0 }
+// The state of a point with this id: null where it isn't counted, and alone where the others have none of its id.
+fn state_of(alone: B2pointState, counted: bool, id: B2contactId, others: CountedIds) -> B2pointState
+    ensures { result ≡ cond counted (cond (id_among id (ids_in others)) B2PersistState alone) B2NullState }
 {
-    if mine.count == 0 {
+    if !counted {
         return B2pointState::B2NullState;
     }
-    if id_among(mine.first, others) {
-        return B2pointState::B2PersistState;
-    }
-    alone
-}
-
-fn second_state(alone: B2pointState, mine: CountedIds, others: CountedIds) -> B2pointState
-    ensures { result ≡ point_state alone (ids_in mine) (ids_in others) 1 }
-{
-    let count = mine.count;
-    if count == 0 {
-        return B2pointState::B2NullState;
-    }
-    if count == 1 {
-        return B2pointState::B2NullState;
-    }
-    if id_among(mine.second, others) {
+    if id_among(id, others) {
         return B2pointState::B2PersistState;
     }
     alone
@@ -73,10 +55,10 @@ fn second_state(alone: B2pointState, mine: CountedIds, others: CountedIds) -> B2
 pub fn states_of_ids(old: CountedIds, new: CountedIds) -> PointStates
     ensures { result ≡ states_of_ids (ids_in old) (ids_in new) }
 {
-    let old0 = first_state(B2pointState::B2RemoveState, old, new);
-    let old1 = second_state(B2pointState::B2RemoveState, old, new);
-    let new0 = first_state(B2pointState::B2AddState, new, old);
-    let new1 = second_state(B2pointState::B2AddState, new, old);
+    let old0 = state_of(B2pointState::B2RemoveState, old.count > 0, old.first, new);
+    let old1 = state_of(B2pointState::B2RemoveState, old.count > 1, old.second, new);
+    let new0 = state_of(B2pointState::B2AddState, new.count > 0, new.first, old);
+    let new1 = state_of(B2pointState::B2AddState, new.count > 1, new.second, old);
     PointStates {
         old0,
         old1,
@@ -100,33 +82,24 @@ pub fn counted_ids(m: B2manifold) -> CountedIds
     }
 }
 
-// The states of both manifolds' points; where a count is above 2, the states that were given.
+// The states of both manifolds' points. given is what the caller has where it is refused: only the contract speaks
+// of it.
 pub fn b2_get_point_states(
     given: PointStates,
     manifold1: B2manifold,
     manifold2: B2manifold,
-) -> PointStatesAnswer
-    ensures { result ≡ b2_get_point_states given manifold1 manifold2 }
+) -> Result<PointStates, Refusal>
+    ensures { states_answered given result ≡ b2_get_point_states given manifold1 manifold2 }
 {
     let count1 = manifold1.point_count;
     let count2 = manifold2.point_count;
     if count1 > B2_MAX_MANIFOLD_POINTS {
-        return PointStatesAnswer {
-            states: given,
-            refusal: refusal::COUNT_OUT_OF_RANGE,
-        };
+        return Err(Refusal::CountOutOfRange);
     }
     if count2 > B2_MAX_MANIFOLD_POINTS {
-        return PointStatesAnswer {
-            states: given,
-            refusal: refusal::COUNT_OUT_OF_RANGE,
-        };
+        return Err(Refusal::CountOutOfRange);
     }
-    let states = states_of_ids(counted_ids(manifold1), counted_ids(manifold2));
-    PointStatesAnswer {
-        states,
-        refusal: refusal::ACCEPTED,
-    }
+    Ok(states_of_ids(counted_ids(manifold1), counted_ids(manifold2)))
 }
 
 fn clip_in_range(ends: [B2clipVertex; 2], normal: B2vec2, offset: f32) -> bool
@@ -148,21 +121,11 @@ pub fn b2_clip_segment_to_line(
     normal: B2vec2,
     offset: f32,
     index: usize,
-) -> ClipAnswer
-    ensures { result ≡ b2_clip_segment_to_line old ends normal offset index }
+) -> Result<Clip, Refusal>
+    ensures { clip_answered old result ≡ b2_clip_segment_to_line old ends normal offset index }
 {
     if clip_in_range(ends, normal, offset) {
-        let left = clip::clip_ends(old, ends, normal, offset, index);
-        let points = left.out;
-        return ClipAnswer {
-            points,
-            count: left.count,
-            refusal: refusal::ACCEPTED,
-        };
+        return Ok(clip::clip_ends(old, ends, normal, offset, index));
     }
-    ClipAnswer {
-        points: old,
-        count: 0,
-        refusal: refusal::CONTACT_OUT_OF_RANGE,
-    }
+    Err(Refusal::ContactOutOfRange)
 }

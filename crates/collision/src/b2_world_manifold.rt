@@ -4,14 +4,15 @@ ghost use Rattle.std.specs.Prelude.{◌≡◌, ◌&&◌, ◌<◌, ◌≤◌};
 ghost use Rattle.floats.specs.Ranges.{radius_in_range};
 ghost use Rattle.contact_definitions.specs.WorldManifold.{manifold_in_range, world_of_kind};
 ghost use Rattle.contact_definitions.specs.WorldManifold.{b2_world_manifold_initialize};
-ghost use Rattle.collision.specs.WorldAnswer.{world_answer};
+ghost use Rattle.contact_definitions.specs.Answers.{world_answered};
+ghost use Rattle.collision.specs.WorldAnswer.{world_written};
 
 use crate::{pair_ranges, world_points};
-use contact_definitions::b2_collision::{B2manifold, B2manifoldType, B2worldManifold, WorldAnswer};
+use contact_definitions::b2_collision::{B2manifold, B2manifoldType, B2worldManifold};
 use floats::b2_common::B2_MAX_MANIFOLD_POINTS;
 use floats::b2_math::B2Transform;
 use floats::ranges;
-use shape_definitions::refusal;
+use shape_definitions::refusal::Refusal;
 
 // Tested together, so that the compiler can do it side by side; then the second point, where it is counted.
 fn numbers_in_range(m: B2manifold, radius_a: f32, radius_b: f32) -> bool
@@ -52,10 +53,10 @@ fn world_of_kind(
             world_points::world_of_circles(old, m, xf_a, radius_a, xf_b, radius_b)
         }
         B2manifoldType::EFaceA => {
-            world_points::world_of_face_a(old, m, xf_a, radius_a, xf_b, radius_b)
+            world_points::world_of_face::<false>(old, m, xf_a, radius_a, xf_b, radius_b)
         }
         B2manifoldType::EFaceB => {
-            world_points::world_of_face_b(old, m, xf_b, radius_b, xf_a, radius_a)
+            world_points::world_of_face::<true>(old, m, xf_b, radius_b, xf_a, radius_a)
         }
     }
 }
@@ -68,43 +69,27 @@ pub fn b2_world_manifold_initialize_core(
     radius_a: f32,
     xf_b: B2Transform,
     radius_b: f32,
-) -> WorldAnswer
-    ensures { result ≡ b2_world_manifold_initialize old m xf_a radius_a xf_b radius_b }
+) -> Result<B2worldManifold, Refusal>
+    ensures { world_answered old result ≡ b2_world_manifold_initialize old m xf_a radius_a xf_b radius_b }
 {
     let count = m.point_count;
     if count > B2_MAX_MANIFOLD_POINTS {
-        return WorldAnswer {
-            world: old,
-            refusal: refusal::COUNT_OUT_OF_RANGE,
-        };
+        return Err(Refusal::CountOutOfRange);
     }
     if count == 0 {
-        return WorldAnswer {
-            world: old,
-            refusal: refusal::ACCEPTED,
-        };
+        return Ok(old);
     }
     if !numbers_in_range(m, radius_a, radius_b) {
-        return WorldAnswer {
-            world: old,
-            refusal: refusal::CONTACT_OUT_OF_RANGE,
-        };
+        return Err(Refusal::ContactOutOfRange);
     }
     if !pair_ranges::placements_in_range(xf_a, xf_b) {
-        return WorldAnswer {
-            world: old,
-            refusal: refusal::PLACEMENT_OUT_OF_RANGE,
-        };
+        return Err(Refusal::PlacementOutOfRange);
     }
     let kind = m.manifold_type;
-    let world = world_of_kind(kind, old, m, xf_a, radius_a, xf_b, radius_b);
-    WorldAnswer {
-        world,
-        refusal: refusal::ACCEPTED,
-    }
+    Ok(world_of_kind(kind, old, m, xf_a, radius_a, xf_b, radius_b))
 }
 
-// The same, with the caller's record changed through a reference: the refusal, or 0.
+// The same, with the caller's record changed through a reference.
 pub fn b2_world_manifold_initialize(
     world: &mut B2worldManifold,
     m: B2manifold,
@@ -112,11 +97,10 @@ pub fn b2_world_manifold_initialize(
     radius_a: f32,
     xf_b: B2Transform,
     radius_b: f32,
-) -> u8
-    ensures { world_answer world.new result
+) -> Result<(), Refusal>
+    ensures { world_written world.new result
         ≡ b2_world_manifold_initialize world.old m xf_a radius_a xf_b radius_b }
 {
-    let a = b2_world_manifold_initialize_core(*world, m, xf_a, radius_a, xf_b, radius_b);
-    *world = a.world;
-    a.refusal
+    *world = b2_world_manifold_initialize_core(*world, m, xf_a, radius_a, xf_b, radius_b)?;
+    Ok(())
 }

@@ -4,15 +4,8 @@ ghost use Rattle.contact_definitions.specs.Clip.{clip_distance, crossing, clippe
 ghost use Rattle.collision.specs.ClipPlaces.{two_ends, left_over};
 
 use crate::manifolds::contact_id;
-use contact_definitions::b2_collision::{B2clipVertex, B2contactFeatureType};
+use contact_definitions::b2_collision::{B2clipVertex, B2contactFeatureType, Clip};
 use floats::b2_math::{B2vec2, b2_add, b2_dot, b2_scale, b2_sub};
-
-// The output places, and how many ends were written there.
-#[derive(Clone, Copy)]
-pub struct Clip {
-    pub out: [B2clipVertex; 2],
-    pub count: usize,
-}
 
 // The distance of an end from the line.
 pub fn clip_distance(n: B2vec2, offset: f32, e: B2clipVertex) -> f32

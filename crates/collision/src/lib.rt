@@ -8,7 +8,8 @@ pub mod b2_world_manifold;
 pub mod clip;
 pub mod world_points;
 
-// What the contact calls share: how a call answers, the manifolds it makes, and the tests of its input.
+// What the contact calls share: how a call answers, the manifolds it makes, and the tests of its input and of distances.
 pub mod manifold_answer;
 pub mod manifolds;
 pub mod pair_ranges;
+pub mod reach;

@@ -1,39 +1,20 @@
-// Answers of the contact calls: refused, with the manifold that was given, or accepted. A refused call says 2 where a
-// shape's numbers are out of range, and else 6.
+// What the contact calls turn down: an outline's count (7), a shape's numbers that are out of range (2), and else a
+// placement (6).
 ghost use Rattle.std.specs.Prelude.{◌≡◌, cond};
-ghost use Rattle.contact_definitions.specs.Manifold.{manifold_refused, manifold_accepted, miscounted};
-ghost use Rattle.shape_definitions.specs.Refusal.{shape_out_of_range, placement_out_of_range};
+ghost use Rattle.contact_definitions.specs.Manifold.{miscounted};
+ghost use Rattle.shape_definitions.specs.declared.refusal.Refusal.TheVariants.{ShapeOutOfRange, PlacementOutOfRange};
 
-use contact_definitions::b2_collision::{B2manifold, ManifoldAnswer};
 use floats::b2_settings::B2_MAX_POLYGON_VERTICES;
-use shape_definitions::refusal;
+use shape_definitions::refusal::Refusal;
 
-pub fn refused(m: B2manifold, number: u8) -> ManifoldAnswer
-    ensures { result ≡ manifold_refused number m }
-{
-    ManifoldAnswer {
-        manifold: m,
-        refusal: number,
-    }
-}
-
-// Where something is out of range: the shapes' numbers, or else the placements.
-pub fn out_of_range(m: B2manifold, shapes: bool) -> ManifoldAnswer
-    ensures { result ≡ cond shapes (manifold_refused placement_out_of_range m)
-        (manifold_refused shape_out_of_range m) }
+// Where something is out of range: the placements, where the shapes' numbers are in range, or else those.
+pub fn out_of_range(shapes: bool) -> Refusal
+    ensures { result ≡ cond shapes PlacementOutOfRange ShapeOutOfRange }
 {
     if shapes {
-        return refused(m, refusal::PLACEMENT_OUT_OF_RANGE);
-    }
-    refused(m, refusal::SHAPE_OUT_OF_RANGE)
-}
-
-pub fn accepted(m: B2manifold) -> ManifoldAnswer
-    ensures { result ≡ manifold_accepted m }
-{
-    ManifoldAnswer {
-        manifold: m,
-        refusal: refusal::ACCEPTED,
+        Refusal::PlacementOutOfRange
+    } else {
+        Refusal::ShapeOutOfRange
     }
 }
 

@@ -12,16 +12,6 @@ use contact_definitions::b2_collision::{
 };
 use floats::b2_math::B2vec2;
 
-// The number of a feature's type.
-fn feature_number(t: B2contactFeatureType) -> u8
-    ensures { result ≡ feature_number t }
-{
-    match t {
-        B2contactFeatureType::EVertex => 0,
-        B2contactFeatureType::EFace => 1,
-    }
-}
-
 // The id of two features: a place on each shape, and what meets there.
 pub fn contact_id(
     index_a: u8,
@@ -35,8 +25,8 @@ pub fn contact_id(
         cf: B2contactFeature {
             index_a,
             index_b,
-            type_a: feature_number(type_a),
-            type_b: feature_number(type_b),
+            type_a: u8::from(type_a),
+            type_b: u8::from(type_b),
         },
     }
 }
@@ -169,7 +159,8 @@ pub fn point_of(old: B2manifoldPoint, local_point: B2vec2, id: B2contactId) -> B
     }
 }
 
-// The two places, and how many points were written there.
+// The two places, and how many points were written there. A place past the count keeps its old point, of which the
+// contracts speak, and there is no heap: so both stand beside the count.
 #[derive(Clone, Copy)]
 pub struct Kept {
     pub points: [B2manifoldPoint; 2],

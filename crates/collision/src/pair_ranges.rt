@@ -62,9 +62,9 @@ pub fn circles_in_range(a: B2circleShape, b: B2circleShape) -> bool
 }
 
 // The corners and normals of an outline: the first four places are tested always and, above a count of 4, the last
-// four; only where that fails are the places below the count told from those past it. The same test stands here once
-// for each caller: as one function with several it is not inlined.
-fn points_by_circle(vs: [B2vec2; 8], ns: [B2vec2; 8], count: usize) -> bool
+// four; only where that fails are the places below the count told from those past it. The number names the caller:
+// it gives each a function of its own, which is inlined.
+fn outline_points_in_range<const CALLER: u8>(vs: [B2vec2; 8], ns: [B2vec2; 8], count: usize) -> bool
     ensures { result ≡ points_in_range vs ns count }
 {
     let v = polygon_range::four_within(ranges::SHAPE_LIMIT, vs, 0);
@@ -92,16 +92,10 @@ pub fn polygon_circle_in_range(a: B2polygonShape, b: B2circleShape) -> bool
     }
     let vs = a.m_vertices;
     let ns = a.m_normals;
-    points_by_circle(vs, ns, a.m_count)
+    outline_points_in_range::<0>(vs, ns, a.m_count)
 }
 
-fn greater_count(a: usize, b: usize) -> usize
-    ensures { (a ≤ result) × (b ≤ result) }
-{
-    if a < b { b } else { a }
-}
-
-// The corners and normals of two outlines.
+// The corners and normals of two outlines, handed on by themselves: an outline by value is copied whole.
 fn points_of_both(
     va: [B2vec2; 8],
     na: [B2vec2; 8],
@@ -117,7 +111,7 @@ fn points_of_both(
     let v2 = polygon_range::four_within(ranges::SHAPE_LIMIT, vb, 0);
     let n2 = polygon_range::four_within(ranges::NORMAL_LIMIT, nb, 0);
     if (v1 & n1) & (v2 & n2) {
-        if greater_count(ca, cb) <= 4 {
+        if ca.max(cb) <= 4 {
             return true;
         }
         let w1 = polygon_range::four_within(ranges::SHAPE_LIMIT, va, 4);
@@ -177,24 +171,6 @@ pub fn edge_circle_in_range(a: B2edgeShape, b: B2circleShape) -> bool
     edge_and_head_in_range(a, b.m_radius, b.m_p.x, b.m_p.y)
 }
 
-fn points_by_edge(vs: [B2vec2; 8], ns: [B2vec2; 8], count: usize) -> bool
-    ensures { result ≡ points_in_range vs ns count }
-{
-    let v = polygon_range::four_within(ranges::SHAPE_LIMIT, vs, 0);
-    let n = polygon_range::four_within(ranges::NORMAL_LIMIT, ns, 0);
-    if v & n {
-        if count <= 4 {
-            return true;
-        }
-        let w = polygon_range::four_within(ranges::SHAPE_LIMIT, vs, 4);
-        let m = polygon_range::four_within(ranges::NORMAL_LIMIT, ns, 4);
-        if w & m {
-            return true;
-        }
-    }
-    points_in_range(vs, ns, count)
-}
-
 pub fn edge_polygon_in_range(a: B2edgeShape, b: B2polygonShape) -> bool
     ensures { result ≡ (edge_in_range a && polygon_in_range b) }
 {
@@ -203,5 +179,5 @@ pub fn edge_polygon_in_range(a: B2edgeShape, b: B2polygonShape) -> bool
     }
     let vs = b.m_vertices;
     let ns = b.m_normals;
-    points_by_edge(vs, ns, b.m_count)
+    outline_points_in_range::<1>(vs, ns, b.m_count)
 }

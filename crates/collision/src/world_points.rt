@@ -1,6 +1,6 @@
 // The world points of circles and of a face, once the input is tested. Of circles only the first place is written; of a
 // face, 1 is the shape that has it and 2 the other.
-ghost use Rattle.std.specs.Prelude.{◌≡◌, true, false, ◌<◌, ◌≤◌};
+ghost use Rattle.std.specs.Prelude.{◌≡◌, ◌<◌, ◌≤◌};
 ghost use Rattle.contact_definitions.specs.WorldManifold.{circles_normal, world_of_circles, world_of_face};
 ghost use Rattle.collision.specs.FacePoints.{at_plane, second_of};
 
@@ -100,8 +100,9 @@ fn second_point(
     face_point(normal, plane, radius1, radius2, carried)
 }
 
-// A face of A. The same stands here for a face of B: as one function with two callers it is not inlined.
-pub fn world_of_face_a(
+// A face, of B where OF_B: then the normal is turned round, to point from A to B. A parameter of the type gives each
+// caller a function of its own, which is inlined.
+pub fn world_of_face<const OF_B: bool>(
     old: B2worldManifold,
     m: B2manifold,
     xf1: B2Transform,
@@ -110,7 +111,7 @@ pub fn world_of_face_a(
     radius2: f32,
 ) -> B2worldManifold
     requires { (0 < m.point_count) × (m.point_count ≤ 2) }
-    ensures { result ≡ world_of_face false old m xf1 radius1 xf2 radius2 }
+    ensures { result ≡ world_of_face OF_B old m xf1 radius1 xf2 radius2 }
 {
     let normal = b2_mul_rot_by_vec2(xf1.q, m.local_normal);
     let plane = b2_mul_transform_by_vec2(xf1, m.local_point);
@@ -121,34 +122,7 @@ pub fn world_of_face_a(
     let middle0 = first.middle;
     let middle1 = second.middle;
     B2worldManifold {
-        normal,
-        points: [middle0, middle1],
-        separations: [first.separation, second.separation],
-    }
-}
-
-// A face of B: the normal is turned round, to point from A to B.
-pub fn world_of_face_b(
-    old: B2worldManifold,
-    m: B2manifold,
-    xf1: B2Transform,
-    radius1: f32,
-    xf2: B2Transform,
-    radius2: f32,
-) -> B2worldManifold
-    requires { (0 < m.point_count) × (m.point_count ≤ 2) }
-    ensures { result ≡ world_of_face true old m xf1 radius1 xf2 radius2 }
-{
-    let normal = b2_mul_rot_by_vec2(xf1.q, m.local_normal);
-    let plane = b2_mul_transform_by_vec2(xf1, m.local_point);
-    let p0 = m.points[0];
-    let carried = b2_mul_transform_by_vec2(xf2, p0.local_point);
-    let first = face_point(normal, plane, radius1, radius2, carried);
-    let second = second_point(old, m, normal, plane, radius1, xf2, radius2);
-    let middle0 = first.middle;
-    let middle1 = second.middle;
-    B2worldManifold {
-        normal: b2_neg(normal),
+        normal: if OF_B { b2_neg(normal) } else { normal },
         points: [middle0, middle1],
         separations: [first.separation, second.separation],
     }

@@ -11,7 +11,7 @@ use Rattle.floats.specs.Ranges.{contact_number_in_range, contact_point_in_range}
 use Rattle.shape_definitions.specs.Refusal.{accepted, contact_out_of_range}
 use Rattle.contact_definitions.specs.declared.b2_collision.B2clipVertex.{B2clipVertex}
 use Rattle.contact_definitions.specs.declared.b2_collision.B2contactId.{B2contactId}
-use Rattle.contact_definitions.specs.declared.b2_collision.ClipAnswer.{ClipAnswer}
+use Rattle.contact_definitions.specs.Answers.{ClipAnswer}
 use Rattle.contact_definitions.specs.Clip.{clip_distance, crossing, clipped_by, clipped, clip_in_range}
 use Rattle.contact_definitions.specs.Clip.{b2_clip_segment_to_line}
 use Rattle.contact_definitions.specs.Manifold.{contact_id}

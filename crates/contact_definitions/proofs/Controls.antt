@@ -27,8 +27,8 @@ use Rattle.contact_definitions.specs.declared.b2_collision.B2manifold.{B2manifol
 use Rattle.contact_definitions.specs.declared.b2_collision.B2manifoldPoint.{B2manifoldPoint}
 use Rattle.contact_definitions.specs.declared.b2_collision.B2manifoldType.{B2manifoldType}
 use Rattle.contact_definitions.specs.declared.b2_collision.B2manifoldType.TheVariants.{ECircles, EFaceA}
-use Rattle.contact_definitions.specs.declared.b2_collision.ClipAnswer.{ClipAnswer}
-use Rattle.contact_definitions.specs.declared.b2_collision.ManifoldAnswer.{ManifoldAnswer}
+use Rattle.contact_definitions.specs.Answers.{ClipAnswer}
+use Rattle.contact_definitions.specs.Answers.{ManifoldAnswer}
 use Rattle.shape_definitions.specs.Circle.{circle_in_range}
 use Rattle.contact_definitions.specs.B2CollideCircle.{farther, circles_manifold}
 use Rattle.contact_definitions.specs.B2CollideCircle.{b2_collide_circles}

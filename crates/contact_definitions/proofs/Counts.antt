@@ -17,7 +17,7 @@ use Rattle.contact_definitions.specs.declared.b2_collision.B2manifoldType.{B2man
 use Rattle.contact_definitions.specs.declared.b2_collision.B2manifoldType.TheVariants.{EFaceA, EFaceB}
 use Rattle.contact_definitions.specs.declared.b2_collision.B2manifold.{B2manifold}
 use Rattle.contact_definitions.specs.declared.b2_collision.B2clipVertex.{B2clipVertex}
-use Rattle.contact_definitions.specs.declared.b2_collision.ManifoldAnswer.{ManifoldAnswer}
+use Rattle.contact_definitions.specs.Answers.{ManifoldAnswer}
 use Rattle.contact_definitions.specs.declared.b2_collide_edge.B2referenceFace.{B2referenceFace}
 use Rattle.contact_definitions.specs.Manifold.{with_count, with_kind, with_one_point, manifold_refused}
 use Rattle.contact_definitions.specs.Manifold.{unless_miscounted, where_in_range}

@@ -15,7 +15,7 @@ use Rattle.contact_definitions.specs.declared.b2_collision.B2pointState.TheVaria
 use Rattle.contact_definitions.specs.declared.b2_collision.B2pointState.TheVariants.{B2PersistState}
 use Rattle.contact_definitions.specs.declared.b2_collision.B2pointState.TheVariants.{B2RemoveState}
 use Rattle.contact_definitions.specs.declared.b2_collision.PointStates.{PointStates}
-use Rattle.contact_definitions.specs.declared.b2_collision.PointStatesAnswer.{PointStatesAnswer}
+use Rattle.contact_definitions.specs.Answers.{PointStatesAnswer}
 use Rattle.contact_definitions.specs.Manifold.{counted_points, contact_id, kind_number}
 use Rattle.contact_definitions.specs.PointStates.{same_id, id_among, counted_ids, ids_in, point_state}
 use Rattle.contact_definitions.specs.PointStates.{states_of_ids, b2_get_point_states, state_number}

@@ -26,7 +26,7 @@ use native.Mathlib.Omega.{arith}
 use mathlib.Core.Bool.{not}
 use Rattle.algebra.specs.Buffer.{over}
 use Rattle.shape_definitions.specs.Refusal.{accepted, contact_out_of_range}
-use Rattle.contact_definitions.specs.declared.b2_collision.ClipAnswer.{ClipAnswer}
+use Rattle.contact_definitions.specs.Answers.{ClipAnswer}
 use Rattle.contact_definitions.specs.Clip.{clipped, clip_in_range}
 use Rattle.contact_definitions.proofs.CircleCounts.{circles_few, polygon_circle_few, edge_circle_few}
 use Rattle.contact_definitions.proofs.FaceCounts.{polygons_on_face, edge_polygon_on_face}

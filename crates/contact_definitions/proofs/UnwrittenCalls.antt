@@ -24,7 +24,7 @@ use Rattle.contact_definitions.specs.declared.b2_collision.B2contactId.{B2contac
 use Rattle.contact_definitions.specs.declared.b2_collision.B2manifold.{B2manifold}
 use Rattle.contact_definitions.specs.declared.b2_collision.B2manifoldPoint.{B2manifoldPoint}
 use Rattle.contact_definitions.specs.declared.b2_collision.B2manifoldType.TheVariants.{ECircles, EFaceA, EFaceB}
-use Rattle.contact_definitions.specs.declared.b2_collision.ManifoldAnswer.{ManifoldAnswer}
+use Rattle.contact_definitions.specs.Answers.{ManifoldAnswer}
 use Rattle.contact_definitions.specs.Manifold.{with_count, with_kind, default_id, swapped_id, miscounted}
 use Rattle.contact_definitions.specs.Manifold.{unless_miscounted, where_in_range}
 use Rattle.contact_definitions.specs.Unwritten.{unwritten, AsGiven}

@@ -20,8 +20,8 @@ use Rattle.shape_definitions.specs.Refusal.{accepted, shape_out_of_range, placem
 use Rattle.shape_definitions.specs.Refusal.{contact_out_of_range}
 use Rattle.contact_definitions.specs.declared.b2_collision.B2manifold.{B2manifold}
 use Rattle.contact_definitions.specs.declared.b2_collision.B2worldManifold.{B2worldManifold}
-use Rattle.contact_definitions.specs.declared.b2_collision.ManifoldAnswer.{ManifoldAnswer}
-use Rattle.contact_definitions.specs.declared.b2_collision.WorldAnswer.{WorldAnswer}
+use Rattle.contact_definitions.specs.Answers.{ManifoldAnswer}
+use Rattle.contact_definitions.specs.Answers.{WorldAnswer}
 use Rattle.contact_definitions.specs.Manifold.{manifold_refused, miscounted, unless_miscounted, where_in_range}
 use Rattle.contact_definitions.specs.B2CollideCircle.{b2_collide_circles, b2_collide_polygon_and_circle}
 use Rattle.contact_definitions.specs.B2CollidePolygon.{b2_collide_polygons}

@@ -17,7 +17,7 @@ use Rattle.shape_definitions.specs.Validate.{polygon_in_range}
 use Rattle.contact_definitions.specs.declared.axis.Best.{Best}
 use Rattle.contact_definitions.specs.declared.b2_collision.B2manifold.{B2manifold}
 use Rattle.contact_definitions.specs.declared.b2_collision.B2manifoldType.TheVariants.{ECircles, EFaceA}
-use Rattle.contact_definitions.specs.declared.b2_collision.ManifoldAnswer.{ManifoldAnswer}
+use Rattle.contact_definitions.specs.Answers.{ManifoldAnswer}
 use Rattle.contact_definitions.specs.Searches.{some_below, first_greatest}
 use Rattle.contact_definitions.specs.Manifold.{default_id, with_count, with_one_point, manifold_accepted}
 use Rattle.contact_definitions.specs.Manifold.{miscounted}

@@ -17,7 +17,7 @@ use Rattle.shape_definitions.specs.Edge.{edge_in_range}
 use Rattle.shape_definitions.specs.Validate.{polygon_in_range}
 use Rattle.contact_definitions.specs.declared.b2_collision.B2manifold.{B2manifold}
 use Rattle.contact_definitions.specs.declared.b2_collision.B2manifoldType.TheVariants.{ECircles, EFaceA}
-use Rattle.contact_definitions.specs.declared.b2_collision.ManifoldAnswer.{ManifoldAnswer}
+use Rattle.contact_definitions.specs.Answers.{ManifoldAnswer}
 use Rattle.shape_definitions.specs.Refusal.{wall_too_short}
 use Rattle.contact_definitions.specs.Manifold.{vertex_feature, face_feature, contact_id}
 use Rattle.contact_definitions.specs.Manifold.{with_count, with_one_point, manifold_refused, manifold_accepted}

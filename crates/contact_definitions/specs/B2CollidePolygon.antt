@@ -24,7 +24,7 @@ use Rattle.contact_definitions.specs.declared.b2_collision.B2manifoldPoint.{B2ma
 use Rattle.contact_definitions.specs.declared.b2_collision.B2manifold.{B2manifold}
 use Rattle.contact_definitions.specs.declared.b2_collision.B2manifoldType.TheVariants.{EFaceA, EFaceB}
 use Rattle.contact_definitions.specs.declared.b2_collision.B2clipVertex.{B2clipVertex}
-use Rattle.contact_definitions.specs.declared.b2_collision.ManifoldAnswer.{ManifoldAnswer}
+use Rattle.contact_definitions.specs.Answers.{ManifoldAnswer}
 use Rattle.contact_definitions.specs.declared.b2_collide_edge.B2referenceFace.{B2referenceFace}
 use Rattle.contact_definitions.specs.Searches.{least, first_greatest, first_least}
 use Rattle.contact_definitions.specs.Axis.{face_a, face_b}

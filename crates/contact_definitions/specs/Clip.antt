@@ -11,7 +11,7 @@ use Rattle.floats.specs.B2Math.{b2_add, b2_sub, b2_scale, b2_dot}
 use Rattle.floats.specs.Ranges.{contact_number_in_range, contact_point_in_range}
 use Rattle.shape_definitions.specs.Refusal.{accepted}
 use Rattle.contact_definitions.specs.declared.b2_collision.B2clipVertex.{B2clipVertex}
-use Rattle.contact_definitions.specs.declared.b2_collision.ClipAnswer.{ClipAnswer}
+use Rattle.contact_definitions.specs.Answers.{ClipAnswer}
 use Rattle.shape_definitions.specs.Refusal.{contact_out_of_range}
 use Rattle.contact_definitions.specs.Manifold.{vertex_feature, face_feature, as_byte, contact_id}
 

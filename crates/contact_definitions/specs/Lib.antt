@@ -1,3 +1,4 @@
+pub mod Answers
 pub mod Searches
 pub mod Axis
 pub mod Manifold

@@ -12,7 +12,7 @@ use Rattle.contact_definitions.specs.declared.b2_collision.B2pointState.TheVaria
 use Rattle.contact_definitions.specs.declared.b2_collision.B2pointState.TheVariants.{B2PersistState}
 use Rattle.contact_definitions.specs.declared.b2_collision.B2pointState.TheVariants.{B2RemoveState}
 use Rattle.contact_definitions.specs.declared.b2_collision.PointStates.{PointStates}
-use Rattle.contact_definitions.specs.declared.b2_collision.PointStatesAnswer.{PointStatesAnswer}
+use Rattle.contact_definitions.specs.Answers.{PointStatesAnswer}
 use Rattle.contact_definitions.specs.Manifold.{as_byte, default_id, manifold_point, counted_points}
 
 -- document 01's number of a state

@@ -20,7 +20,7 @@ use Rattle.contact_definitions.specs.declared.b2_collision.B2manifoldType.{B2man
 use Rattle.contact_definitions.specs.declared.b2_collision.B2manifoldType.TheVariants.{ECircles, EFaceA, EFaceB}
 use Rattle.contact_definitions.specs.declared.b2_collision.B2manifold.{B2manifold}
 use Rattle.contact_definitions.specs.declared.b2_collision.B2worldManifold.{B2worldManifold}
-use Rattle.contact_definitions.specs.declared.b2_collision.WorldAnswer.{WorldAnswer}
+use Rattle.contact_definitions.specs.Answers.{WorldAnswer}
 use Rattle.shape_definitions.specs.Refusal.{contact_out_of_range}
 use Rattle.contact_definitions.specs.Manifold.{manifold_point, counted_points}
 

@@ -1,4 +1,8 @@
-// Manifolds, clip vertices, world manifolds and point states (Box2D's b2_collision.h).
+// Manifolds, clip vertices, world manifolds and point states (Box2D's b2_collision.h). Kinds have document 01's numbers.
+ghost use Rattle.std.specs.Prelude.{◌≡◌, ◌<◌, MatchResult};
+ghost use Rattle.contact_definitions.specs.Manifold.{feature_number, kind_number};
+ghost use Rattle.contact_definitions.specs.PointStates.{state_number};
+
 use floats::b2_math::B2vec2;
 
 // What of a shape meets another in a contact point.
@@ -8,8 +12,20 @@ pub enum B2contactFeatureType {
     EFace,
 }
 
-// The two features that meet in a contact point: a place on each shape, and the number of its feature's type.
-#[derive(Clone, Copy)]
+impl From<B2contactFeatureType> for u8 {
+    ghost from_gives = { λ kind number. number ≡ feature_number kind };
+
+    fn from(kind: B2contactFeatureType) -> u8 {
+        match kind {
+            B2contactFeatureType::EVertex => 0,
+            B2contactFeatureType::EFace => 1,
+        }
+    }
+}
+
+// The two features that meet in a contact point: a place on each shape, and the number of its feature's type. A number,
+// since a given manifold may hold any: the type would ask more of callers.
+#[derive(Clone, Copy, PartialEq, Eq)]
 pub struct B2contactFeature {
     pub index_a: u8,
     pub index_b: u8,
@@ -17,7 +33,7 @@ pub struct B2contactFeature {
     pub type_b: u8,
 }
 
-#[derive(Clone, Copy)]
+#[derive(Clone, Copy, PartialEq, Eq)]
 pub struct B2contactId {
     pub cf: B2contactFeature,
 }
@@ -32,11 +48,43 @@ pub struct B2manifoldPoint {
     pub age: u32,
 }
 
+// A number that is none of a kind of manifold, or none of a point state.
+#[derive(Clone, Copy, Debug, PartialEq, Eq)]
+pub struct UnknownNumber(pub u32);
+
 #[derive(Clone, Copy)]
 pub enum B2manifoldType {
     ECircles,
     EFaceA,
     EFaceB,
+}
+
+impl From<B2manifoldType> for u8 {
+    ghost from_gives = { λ kind number. number ≡ kind_number kind };
+
+    fn from(kind: B2manifoldType) -> u8 {
+        match kind {
+            B2manifoldType::ECircles => 0,
+            B2manifoldType::EFaceA => 1,
+            B2manifoldType::EFaceB => 2,
+        }
+    }
+}
+
+impl TryFrom<u32> for B2manifoldType {
+    type Error = UnknownNumber;
+
+    ghost try_from_gives = { λ number result.
+        MatchResult result (λ kind. kind_number kind ≡ number) (λ none. (none.0 ≡ number) × (2 < number)) };
+
+    fn try_from(number: u32) -> Result<Self, UnknownNumber> {
+        match number {
+            0 => Ok(B2manifoldType::ECircles),
+            1 => Ok(B2manifoldType::EFaceA),
+            2 => Ok(B2manifoldType::EFaceB),
+            _ => Err(UnknownNumber(number)),
+        }
+    }
 }
 
 #[derive(Clone, Copy)]
@@ -63,6 +111,36 @@ pub enum B2pointState {
     B2RemoveState,
 }
 
+impl From<B2pointState> for u8 {
+    ghost from_gives = { λ kind number. number ≡ state_number kind };
+
+    fn from(kind: B2pointState) -> u8 {
+        match kind {
+            B2pointState::B2NullState => 0,
+            B2pointState::B2AddState => 1,
+            B2pointState::B2PersistState => 2,
+            B2pointState::B2RemoveState => 3,
+        }
+    }
+}
+
+impl TryFrom<u32> for B2pointState {
+    type Error = UnknownNumber;
+
+    ghost try_from_gives = { λ number result.
+        MatchResult result (λ state. state_number state ≡ number) (λ none. (none.0 ≡ number) × (3 < number)) };
+
+    fn try_from(number: u32) -> Result<Self, UnknownNumber> {
+        match number {
+            0 => Ok(B2pointState::B2NullState),
+            1 => Ok(B2pointState::B2AddState),
+            2 => Ok(B2pointState::B2PersistState),
+            3 => Ok(B2pointState::B2RemoveState),
+            _ => Err(UnknownNumber(number)),
+        }
+    }
+}
+
 #[derive(Clone, Copy)]
 pub struct B2clipVertex {
     pub v: B2vec2,
@@ -87,32 +165,10 @@ pub struct CountedIds {
     pub second: B2contactId,
 }
 
-// What a contact call answers: the manifold and 0, or the manifold that it was given and the refusal.
+// What is left of a segment: the output places, and how many ends were written there. Both places are there, whatever
+// the count: the contract says what those past it hold.
 #[derive(Clone, Copy)]
-pub struct ManifoldAnswer {
-    pub manifold: B2manifold,
-    pub refusal: u8,
-}
-
-// What a clip answers: the output places, the number of points and 0, or the places that it was given, 0 and the
-// refusal.
-#[derive(Clone, Copy)]
-pub struct ClipAnswer {
-    pub points: [B2clipVertex; 2],
+pub struct Clip {
+    pub out: [B2clipVertex; 2],
     pub count: usize,
-    pub refusal: u8,
-}
-
-// What the world points answer: the world manifold and 0, or the one that was given and the refusal.
-#[derive(Clone, Copy)]
-pub struct WorldAnswer {
-    pub world: B2worldManifold,
-    pub refusal: u8,
-}
-
-// What the point states answer: the states and 0, or the states that were given and the refusal.
-#[derive(Clone, Copy)]
-pub struct PointStatesAnswer {
-    pub states: PointStates,
-    pub refusal: u8,
 }

@@ -21,7 +21,8 @@ pub struct B2vec2 {
 }
 
 // A vector made unit, with the length that it had, and whether that was at least B2_EPSILON: where it was below, 0 and
-// the vector as it was.
+// the vector as it was. No Option: a length and a vector come back either way, of a NaN too, and entry 16 of the test
+// door prints them.
 #[derive(Clone, Copy)]
 pub struct Normalized {
     pub had_length: bool,

@@ -1,4 +1,5 @@
-// Which numbers a call takes (document 01, "Ranges"). A NaN is in no range, and every limit is inside its own.
+// Which numbers a call takes (document 01, "Ranges"). A NaN is in no range, and every limit is inside its own. Each
+// range has its name; `within` and `vec2_within` are the one test, the limit an argument.
 ghost use Rattle.std.specs.Prelude.{◌≡◌};
 ghost use Rattle.floats.specs.Ranges as ranges;
 

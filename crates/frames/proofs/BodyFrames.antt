@@ -13,7 +13,7 @@ use Rattle.floats.specs.Ranges.{transform_in_range}
 use Rattle.headings.specs.Headings.{heading}
 use Rattle.lines.specs.Fields.{byte_at, float_at, vector_at, points_at, placement_at}
 use Rattle.lines.proofs.Points.{length_points}
-use Rattle.shape_definitions.specs.declared.b2_edge_shape.EdgeAnswer.{EdgeAnswer}
+use Rattle.shape_definitions.specs.Answers.{EdgeAnswer}
 use Rattle.shape_definitions.specs.declared.b2_polygon_shape.B2polygonShape.{B2polygonShape}
 use Rattle.shape_definitions.specs.declared.b2_polygon_shape.PolygonAnswer.{PolygonAnswer}
 use Rattle.shape_definitions.specs.Circle.{circle_in_range}
@@ -24,14 +24,8 @@ use Rattle.shape_definitions.proofs.Counted.{counted_whole}
 use Rattle.record_definitions.specs.declared.world.Body.{Body}
 use Rattle.record_definitions.specs.declared.world.Pair.{Pair}
 use Rattle.record_definitions.specs.World.{no_body, blank_outline, circle_body, outline_body, wall_body, placed}
-use Rattle.record_definitions.specs.Frame.{refused, defined, moved, wall_at, circle_change, outline_change, wall_change}
-use Rattle.record_definitions.specs.Frame.{place_change, largest_turn, turn_at, turned_placement, turn_change}
-use Rattle.frames.specs.declared.changes.BodyMade.{BodyMade}
-use Rattle.frames.specs.Made.{of_body}
-
--- what is made of a body, with any pair
-pub with_pair : (pair : Pair) {made is : BodyMade} → made ≡ is → of_body made pair ≡ of_body is pair
-with_pair pair = ap (λ (made : BodyMade). of_body made pair)
+use Rattle.record_definitions.specs.Frame.{refused, defined, wall_at, circle_change, outline_change, wall_change}
+use Rattle.record_definitions.specs.Frame.{placed_at, place_change, largest_turn, turn_at, turned_placement, turn_change}
 
 module _ (body : Body) (pair : Pair) (bytes : List ℕ) where
   -- ---- 01: p and r were read
@@ -84,15 +78,10 @@ module _ (body : Body) (pair : Pair) (bytes : List ℕ) where
   unfolding place_change
   place_nothing none = simp (eq-eqb body.kind no_body none)
 
-  module _ (xf : B2Transform) (xf_is : xf ≡ placement_at bytes 2) (some : body.kind ≡ no_body → ⊥) where
-    pub place_taken : transform_in_range xf ≡ true → moved (placed body xf) pair ≡ place_change body pair bytes
-    unfolding place_change
-    place_taken good = rw (← xf_is) (simp (ne_eqb body.kind no_body some, good))
-
-    pub place_refused : transform_in_range xf ≡ false
-        → refused placement_out_of_range body pair ≡ place_change body pair bytes
-    unfolding place_change
-    place_refused bad = rw (← xf_is) (simp (ne_eqb body.kind no_body some, bad))
+  pub place_made : (xf : B2Transform) → xf ≡ placement_at bytes 2 → (body.kind ≡ no_body → ⊥)
+      → placed_at body pair xf ≡ place_change body pair bytes
+  unfolding place_change
+  place_made xf xf_is some = rw xf_is (simp (ne_eqb body.kind no_body some))
 
   -- ---- 06: the number, the position and the heading were read
   pub turn_nothing : body.kind ≡ no_body → refused no_shape body pair ≡ turn_change body pair bytes
@@ -104,24 +93,10 @@ module _ (body : Body) (pair : Pair) (bytes : List ℕ) where
     unfolding turn_change
     turn_unknown above = rw (← number_is) (simp (ne_eqb body.kind no_body some, lt-ltb largest_turn number above))
 
-    module _ (p : B2vec2) (q : B2Rot) (p_is : p ≡ vector_at bytes 2) (q_is : q ≡ heading number)
-        (known : number ≤ largest_turn) where
-      abbrev turned : B2Transform
-      turned = record { p = p; q = q }
-
-      turned_is : turned ≡ turned_placement bytes
-      turned_is = ap₂ (λ (p : B2vec2) (q : B2Rot). record { p = p; q = q }) p_is (q_is ∙ ap heading number_is)
-
-      pub turn_taken : transform_in_range turned ≡ true
-          → moved (placed body turned) pair ≡ turn_change body pair bytes
-      unfolding turn_change
-      turn_taken good =
-          rw (← turned_is, ← number_is)
-          (simp (ne_eqb body.kind no_body some, le-ltb largest_turn number known, good))
-
-      pub turn_refused : transform_in_range turned ≡ false
-          → refused placement_out_of_range body pair ≡ turn_change body pair bytes
-      unfolding turn_change
-      turn_refused bad =
-          rw (← turned_is, ← number_is)
-          (simp (ne_eqb body.kind no_body some, le-ltb largest_turn number known, bad))
+    pub turn_made : (p : B2vec2) (q : B2Rot) → p ≡ vector_at bytes 2 → q ≡ heading number → number ≤ largest_turn
+        → placed_at body pair (record { p = p; q = q }) ≡ turn_change body pair bytes
+    unfolding turn_change
+    turn_made p q p_is q_is known =
+        let turned_is : record { p = p; q = q } ≡ turned_placement bytes =
+        ap₂ (λ (p : B2vec2) (q : B2Rot). record { p = p; q = q }) p_is (q_is ∙ ap heading number_is) in
+        rw (← turned_is, ← number_is) (simp (ne_eqb body.kind no_body some, le-ltb largest_turn number known))

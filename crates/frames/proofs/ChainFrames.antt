@@ -31,35 +31,6 @@ use Rattle.record_definitions.specs.World.{chain_body}
 use Rattle.record_definitions.specs.Frame.{refused, defined, chain_points, chain_at, long_piece, chain_refusal}
 use Rattle.record_definitions.specs.Frame.{chain_change}
 
--- ---- n points: after k of them
-pub record ReadSoFar (bytes : List ℕ) (n : ℕ) (ps : List B2vec2) (k : ℕ) : Type 0 where
-  pub within : k ≤ n
-  pub few : n ≤ 10
-  pub room : 3 + 8 * n ≤ length bytes
-  pub ten : length ps ≡ 10
-  pub read : ps ≡ over (points_at bytes 3 k) (replicate 10 origin)
-
-pub one_read : (bytes : List ℕ) (n : ℕ) (ps : List B2vec2) (k : ℕ) (v : B2vec2) → k < n
-    → v ≡ vector_at bytes (3 + 8 * k) → ReadSoFar bytes n ps k → ReadSoFar bytes n (set ps k v) (k + 1)
-one_read bytes n ps k v more v_is so_far = record {
-  within = omega arith;
-  few = so_far.few;
-  room = so_far.room;
-  ten = length-set ps k v ∙ so_far.ten;
-  read = over_store ps (points_at bytes 3 k) (replicate 10 origin) v k so_far.read (length_points bytes 3 k)
-      (omega (arith, so_far.few))
-      ∙ ap (λ (l : List B2vec2). over l (replicate 10 origin))
-      (ap (λ (p : B2vec2). points_at bytes 3 k ++ (p ∷ [])) v_is
-      ∙ sym (points_next bytes 3 k)
-      ∙ ap (points_at bytes 3) (sym (add-one k)));
-}
-
-pub all_read : (bytes : List ℕ) (n : ℕ) (ps : List B2vec2) (k : ℕ) → n ≤ k → ReadSoFar bytes n ps k
-    → ps ≡ over (points_at bytes 3 n) (replicate 10 origin)
-all_read bytes n ps k last so_far =
-    let all : k ≡ n = omega (arith, so_far.within) in
-    so_far.read ∙ ap (λ (i : ℕ). over (points_at bytes 3 i) (replicate 10 origin)) all
-
 -- ---- a piece, from what was read at its ends
 pub length_is : (chain : Chain) (points : List B2vec2) (i : ℕ) (past : B2vec2) (squared : Float)
     → chain.points ≡ points → length points ≡ 10 → i < 7

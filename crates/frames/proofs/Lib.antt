@@ -1,5 +1,6 @@
 pub mod NextAges
 pub mod BodyFrames
+pub mod Tested
 pub mod TestFrames
 pub mod FrameLengths
 pub mod ByKind

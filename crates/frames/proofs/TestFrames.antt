@@ -11,8 +11,9 @@ use Rattle.shape_definitions.specs.Refusal.{accepted}
 use Rattle.record_definitions.specs.declared.world.Body.{Body}
 use Rattle.record_definitions.specs.declared.world.Kept.{Kept}
 use Rattle.record_definitions.specs.declared.world.Pair.{Pair}
+use Rattle.std.specs.Prelude.{Ok}
 use Rattle.record_definitions.specs.declared.touch.TestAnswer.{TestAnswer}
-use Rattle.record_definitions.specs.declared.frame.Answer.TheVariants.{Tested}
+use Rattle.record_definitions.specs.declared.touch.Touch.{Touch}
 use Rattle.record_definitions.specs.declared.frame.Change.{Change}
 use Rattle.record_definitions.specs.World.{chain_kind, fresh_kept, kept_of}
 use Rattle.record_definitions.specs.Touch.{tested, piece_tested, first_refusal}
@@ -25,14 +26,14 @@ module _ (ida idb : ℕ) (a b : Body) (pair : Pair) where
   abbrev pub answered : Change
   answered = test_answered a pair (piece_tested ida idb a b pair 0) (further_tests ida idb a b pair)
 
-  module _ (number : ℕ) (number_is : number ≡ test_refusal ida idb a.kind b.kind) where
-    pub test_refused : (number ≡ accepted → ⊥) → refused number a pair ≡ test_change ida idb a b pair
-    unfolding test_change
-    test_refused some = rw (← number_is) (simp (ne_eqb number accepted some))
+  pub test_refused : (number : ℕ) → number ≡ test_refusal ida idb a.kind b.kind → (number ≡ accepted → ⊥)
+      → refused number a pair ≡ test_change ida idb a b pair
+  unfolding test_change
+  test_refused number number_is some = rw (← number_is) (simp (ne_eqb number accepted some))
 
-    pub test_run : number ≡ accepted → answered ≡ test_change ida idb a b pair
-    unfolding test_change
-    test_run none = rw (← number_is) (simp (eq-eqb number accepted none))
+  pub test_run : accepted ≡ test_refusal ida idb a.kind b.kind → answered ≡ test_change ida idb a b pair
+  unfolding test_change
+  test_run none = simp (eq-eqb (test_refusal ida idb a.kind b.kind) accepted (sym none))
 
   -- ---- of a body that is no chain, with what the pair keeps of its only piece
   module _ (kept : Kept) (kept_is : kept_of pair 0 ≡ kept) where
@@ -44,22 +45,23 @@ module _ (ida idb : ℕ) (a b : Body) (pair : Pair) where
           (only_test a no_chain ida idb b pair ∙ ap (tested ida idb a b) kept_is ∙ sym t_is)
           (no_further_tests a no_chain ida idb b pair)
 
-      pub alone_refused : (t.refusal ≡ accepted → ⊥) → refused t.refusal a pair ≡ answered
+      pub alone_refused : (number : ℕ) → t.refusal ≡ number → (number ≡ accepted → ⊥)
+          → refused number a pair ≡ answered
       unfolding first_refusal
-      alone_refused some =
-          let no = ne_eqb t.refusal accepted some in
-          ◌∙◌ {b = test_answered a pair t []} (simp no) (sym one_test)
+      alone_refused number number_is some =
+          let no = ne_eqb t.refusal accepted (λ none. some (sym number_is ∙ none)) in
+          ap (λ (n : ℕ). refused n a pair) (sym number_is)
+          ∙ ◌∙◌ {b = test_answered a pair t []} (simp no) (sym one_test)
 
-      pub alone_answered : t.refusal ≡ accepted → 0 < length pair.pieces
-          → of_test (record {
-            answer = Tested t.touch;
-            pair = record { pieces = set pair.pieces 0 t.kept };
-          }) a
+      pub alone_answered : (touch : Touch) (left : Kept) → t.refusal ≡ accepted → touch ≡ t.touch → left ≡ t.kept
+          → 0 < length pair.pieces
+          → of_test (Ok (record { touch = touch; pair = record { pieces = set pair.pieces 0 left } })) a pair
           ≡ answered
       unfolding first_refusal
-      alone_answered none some =
+      alone_answered touch left none touch_is left_is some =
           let taken = eq-eqb t.refusal accepted none in
-          ◌∙◌ {b = test_answered a pair t []} (rw (← keep_one t pair some) (simp taken)) (sym one_test)
+          rw (touch_is, left_is)
+          (◌∙◌ {b = test_answered a pair t []} (rw (← keep_one t pair some) (simp taken)) (sym one_test))
 
 -- what is read of the pair
 pub kept_read : (pair : Pair) (d : Kept) → length pair.pieces ≡ 7 → kept_of pair 0 ≡ get_or pair.pieces 0 d

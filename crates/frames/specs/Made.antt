@@ -1,26 +1,38 @@
--- What a frame makes, as a change: of a body, where it is no test, and the pair stays; of a pair, where it tests a body
--- that is no chain, and the body stays. Definitions only.
-use Rattle.std.specs.Prelude.{ℕ, true, false}
+-- What a frame makes, as a change: of a body, where it is no test, and the pair stays; of a pair, where it tests a body,
+-- and the body stays. A refusal changes nothing. Definitions only.
+use Rattle.std.specs.Prelude.{◌≡◌, Result, Ok, Err, false}
+use Rattle.shape_definitions.specs.declared.refusal.Refusal.{Refusal}
+use Rattle.shape_definitions.specs.Refusal.{accepted, number_of}
 use Rattle.record_definitions.specs.declared.world.Body.{Body}
 use Rattle.record_definitions.specs.declared.world.Pair.{Pair}
-use Rattle.record_definitions.specs.declared.frame.Answer.TheVariants.{Accepted, Refused}
+use Rattle.record_definitions.specs.declared.touch.TestAnswer.{TestAnswer}
+use Rattle.record_definitions.specs.declared.frame.Answer.TheVariants.{Tested}
 use Rattle.record_definitions.specs.declared.frame.Change.{Change}
 use Rattle.record_definitions.specs.Answer.{said_alone}
-use Rattle.frames.specs.declared.changes.BodyMade.{BodyMade}
+use Rattle.record_definitions.specs.Frame.{refused, defined, moved}
+use Rattle.frames.specs.declared.changes.BodyChange.{BodyChange}
+use Rattle.frames.specs.declared.changes.BodyChange.TheVariants.{Defined, Moved}
+use Rattle.frames.specs.declared.changes.ChainMade.{ChainMade}
 use Rattle.frames.specs.declared.changes.TestMade.{TestMade}
+use Rattle.frames.specs.declared.test_frame.PieceMade.{PieceMade}
 
-abbrev pub of_body : BodyMade → Pair → Change
-of_body made pair = record { said = said_alone made.answer; body = made.body; pair = pair; forget = made.forget }
+abbrev pub of_body : Body → Result BodyChange Refusal → Pair → Change
+of_body body (Ok (Defined new)) pair = defined new pair
+of_body body (Ok (Moved new)) pair = moved new pair
+of_body body (Err why) pair = refused (number_of why) body pair
 
-abbrev pub of_test : TestMade → Body → Change
-of_test test body = record { said = said_alone test.answer; body = body; pair = test.pair; forget = false }
+-- of a body that is no chain
+abbrev pub of_test : Result TestMade Refusal → Body → Pair → Change
+of_test (Ok made) body pair =
+    record { said = said_alone (Tested made.touch); body = body; pair = made.pair; forget = false }
+of_test (Err why) body pair = refused (number_of why) body pair
 
--- ---- of a body: nothing, a new shape, a new placement
-abbrev pub refused_body : ℕ → Body → BodyMade
-refused_body number body = record { answer = Refused number; body = body; forget = false }
+abbrev pub of_chain_test : Result ChainMade Refusal → Body → Pair → Change
+of_chain_test (Ok made) body pair = record { said = made.said; body = body; pair = made.pair; forget = false }
+of_chain_test (Err why) body pair = refused (number_of why) body pair
 
-abbrev pub defined_body : Body → BodyMade
-defined_body body = record { answer = Accepted; body = body; forget = true }
-
-abbrev pub moved_body : Body → BodyMade
-moved_body body = record { answer = Accepted; body = body; forget = false }
+-- what the test of a piece answers: the number of its refusal, or its result and what is kept of it
+abbrev pub AnsweredAs : Result PieceMade Refusal → TestAnswer → Type 0
+AnsweredAs (Ok made) answer =
+    (answer.refusal ≡ accepted) × (made.touch ≡ answer.touch) × (made.kept ≡ answer.kept)
+AnsweredAs (Err why) answer = answer.refusal ≡ number_of why

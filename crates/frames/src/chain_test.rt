@@ -3,83 +3,65 @@ ghost use Rattle.std.specs.Prelude.{◌≡◌, ◌<◌};
 ghost use Rattle.record_definitions.specs.World.{chain_kind, most_pieces};
 ghost use Rattle.record_definitions.specs.Touch as results;
 ghost use Rattle.record_definitions.specs.Frame as definitions;
+ghost use Rattle.frames.specs.Made.{of_chain_test, AnsweredAs};
 
+use crate::changes::ChainMade;
+use crate::test_frame::PieceMade;
 use crate::{changes, pieces, test_frame};
-use record_definitions::frame::{Answer, Change, Said};
-use record_definitions::touch::TestAnswer;
+use record_definitions::frame::{Answer, Said};
 use record_definitions::world::{Body, Pair};
-use shape_definitions::refusal;
+use shape_definitions::refusal::Refusal;
 
 // Piece i of the body, with what the pair keeps of it.
-fn piece_tested(ida: u8, idb: u8, a: Body, b: Body, pair: Pair, i: usize) -> TestAnswer
+fn piece_tested(
+    ida: u8,
+    idb: u8,
+    a: Body,
+    b: Body,
+    pair: Pair,
+    i: usize,
+) -> Result<PieceMade, Refusal>
     requires { i < most_pieces }
-    ensures { result ≡ results.piece_tested ida idb a b pair i }
+    ensures { AnsweredAs result (results.piece_tested ida idb a b pair i) }
 {
     let old = pair.pieces;
     test_frame::tested(ida, idb, pieces::piece_of(a, i), b, old[i])
 }
 
-// A refused test changes nothing.
-pub fn refused(number: u8, body: Body, pair: Pair) -> Change
-    ensures { result ≡ definitions.refused number body pair }
-{
-    Change {
-        said: changes::said_alone(Answer::Refused(number)),
-        body,
-        pair,
-        forget: false,
-    }
-}
-
 // All pieces, one after the other: the first refusal; or a result for each, and each keeps its own.
-fn pieces_tested(ida: u8, idb: u8, a: Body, b: Body, pair: Pair) -> Change
+fn pieces_tested(ida: u8, idb: u8, a: Body, b: Body, pair: Pair) -> Result<ChainMade, Refusal>
     requires { a.kind ≡ chain_kind }
-    ensures { result ≡ definitions.test_answered a pair (results.piece_tested ida idb a b pair 0)
+    ensures { of_chain_test result a pair
+        ≡ definitions.test_answered a pair (results.piece_tested ida idb a b pair 0)
         (definitions.further_tests ida idb a b pair) }
 {
     let chain = a.chain;
     let further = pieces::further_pieces(chain.count);
-    let t = piece_tested(ida, idb, a, b, pair, 0);
-    let first = t.touch;
-    let kept = t.kept;
-    let mut number = t.refusal;
+    let first = piece_tested(ida, idb, a, b, pair, 0)?;
     let mut kepts = pair.pieces;
-    kepts[0] = kept;
+    kepts[0] = first.kept;
     let blank = changes::blank_touch();
     let mut more = [blank; 6];
-    let mut j = 0usize;
-    while j < further {
-        let t = piece_tested(ida, idb, a, b, pair, j + 1);
-        let touch = t.touch;
-        let kept = t.kept;
-        number = test_frame::first_refusal(number, t.refusal);
-        kepts[j + 1] = kept;
-        more[j] = touch;
-        j += 1;
+    for j in 0..further {
+        let made = piece_tested(ida, idb, a, b, pair, j + 1)?;
+        kepts[j + 1] = made.kept;
+        more[j] = made.touch;
     }
-    if number != refusal::ACCEPTED {
-        return refused(number, a, pair);
-    }
-    Change {
+    Ok(ChainMade {
         said: Said {
-            answer: Answer::Tested(first),
+            answer: Answer::Tested(first.touch),
             further,
             more,
         },
-        body: a,
         pair: Pair { pieces: kepts },
-        forget: false,
-    }
+    })
 }
 
 // 05 a b, where a is a chain
-pub fn chain_test(ida: u8, idb: u8, a: Body, b: Body, pair: Pair) -> Change
+pub fn chain_test(ida: u8, idb: u8, a: Body, b: Body, pair: Pair) -> Result<ChainMade, Refusal>
     requires { a.kind ≡ chain_kind }
-    ensures { result ≡ definitions.test_change ida idb a b pair }
+    ensures { of_chain_test result a pair ≡ definitions.test_change ida idb a b pair }
 {
-    let number = test_frame::test_refusal(ida, idb, a.kind, b.kind);
-    if number != refusal::ACCEPTED {
-        return refused(number, a, pair);
-    }
+    test_frame::check_test(ida, idb, a.kind, b.kind)?;
     pieces_tested(ida, idb, a, b, pair)
 }

@@ -1,7 +1,6 @@
 // What a frame makes, by how it is answered, and what is said of it.
 ghost use Rattle.std.specs.Prelude.{◌≡◌};
 ghost use Rattle.record_definitions.specs.Answer as answers;
-ghost use Rattle.frames.specs.Made.{refused_body, defined_body, moved_body};
 
 use contact_definitions::b2_collision::{B2pointState, PointStates};
 use floats::b2_math::B2vec2;
@@ -50,50 +49,25 @@ pub fn said_alone(answer: Answer) -> Said
     }
 }
 
-// What a frame that is no test makes of its body, and whether the body's pairs are forgotten.
+// What a frame that is no test makes of its body.
 #[derive(Clone, Copy)]
-pub struct BodyMade {
-    pub answer: Answer,
-    pub body: Body,
-    pub forget: bool,
+pub enum BodyChange {
+    // A new shape: the body's pairs are forgotten.
+    Defined(Body),
+    // A new placement.
+    Moved(Body),
 }
 
-// What a test of a body that is no chain makes of the pair.
+// What a test of a body that is no chain makes: its result, and the pair with what is kept of it.
 #[derive(Clone, Copy)]
 pub struct TestMade {
-    pub answer: Answer,
+    pub touch: Touch,
     pub pair: Pair,
 }
 
-// Nothing changes.
-pub fn refused(number: u8, body: Body) -> BodyMade
-    ensures { result ≡ refused_body number body }
-{
-    BodyMade {
-        answer: Answer::Refused(number),
-        body,
-        forget: false,
-    }
-}
-
-// A new shape.
-pub fn defined(body: Body) -> BodyMade
-    ensures { result ≡ defined_body body }
-{
-    BodyMade {
-        answer: Answer::Accepted,
-        body,
-        forget: true,
-    }
-}
-
-// A new placement.
-pub fn moved(body: Body) -> BodyMade
-    ensures { result ≡ moved_body body }
-{
-    BodyMade {
-        answer: Answer::Accepted,
-        body,
-        forget: false,
-    }
+// What a test of a chain makes: the results of all pieces, and the pair.
+#[derive(Clone, Copy)]
+pub struct ChainMade {
+    pub said: Said,
+    pub pair: Pair,
 }

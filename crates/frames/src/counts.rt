@@ -6,5 +6,5 @@ ghost use Rattle.record_definitions.specs.World.{one_more};
 pub fn one_more(n: u32) -> u32
     ensures { result ≡ one_more n }
 {
-    if n == u32::MAX { n } else { n + 1 }
+    n.saturating_add(1)
 }

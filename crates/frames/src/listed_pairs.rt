@@ -1,16 +1,16 @@
 // The pairs of bodies that are tested, and the contact of each, from a default manifold.
 ghost use Rattle.std.specs.Prelude.{◌≡◌};
+ghost use Rattle.contact_definitions.specs.Answers.{manifold_answered};
 ghost use Rattle.contact_definitions.specs.Manifold as manifolds;
 ghost use Rattle.record_definitions.specs.Touch as results;
 ghost use Rattle.record_definitions.specs.Frame as definitions;
 
 use crate::world;
-use contact_definitions::b2_collision::{
-    B2manifold, B2manifoldPoint, B2manifoldType, ManifoldAnswer,
-};
+use contact_definitions::b2_collision::{B2manifold, B2manifoldPoint, B2manifoldType};
 use contacts::{b2_collide_circle, b2_collide_edge, b2_collide_polygon};
 use floats::b2_math::B2vec2;
 use record_definitions::world::{Body, CHAIN, CIRCLE, OUTLINE, WALL};
+use shape_definitions::refusal::Refusal;
 
 // The kinds that are tested: circle-circle, outline-circle, outline-outline, wall-circle, wall-outline, and a chain
 // where a wall is.
@@ -50,8 +50,8 @@ fn default_manifold() -> B2manifold
 }
 
 // Any body against a circle.
-fn meet_circle(a: Body, b: Body) -> ManifoldAnswer
-    ensures { result ≡ results.meet_circle a b }
+fn meet_circle(a: Body, b: Body) -> Result<B2manifold, Refusal>
+    ensures { manifold_answered manifolds.default_manifold result ≡ results.meet_circle a b }
 {
     let m = default_manifold();
     let kind = a.kind;
@@ -71,8 +71,8 @@ fn meet_circle(a: Body, b: Body) -> ManifoldAnswer
 }
 
 // An outline or a wall against an outline.
-fn meet_outline(a: Body, b: Body) -> ManifoldAnswer
-    ensures { result ≡ results.meet_outline a b }
+fn meet_outline(a: Body, b: Body) -> Result<B2manifold, Refusal>
+    ensures { manifold_answered manifolds.default_manifold result ≡ results.meet_outline a b }
 {
     let m = default_manifold();
     let kind = a.kind;
@@ -88,8 +88,8 @@ fn meet_outline(a: Body, b: Body) -> ManifoldAnswer
 }
 
 // Any listed pair.
-pub fn meet(a: Body, b: Body) -> ManifoldAnswer
-    ensures { result ≡ results.meet a b }
+pub fn meet(a: Body, b: Body) -> Result<B2manifold, Refusal>
+    ensures { manifold_answered manifolds.default_manifold result ≡ results.meet a b }
 {
     let kind = b.kind;
     if kind == CIRCLE {

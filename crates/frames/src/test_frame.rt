@@ -1,21 +1,21 @@
 // Frame 05 of a body that is no chain: contact, world points, point states, ages and touches.
-ghost use Rattle.std.specs.Prelude.{◌≡◌, cond, eqb};
-ghost use Rattle.shape_definitions.specs.Refusal.{accepted};
+ghost use Rattle.std.specs.Prelude.{◌≡◌};
+ghost use Rattle.shape_definitions.specs.Refusal.{refusal_number};
+ghost use Rattle.contact_definitions.specs.Answers.{world_answered};
 ghost use Rattle.contact_definitions.specs.WorldManifold.{default_world_manifold};
 ghost use Rattle.record_definitions.specs.World.{chain_kind};
 ghost use Rattle.record_definitions.specs.Touch as results;
 ghost use Rattle.record_definitions.specs.Frame as definitions;
-ghost use Rattle.frames.specs.Made.{of_test};
+ghost use Rattle.frames.specs.Made.{of_test, AnsweredAs};
 
 use crate::changes::TestMade;
 use crate::{ages, listed_pairs, test_result};
-use contact_definitions::b2_collision::{B2manifold, B2worldManifold, WorldAnswer};
+use contact_definitions::b2_collision::{B2manifold, B2worldManifold};
 use contacts::b2_collision;
 use floats::b2_math::B2vec2;
-use record_definitions::frame::Answer;
-use record_definitions::touch::TestAnswer;
+use record_definitions::touch::Touch;
 use record_definitions::world::{Body, CIRCLE, Kept, NO_BODY, OUTLINE, Pair};
-use shape_definitions::refusal;
+use shape_definitions::refusal::Refusal;
 
 // The world points where there is no point.
 fn default_world_manifold() -> B2worldManifold
@@ -48,8 +48,8 @@ fn skin(body: Body) -> f32
 }
 
 // The world points of a contact, with the skins of both bodies.
-fn world_points_of(a: Body, b: Body, m: B2manifold) -> WorldAnswer
-    ensures { result ≡ results.world_points a b m }
+fn world_points_of(a: Body, b: Body, m: B2manifold) -> Result<B2worldManifold, Refusal>
+    ensures { world_answered default_world_manifold result ≡ results.world_points a b m }
 {
     let old = default_world_manifold();
     let xfa = a.xf;
@@ -59,84 +59,64 @@ fn world_points_of(a: Body, b: Body, m: B2manifold) -> WorldAnswer
     b2_collision::b2_world_manifold_initialize_core(old, m, xfa, skin_a, xfb, skin_b)
 }
 
-// The first of two refusals, 0 for none.
-pub fn first_refusal(first: u8, next: u8) -> u8
-    ensures { result ≡ cond (eqb first accepted) next first }
-{
-    if first == refusal::ACCEPTED {
-        return next;
-    }
-    first
+// What the test of a piece makes: its result, and what is kept of it.
+#[derive(Clone, Copy)]
+pub struct PieceMade {
+    pub touch: Touch,
+    pub kept: Kept,
 }
 
-// What the test of bodies a and b answers under the ids that the frame gives, and what is kept of it.
-pub fn tested(ida: u8, idb: u8, a: Body, b: Body, kept: Kept) -> TestAnswer
-    ensures { result ≡ results.tested ida idb a b kept }
+// The test of bodies a and b under the ids that the frame gives.
+pub fn tested(ida: u8, idb: u8, a: Body, b: Body, kept: Kept) -> Result<PieceMade, Refusal>
+    ensures { AnsweredAs result (results.tested ida idb a b kept) }
 {
-    let met = listed_pairs::meet(a, b);
-    let m = met.manifold;
-    let points = world_points_of(a, b, m);
+    let m = listed_pairs::meet(a, b)?;
+    let w = world_points_of(a, b, m)?;
     let old = kept.ids;
     let new = b2_collision::counted_ids(m);
     let states = b2_collision::states_of_ids(old, new);
     let ages = ages::ages_of(kept, new);
     let touches = test_result::touches_after(kept.touches, old.count, m.point_count);
-    let w = points.world;
-    TestAnswer {
-        refusal: first_refusal(met.refusal, points.refusal),
+    Ok(PieceMade {
         touch: test_result::touch_of(ida, idb, ages::with_ages(m, ages), states, touches, w),
         kept: Kept {
             ids: new,
             ages,
             touches,
         },
-    }
+    })
 }
 
-// A body without a shape, then the pair; or 0.
-pub fn test_refusal(ida: u8, idb: u8, kinda: u8, kindb: u8) -> u8
-    ensures { result ≡ definitions.test_refusal ida idb kinda kindb }
+// A body without a shape, then the pair.
+pub fn check_test(ida: u8, idb: u8, kinda: u8, kindb: u8) -> Result<(), Refusal>
+    ensures { refusal_number result ≡ definitions.test_refusal ida idb kinda kindb }
 {
     let none_a = kinda == NO_BODY;
     let none_b = kindb == NO_BODY;
     if none_a | none_b {
-        return refusal::NO_SHAPE;
+        return Err(Refusal::NoShape);
     }
     let same = ida == idb;
     let fits = listed_pairs::listed(kinda, kindb);
     if same | !fits {
-        return refusal::PAIR_NOT_LISTED;
+        return Err(Refusal::PairNotListed);
     }
-    refusal::ACCEPTED
+    Ok(())
 }
 
 // 05 a b, where a is no chain, its own only piece. Nothing changes where the test is refused.
-pub fn test_frame(ida: u8, idb: u8, a: Body, b: Body, pair: Pair) -> TestMade
+pub fn test_frame(ida: u8, idb: u8, a: Body, b: Body, pair: Pair) -> Result<TestMade, Refusal>
     requires { a.kind ≡ chain_kind → ⊥ }
-    ensures { of_test result a ≡ definitions.test_change ida idb a b pair }
+    ensures { of_test result a pair ≡ definitions.test_change ida idb a b pair }
 {
-    let number = test_refusal(ida, idb, a.kind, b.kind);
-    if number != refusal::ACCEPTED {
-        return TestMade {
-            answer: Answer::Refused(number),
-            pair,
-        };
-    }
+    check_test(ida, idb, a.kind, b.kind)?;
     let old = pair.pieces;
-    let t = tested(ida, idb, a, b, old[0]);
-    let number = t.refusal;
-    if number != refusal::ACCEPTED {
-        return TestMade {
-            answer: Answer::Refused(number),
-            pair,
-        };
-    }
-    let touch = t.touch;
-    let kept = t.kept;
+    let made = tested(ida, idb, a, b, old[0])?;
+    let touch = made.touch;
     let mut pieces = old;
-    pieces[0] = kept;
-    TestMade {
-        answer: Answer::Tested(touch),
+    pieces[0] = made.kept;
+    Ok(TestMade {
+        touch,
         pair: Pair { pieces },
-    }
+    })
 }

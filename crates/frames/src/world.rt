@@ -201,11 +201,9 @@ pub fn forget(pairs: [Pair; 64], id: usize) -> [Pair; 64]
 {
     let fresh = fresh_pair();
     let mut ps = pairs;
-    let mut j = 0usize;
-    while j < 8 {
+    for j in 0..8 {
         ps[8 * id + j] = fresh;
         ps[8 * j + id] = fresh;
-        j += 1;
     }
     ps
 }

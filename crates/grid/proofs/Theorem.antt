@@ -17,7 +17,7 @@ use Rattle.grid.proofs.FirstSentence.{grid_list_verdict}
 use Rattle.grid.proofs.Outline.{accepted_outline}
 use Rattle.grid.proofs.ContactRanges.{Taken, grid_taken, polygons_accepted}
 use Rattle.contact_definitions.specs.declared.b2_collision.B2manifold.{B2manifold}
-use Rattle.contact_definitions.specs.declared.b2_collision.ManifoldAnswer.{ManifoldAnswer}
+use Rattle.contact_definitions.specs.Answers.{ManifoldAnswer}
 use Rattle.contact_definitions.specs.B2CollidePolygon.{b2_collide_polygons}
 use Rattle.floats.specs.declared.b2_math.B2Transform.{B2Transform}
 use Rattle.grid.specs.GridOutline.{GridOutline}

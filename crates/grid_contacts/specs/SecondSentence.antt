@@ -14,8 +14,8 @@ use Rattle.shape_definitions.specs.Refusal.{accepted}
 use Rattle.contact_definitions.specs.declared.b2_collision.B2manifold.{B2manifold}
 use Rattle.contact_definitions.specs.declared.b2_collision.B2manifoldType.TheVariants.{EFaceA, EFaceB}
 use Rattle.contact_definitions.specs.declared.b2_collision.B2worldManifold.{B2worldManifold}
-use Rattle.contact_definitions.specs.declared.b2_collision.ManifoldAnswer.{ManifoldAnswer}
-use Rattle.contact_definitions.specs.declared.b2_collision.WorldAnswer.{WorldAnswer}
+use Rattle.contact_definitions.specs.Answers.{ManifoldAnswer}
+use Rattle.contact_definitions.specs.Answers.{WorldAnswer}
 use Rattle.contact_definitions.specs.Manifold.{manifold_point}
 use Rattle.contact_definitions.specs.B2CollidePolygon.{b2_collide_polygons}
 use Rattle.contact_definitions.specs.WorldManifold.{b2_world_manifold_initialize}

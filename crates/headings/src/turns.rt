@@ -20,7 +20,9 @@ fn opposite(x: f32) -> f32
     if x == 0.0 { 0.0 } else { -x }
 }
 
-// The heading of a turn number, from the lent table; from the last quarter on, that of the last quarter.
+// The heading of a turn number, from the lent table; from the last quarter on, that of the last quarter. The table is a
+// slice and a clause, no type with an invariant: docs/CLAIMS.md names this function, and a caller that reads no heading
+// lends an empty one.
 pub fn heading(sines: &[f32], number: usize) -> B2Rot
     requires { sines.now ≡ quarter_waves }
     ensures { result ≡ heading number }

@@ -8,21 +8,15 @@ use mathlib.Core.Option.{Option, none, some, map}
 use native.Mathlib.Nat.{mod-eq_of_lt}
 use native.Mathlib.Numerals.{add-one}
 use native.Mathlib.Omega.{arith}
-use lib.Dec.{leb, ltb}
+use lib.Dec.{ltb}
 use lib.ListN.{length, get_or, take, drop, set, length-set}
 use lib.Seq.{drop-cons, drop-length, take-suc-set}
-use borrow.Author.Tests.{ltb-true, leb-true, lt-ltb, le-ltb}
+use borrow.Author.Tests.{ltb-true, lt-ltb, le-ltb}
+use Rattle.std.specs.Prelude.{Option as Answer}
+use Rattle.std.specs.Option.{unwrap_or, is_some}
+use Rattle.std.specs.Bool.{then_some}
 use Rattle.algebra.proofs.Loops.{walk_starts, map_one_more}
-use Rattle.lines.specs.Hex.{nibble, with_byte, unhex, largest_frame, line_limit, frame_of, Decoded}
-
--- a character between two others, both among them
-pub between : (low x high : ℕ) → leb low x && leb x high ≡ true → (low ≤ x) × (x ≤ high)
-between low x high both = go (leb low x) (leb x high) refl refl both
-  where
-    go : (t u : Bool) → leb low x ≡ t → leb x high ≡ u → t && u ≡ true → (low ≤ x) × (x ≤ high)
-    go true true from to both = (leb-true low x from, leb-true x high to)
-    go true false from to both = absurd (let z : ◌≡◌ {A = ℕ} 0 1 = cc in omega arith)
-    go false u from to both = absurd (let z : ◌≡◌ {A = ℕ} 0 1 = cc in omega arith)
+use Rattle.lines.specs.Hex.{nibble, with_byte, unhex, largest_frame, line_limit, frame_of, is_line, Decoded}
 
 -- ---- what was read so far
 -- whether only digits were met, the bytes done, and what the rest of the line says
@@ -98,13 +92,17 @@ byte_read line old n bytes digits i high low more high_is low_is so_far = record
     stored = rw add-one (take-suc-set bytes i b (omega arith))
 
 -- ---- the bytes of a line
-pub overlong : (line bytes : List ℕ) → line_limit < length line → Decoded line 0 bytes
+pub overlong : (line bytes : List ℕ) → line_limit < length line → Decoded line 0 bytes × (false ≡ is_line line)
 unfolding frame_of
-overlong line bytes long = record { fits = omega arith; bytes = simp (lt-ltb _ _ long) }
+overlong line bytes long =
+    (record { fits = omega arith; bytes = simp (lt-ltb _ _ long) }, simp (lt-ltb _ _ long))
 
-malformed : (line bytes : List ℕ) → length line ≤ line_limit → unhex line ≡ none → Decoded line 0 bytes
+malformed : (line bytes : List ℕ) → length line ≤ line_limit → unhex line ≡ none
+    → Decoded line 0 bytes × (false ≡ is_line line)
 unfolding frame_of
-malformed line bytes short none_said = record { fits = omega arith; bytes = simp (le-ltb _ _ short, none_said) }
+malformed line bytes short none_said =
+    let short' = le-ltb _ _ short in
+    (record { fits = omega arith; bytes = simp (short', none_said) }, simp (short', none_said))
 
 -- two characters are left out of an odd number: one is left in the end
 unhex_odd : (line : List ℕ) → length line % 2 ≡ 1 → unhex line ≡ none
@@ -118,20 +116,31 @@ unhex_odd (x ∷ y ∷ line) is_odd =
     no_byte true b = refl
     no_byte false b = refl
 
-pub odd : (line bytes : List ℕ) → length line ≤ line_limit → length line % 2 ≡ 1 → Decoded line 0 bytes
+pub odd : (line bytes : List ℕ) → length line ≤ line_limit → length line % 2 ≡ 1
+    → Decoded line 0 bytes × (false ≡ is_line line)
 odd line bytes short is_odd = malformed line bytes short (unhex_odd line is_odd)
 
 -- after the last turn of the loop
 module _ (line old : List ℕ) (n : ℕ) (bytes : List ℕ) (digits : Bool) (i : ℕ) (last : n ≤ i)
     (so_far : ReadSoFar line old n bytes digits i) where
-  pub other_character : digits ≡ false → Decoded line 0 bytes
+  other_character : digits ≡ false → Decoded line 0 bytes × (false ≡ is_line line)
   other_character met = malformed line bytes so_far.short (sym (rw met at so_far.read))
 
-  pub only_digits : digits ≡ true → Decoded line n bytes
+  only_digits : digits ≡ true → Decoded line n bytes × (true ≡ is_line line)
   unfolding frame_of unhex
   only_digits met =
       let all : i ≡ n = omega arith in
       let nothing_left : drop (2 * n) line ≡ [] = ap (λ (k : ℕ). drop k line) so_far.even ∙ drop-length line in
       let whole : unhex line ≡ some (take n bytes) =
       sym (rw (met, all) at so_far.read) ∙ rw nothing_left (ap some (append-nil (take n bytes))) in
-      record { fits = omega arith; bytes = simp (le-ltb _ _ so_far.short, whole) }
+      let short' = le-ltb _ _ so_far.short in
+      (record { fits = omega arith; bytes = simp (short', whole) }, simp (short', whole))
+
+  pub all_read : (answer : Answer ℕ) → answer ≡ then_some digits n
+      → Decoded line (unwrap_or answer 0) bytes × (is_some answer ≡ is_line line)
+  all_read answer answer_is = rw answer_is (go digits refl)
+    where
+      go : (t : Bool) → digits ≡ t
+          → Decoded line (unwrap_or (then_some t n) 0) bytes × (is_some (then_some t n) ≡ is_line line)
+      go true met = only_digits met
+      go false met = other_character met

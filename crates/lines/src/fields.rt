@@ -1,18 +1,14 @@
 // The fields of frames and answers.
-ghost use Rattle.std.specs.Prelude.{◌≡◌, ◌+◌, ◌*◌, ◌<◌, ◌≤◌, length, take};
+ghost use Rattle.std.specs.Prelude.{◌≡◌, ◌+◌, ◌*◌, ◌≤◌, length, take, replicate};
 ghost use Rattle.algebra.specs.Buffer.{over};
+ghost use Rattle.rounding.specs.Literals.{zero32};
+ghost use Rattle.floats.specs.B2Math.{vec2};
 ghost use Rattle.lines.specs.Fields.{byte_at, number_at, float_at, vector_at};
 ghost use Rattle.lines.specs.Fields.{points_at, rotation_at, placement_at};
 ghost use Rattle.lines.specs.Fields.{number_bytes, float_bytes, vector_bytes};
 
 use floats::b2_math::{B2Rot, B2Transform, B2vec2};
 use floats::bits;
-
-pub fn wide(b: u8) -> u32
-    ensures { (result ≡ b) × (result < 256) }
-{
-    b as u32
-}
 
 // The byte at a place, 0 past the end.
 pub fn byte(bytes: &[u8], at: usize) -> u8
@@ -28,11 +24,7 @@ pub fn number(bytes: &[u8], at: usize) -> u32
     requires { at + 4 ≤ length bytes.now }
     ensures { result ≡ number_at bytes.now at }
 {
-    let a = wide(bytes[at]);
-    let b = wide(bytes[at + 1]);
-    let c = wide(bytes[at + 2]);
-    let d = wide(bytes[at + 3]);
-    ((a * 256 + b) * 256 + c) * 256 + d
+    u32::from_be_bytes([bytes[at], bytes[at + 1], bytes[at + 2], bytes[at + 3]])
 }
 
 pub fn float(bytes: &[u8], at: usize) -> f32
@@ -51,16 +43,15 @@ pub fn vector(bytes: &[u8], at: usize) -> B2vec2
     B2vec2 { x, y }
 }
 
-// n points, in the first places.
-pub fn points(bytes: &[u8], at: usize, n: usize) -> [B2vec2; 8]
-    requires { (at + 8 * n ≤ length bytes.now) × (n ≤ 8) }
-    ensures { (take n result ≡ points_at bytes.now at n) × (length result ≡ 8) }
+// n points, in the first places; places past them hold the origin.
+pub fn points<const N: usize>(bytes: &[u8], at: usize, n: usize) -> [B2vec2; N]
+    requires { (at + 8 * n ≤ length bytes.now) × (n ≤ N) }
+    ensures { (take n result ≡ points_at bytes.now at n) × (length result ≡ N)
+        × (result ≡ over (points_at bytes.now at n) (replicate N (vec2 zero32 zero32))) }
 {
-    let mut ps = [B2vec2 { x: 0.0, y: 0.0 }; 8];
-    let mut k = 0usize;
-    while k < n {
+    let mut ps = [B2vec2 { x: 0.0, y: 0.0 }; N];
+    for k in 0..n {
         ps[k] = vector(bytes, at + 8 * k);
-        k += 1;
     }
     ps
 }
@@ -88,10 +79,7 @@ pub fn put_number(out: &mut [u8], n: u32)
     requires { 4 ≤ length out.old }
     ensures { out.new ≡ over (number_bytes n) out.old }
 {
-    out[0] = (n / 0x100_0000 % 256) as u8;
-    out[1] = (n / 0x1_0000 % 256) as u8;
-    out[2] = (n / 256 % 256) as u8;
-    out[3] = (n % 256) as u8;
+    out[..4].copy_from_slice(&n.to_be_bytes());
 }
 
 pub fn put_float(out: &mut [u8], x: f32)

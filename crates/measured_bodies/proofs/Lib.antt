@@ -1,3 +1,3 @@
 pub mod ReadBack
-pub mod Choices
 pub mod Touching
+pub mod Short

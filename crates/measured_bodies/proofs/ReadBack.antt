@@ -1,6 +1,5 @@
 -- A signed number is read back from its bits as it is, where it fits; the numbers of spans within the limits are small
 -- enough for the code's sums, differences and products too. Assumes nothing.
-use mathlib.Core.Path.{◌≡◌}
 use native.Mathlib.Omega.{arith}
 use lib.Dec.{lit≤}
 use lib.IntN.{ℤ}
@@ -15,10 +14,6 @@ use Rattle.measured_definitions.specs.Spans.{Limited, Coordinate, Inside}
 use Rattle.measured_definitions.specs.Circles.{CircleLimits, CircleChoice}
 use Rattle.measured_definitions.specs.Boxes.{BoxLimits, BoxChoice}
 use Rattle.measured_bodies.specs.Widths.{Short, ShortCircle, ShortBox}
-
-pub record ReadBack (s : Span) : Type 0 where
-  pub low : read s.lowest ≡ s.lowest
-  pub high : read s.highest ≡ s.highest
 
 pub record HeldEnds (s : Span) : Type 0 where
   pub low : Held (read s.lowest) s.lowest 1024

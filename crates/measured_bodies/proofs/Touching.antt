@@ -1,21 +1,18 @@
--- The code's tests of two choices are the definition's: nothing overflows, and each part is read back as it is. Assumes
+-- The code's test of two circles is the definition's: no product overflows, and each part is read back as it is. Assumes
 -- nothing.
 use mathlib.Core.Path.{◌≡◌}
-use mathlib.Core.Bool.{◌&&◌}
 use lib.Dec.{lit≤}
 use lib.IntN.{ℤ, ◌+ℤ◌, ◌-ℤ◌, ◌*ℤ◌}
 use lib.Signed.{le_z}
 use mir.Syntax.{w32}
 use mir.Val.{SFits}
-use Rattle.algebra.proofs.Signed.{read, Held, sum_fits, sum_held, difference_fits, difference_held, product_fits}
+use Rattle.algebra.proofs.Signed.{read, Held, sum_fits, sum_held, difference_held, product_fits}
 use Rattle.algebra.proofs.Signed.{product_held}
 use Rattle.measured_definitions.specs.declared.CirclePair.{CirclePair}
 use Rattle.measured_definitions.specs.MeasuredCircles.{circles_touch}
-use Rattle.measured_definitions.specs.MeasuredBoxes.{within}
-use Rattle.measured_bodies.specs.Widths.{Short, ShortCircle}
+use Rattle.measured_bodies.specs.Widths.{ShortCircle}
 use Rattle.measured_bodies.proofs.ReadBack.{hold}
 
--- ---- circles
 module _ (w : CirclePair) (sa : ShortCircle w.a) (sb : ShortCircle w.b) where
   -- what the code has for dx, dy and reach
   abbrev pub dx' : ℤ
@@ -26,15 +23,6 @@ module _ (w : CirclePair) (sa : ShortCircle w.a) (sb : ShortCircle w.b) where
 
   abbrev pub reach' : ℤ
   reach' = read w.a.radius +ℤ read w.b.radius
-
-  pub dx_fits : SFits w32 dx'
-  dx_fits = difference_fits (hold w.b.x sb.x) (hold w.a.x sa.x) (lit≤ tt)
-
-  pub dy_fits : SFits w32 dy'
-  dy_fits = difference_fits (hold w.b.y sb.y) (hold w.a.y sa.y) (lit≤ tt)
-
-  pub reach_fits : SFits w32 reach'
-  reach_fits = sum_fits (hold w.a.radius sa.radius) (hold w.b.radius sb.radius) (lit≤ tt)
 
   dx_held : Held (read dx') (w.b.x -ℤ w.a.x) 2048
   dx_held = difference_held (hold w.b.x sb.x) (hold w.a.x sa.x) (lit≤ tt)
@@ -65,19 +53,3 @@ module _ (w : CirclePair) (sa : ShortCircle w.a) (sb : ShortCircle w.b) where
       (lit≤ tt) in
       let reach = product_held reach_held reach_held (lit≤ tt) in
       λ i. le_z (squares.is i) (reach.is i)
-
--- ---- one axis of boxes
-module _ (a b reach : ℤ) (short_a : Short a) (short_b : Short b) where
-  pub up_fits : SFits w32 (read b -ℤ read a)
-  up_fits = difference_fits (hold b short_b) (hold a short_a) (lit≤ tt)
-
-  pub down_fits : SFits w32 (read a -ℤ read b)
-  down_fits = difference_fits (hold a short_a) (hold b short_b) (lit≤ tt)
-
-  pub axis_tested : (reach' : ℤ) → reach' ≡ reach
-      → (le_z (read (read b -ℤ read a)) reach' && le_z (read (read a -ℤ read b)) reach') ≡ within a b reach
-  unfolding within
-  axis_tested reach' e =
-      let up = difference_held (hold b short_b) (hold a short_a) (lit≤ tt) in
-      let down = difference_held (hold a short_a) (hold b short_b) (lit≤ tt) in
-      λ i. le_z (up.is i) (e i) && le_z (down.is i) (e i)

@@ -1,1 +1,3 @@
 pub mod Widths
+pub mod Verdict
+pub mod Numbers

@@ -5,6 +5,8 @@ use Rattle.algebra.specs.Integer.{Abs}
 use Rattle.algebra.specs.Signed.{number}
 use Rattle.measured_definitions.specs.declared.WholeCircle.{WholeCircle}
 use Rattle.measured_definitions.specs.declared.WholeBox.{WholeBox}
+use Rattle.measured_definitions.specs.declared.CirclePair.{CirclePair}
+use Rattle.measured_definitions.specs.declared.BoxPair.{BoxPair}
 
 abbrev pub Short : ℤ → Type 0
 Short x = Abs (number x) 1024
@@ -19,3 +21,9 @@ pub record ShortBox (w : WholeBox) : Type 0 where
   pub y : Short w.y
   pub hx : Short w.hx
   pub hy : Short w.hy
+
+abbrev pub ShortCircles : CirclePair → Type 0
+ShortCircles w = ShortCircle w.a × ShortCircle w.b
+
+abbrev pub ShortBoxes : BoxPair → Type 0
+ShortBoxes w = ShortBox w.a × ShortBox w.b

@@ -1,7 +1,7 @@
 // The spans of two bodies on one axis.
 ghost use Rattle.std.specs.Prelude.{◌≡◌};
 ghost use Rattle.measured_definitions.specs.Spans.{Coordinate};
-ghost use Rattle.measured_definitions.specs.Axes.{in_limits, nearest, farthest};
+ghost use Rattle.measured_definitions.specs.Axes.{in_limits, choice, nearest, farthest};
 
 use measured_definitions::{AxisChoice, MEASURE_LIMIT, Span};
 
@@ -28,11 +28,7 @@ pub fn nearest(a: Span, b: Span) -> AxisChoice
             b: b.highest,
         };
     }
-    let shared = if a.lowest < b.lowest {
-        b.lowest
-    } else {
-        a.lowest
-    };
+    let shared = a.lowest.max(b.lowest);
     AxisChoice {
         a: shared,
         b: shared,
@@ -56,4 +52,20 @@ pub fn farthest(a: Span, b: Span) -> AxisChoice
             b: b.lowest,
         }
     }
+}
+
+// The lowest of both.
+pub fn lowest(a: Span, b: Span) -> AxisChoice
+    ensures { result ≡ choice a.lowest b.lowest }
+{
+    let (a, b) = (a.lowest, b.lowest);
+    AxisChoice { a, b }
+}
+
+// The highest of both.
+pub fn highest(a: Span, b: Span) -> AxisChoice
+    ensures { result ≡ choice a.highest b.highest }
+{
+    let (a, b) = (a.highest, b.highest);
+    AxisChoice { a, b }
 }

@@ -1,29 +1,14 @@
 // Two measured boxes, unturned: the farthest choice with the smallest half-widths, and the nearest with the largest.
 ghost use Rattle.std.specs.Prelude.{◌≡◌};
-ghost use Rattle.measured_definitions.specs.Boxes.{BoxLimits, BoxesRight};
+ghost use Rattle.measured_definitions.specs.Boxes.{BoxesRight};
 ghost use Rattle.measured_definitions.specs.MeasuredBoxes.{box_in_limits, within, boxes_touch, box_pair};
-ghost use Rattle.measured_definitions.specs.MeasuredBoxes.{nearest_boxes, farthest_boxes};
-ghost use Rattle.measured_definitions.specs.MeasuredBoxes.{boxes_within, measured_boxes};
-ghost use Rattle.measured_bodies.specs.Widths.{Short, ShortBox};
+ghost use Rattle.measured_definitions.specs.MeasuredBoxes.{nearest_boxes, farthest_boxes, measured_boxes};
+ghost use Rattle.measured_bodies.specs.Widths.{Short, ShortBoxes};
 
 use crate::axes;
-use measured_definitions::{
-    AxisChoice, BoxPair, BoxesVerdict, MEASURE_LIMIT, MeasuredBox, WholeBox,
-};
-use shape_definitions::refusal;
-
-fn box_in_limits(a: MeasuredBox) -> bool
-    ensures { result ≡ box_in_limits a }
-{
-    let x = a.x;
-    let y = a.y;
-    let hx = a.hx;
-    let hy = a.hy;
-    axes::in_limits(-MEASURE_LIMIT, x)
-        & axes::in_limits(-MEASURE_LIMIT, y)
-        & axes::in_limits(0, hx)
-        & axes::in_limits(0, hy)
-}
+use crate::measured::{Measured, verdict};
+use measured_definitions::{AxisChoice, BoxPair, MEASURE_LIMIT, MeasuredBox, Verdict, WholeBox};
+use shape_definitions::refusal::Refusal;
 
 // Whether two numbers are no farther apart than reach.
 fn within(a: i32, b: i32, reach: i32) -> bool
@@ -33,91 +18,71 @@ fn within(a: i32, b: i32, reach: i32) -> bool
     (b - a <= reach) & (a - b <= reach)
 }
 
-// Whether on each axis the centres are no farther apart than both half-widths together.
-fn boxes_touch(w: BoxPair) -> bool
-    requires { ShortBox w.a × ShortBox w.b }
-    ensures { result ≡ boxes_touch w }
+fn box_pair(x: AxisChoice, y: AxisChoice, hx: AxisChoice, hy: AxisChoice) -> BoxPair
+    ensures { result ≡ box_pair x y hx.a hy.a hx.b hy.b }
 {
-    let a = w.a;
-    let b = w.b;
-    within(a.x, b.x, a.hx + b.hx) & within(a.y, b.y, a.hy + b.hy)
-}
-
-fn box_pair(x: AxisChoice, y: AxisChoice, hxa: i32, hya: i32, hxb: i32, hyb: i32) -> BoxPair
-    ensures { result ≡ box_pair x y hxa hya hxb hyb }
-{
-    let a = WholeBox {
-        x: x.a,
-        y: y.a,
-        hx: hxa,
-        hy: hya,
-    };
-    let b = WholeBox {
-        x: x.b,
-        y: y.b,
-        hx: hxb,
-        hy: hyb,
-    };
-    BoxPair { a, b }
-}
-
-fn nearest_boxes(a: MeasuredBox, b: MeasuredBox) -> BoxPair
-    ensures { result ≡ nearest_boxes a b }
-{
-    let ax = a.x;
-    let ay = a.y;
-    let ahx = a.hx;
-    let ahy = a.hy;
-    let bx = b.x;
-    let by = b.y;
-    let bhx = b.hx;
-    let bhy = b.hy;
-    let x = axes::nearest(ax, bx);
-    let y = axes::nearest(ay, by);
-    box_pair(x, y, ahx.highest, ahy.highest, bhx.highest, bhy.highest)
-}
-
-fn farthest_boxes(a: MeasuredBox, b: MeasuredBox) -> BoxPair
-    requires box_limits { BoxLimits a }
-    requires box_limits_2 { BoxLimits b }
-    ensures { result ≡ farthest_boxes a b }
-{
-    let ax = a.x;
-    let ay = a.y;
-    let ahx = a.hx;
-    let ahy = a.hy;
-    let bx = b.x;
-    let by = b.y;
-    let bhx = b.hx;
-    let bhy = b.hy;
-    let x = axes::farthest(ax, bx);
-    let y = axes::farthest(ay, by);
-    box_pair(x, y, ahx.lowest, ahy.lowest, bhx.lowest, bhy.lowest)
-}
-
-// The verdict on two boxes within the limits.
-fn boxes_within(a: MeasuredBox, b: MeasuredBox) -> BoxesVerdict
-    requires box_limits { BoxLimits a }
-    requires box_limits_2 { BoxLimits b }
-    ensures { result ≡ boxes_within a b }
-{
-    let far = farthest_boxes(a, b);
-    if boxes_touch(far) {
-        return BoxesVerdict::SurelyTouching;
+    BoxPair {
+        a: WholeBox {
+            x: x.a,
+            y: y.a,
+            hx: hx.a,
+            hy: hy.a,
+        },
+        b: WholeBox {
+            x: x.b,
+            y: y.b,
+            hx: hx.b,
+            hy: hy.b,
+        },
     }
-    let near = nearest_boxes(a, b);
-    if boxes_touch(near) {
-        return BoxesVerdict::Either(near, far);
+}
+
+impl Measured for MeasuredBox {
+    type Pair = BoxPair;
+
+    ghost in_limits = { box_in_limits };
+
+    ghost nearest = { nearest_boxes };
+
+    ghost farthest = { farthest_boxes };
+
+    ghost touch = { boxes_touch };
+
+    ghost Short = { ShortBoxes };
+
+    fn in_limits(self) -> bool {
+        axes::in_limits(-MEASURE_LIMIT, self.x)
+            & axes::in_limits(-MEASURE_LIMIT, self.y)
+            & axes::in_limits(0, self.hx)
+            & axes::in_limits(0, self.hy)
     }
-    BoxesVerdict::SurelyApart
+
+    fn nearest(self, other: MeasuredBox) -> BoxPair {
+        let x = axes::nearest(self.x, other.x);
+        let y = axes::nearest(self.y, other.y);
+        let hx = axes::highest(self.hx, other.hx);
+        let hy = axes::highest(self.hy, other.hy);
+        box_pair(x, y, hx, hy)
+    }
+
+    fn farthest(self, other: MeasuredBox) -> BoxPair {
+        let x = axes::farthest(self.x, other.x);
+        let y = axes::farthest(self.y, other.y);
+        let hx = axes::lowest(self.hx, other.hx);
+        let hy = axes::lowest(self.hy, other.hy);
+        box_pair(x, y, hx, hy)
+    }
+
+    // Whether on each axis the centres are no farther apart than both half-widths together.
+    fn touch(pair: BoxPair) -> bool {
+        within(pair.a.x, pair.b.x, pair.a.hx + pair.b.hx)
+            & within(pair.a.y, pair.b.y, pair.a.hy + pair.b.hy)
+    }
 }
 
 // The verdict, right of every two boxes inside the ranges; 17 where a number is out of its limits.
-pub fn measured_boxes(a: MeasuredBox, b: MeasuredBox) -> BoxesVerdict
+pub fn measured_boxes(a: MeasuredBox, b: MeasuredBox) -> Result<Verdict<BoxPair>, Refusal>
     ensures { (result ≡ measured_boxes a b) × BoxesRight a b result }
 {
-    if box_in_limits(a) & box_in_limits(b) {
-        return boxes_within(a, b);
-    }
-    BoxesVerdict::Refused(refusal::MEASURE_OUT_OF_LIMITS)
+    verdict(a, b)
 }

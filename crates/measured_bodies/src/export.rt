@@ -1,111 +1,60 @@
 // What the exports for the C match server answer (crate measured_bodies_c), by value: a verdict as its numbers, and the
-// two pairs that come with either.
+// two pairs that come with either. C takes no generic record, so there are two, and two exports.
 ghost use Rattle.std.specs.Prelude.{◌≡◌};
-ghost use Rattle.measured_definitions.specs.MeasuredCircles.{measured_circles, no_circles, circles_answer};
-ghost use Rattle.measured_definitions.specs.MeasuredBoxes.{measured_boxes, no_boxes, boxes_answer};
+ghost use Rattle.measured_definitions.specs.MeasuredCircles.{measured_circles, circles_answer};
+ghost use Rattle.measured_definitions.specs.MeasuredBoxes.{measured_boxes, boxes_answer};
+ghost use Rattle.measured_bodies.specs.Numbers.{numbers_of, pairs_of};
 
 use crate::{boxes, circles};
 use measured_definitions::{
-    BoxPair, BoxesAnswer, BoxesVerdict, CirclePair, CirclesAnswer, CirclesVerdict, EITHER,
-    MeasuredBox, MeasuredCircle, NO_VERDICT, SURELY_APART, SURELY_TOUCHING, WholeBox, WholeCircle,
+    BoxPair, BoxesAnswer, CirclePair, CirclesAnswer, MeasuredBox, MeasuredCircle, Verdict,
 };
-use shape_definitions::refusal;
+use shape_definitions::refusal::Refusal;
 
-fn no_circles() -> CirclePair
-    ensures { result ≡ no_circles }
+// The refusal and the verdict, each 0 where there is none.
+fn numbers<P: Copy>(said: Result<Verdict<P>, Refusal>) -> (u32, u32)
+    ensures { result ≡ numbers_of said }
 {
-    let none = WholeCircle {
-        x: 0,
-        y: 0,
-        radius: 0,
-    };
-    CirclePair { a: none, b: none }
+    match said {
+        Ok(verdict) => (0, verdict.into()),
+        Err(why) => (u8::from(why).into(), 0),
+    }
 }
 
-fn circles_answer(v: CirclesVerdict) -> CirclesAnswer
-    ensures { result ≡ circles_answer v }
+// The pair that touches and the one that is apart, or none.
+fn pairs<P: Copy>(said: Result<Verdict<P>, Refusal>, none: P) -> (P, P)
+    ensures { result ≡ pairs_of none said }
 {
-    let none = no_circles();
-    match v {
-        CirclesVerdict::Refused(number) => CirclesAnswer {
-            refusal: number as u32,
-            verdict: NO_VERDICT,
-            touching: none,
-            apart: none,
-        },
-        CirclesVerdict::SurelyTouching => CirclesAnswer {
-            refusal: refusal::ACCEPTED as u32,
-            verdict: SURELY_TOUCHING,
-            touching: none,
-            apart: none,
-        },
-        CirclesVerdict::SurelyApart => CirclesAnswer {
-            refusal: refusal::ACCEPTED as u32,
-            verdict: SURELY_APART,
-            touching: none,
-            apart: none,
-        },
-        CirclesVerdict::Either(touching, apart) => CirclesAnswer {
-            refusal: refusal::ACCEPTED as u32,
-            verdict: EITHER,
-            touching,
-            apart,
-        },
+    match said {
+        Ok(Verdict::Either { touching, apart }) => (touching, apart),
+        _ => (none, none),
     }
 }
 
 pub fn netxurbil_measured_circles(a: MeasuredCircle, b: MeasuredCircle) -> CirclesAnswer
     ensures { result ≡ circles_answer (measured_circles a b) }
 {
-    circles_answer(circles::measured_circles(a, b))
-}
-
-fn no_boxes() -> BoxPair
-    ensures { result ≡ no_boxes }
-{
-    let none = WholeBox {
-        x: 0,
-        y: 0,
-        hx: 0,
-        hy: 0,
-    };
-    BoxPair { a: none, b: none }
-}
-
-fn boxes_answer(v: BoxesVerdict) -> BoxesAnswer
-    ensures { result ≡ boxes_answer v }
-{
-    let none = no_boxes();
-    match v {
-        BoxesVerdict::Refused(number) => BoxesAnswer {
-            refusal: number as u32,
-            verdict: NO_VERDICT,
-            touching: none,
-            apart: none,
-        },
-        BoxesVerdict::SurelyTouching => BoxesAnswer {
-            refusal: refusal::ACCEPTED as u32,
-            verdict: SURELY_TOUCHING,
-            touching: none,
-            apart: none,
-        },
-        BoxesVerdict::SurelyApart => BoxesAnswer {
-            refusal: refusal::ACCEPTED as u32,
-            verdict: SURELY_APART,
-            touching: none,
-            apart: none,
-        },
-        BoxesVerdict::Either(touching, apart) => BoxesAnswer {
-            refusal: refusal::ACCEPTED as u32,
-            verdict: EITHER,
-            touching,
-            apart,
-        },
+    let said = circles::measured_circles(a, b);
+    let (refusal, verdict) = numbers(said);
+    let (touching, apart) = pairs(said, CirclePair::default());
+    CirclesAnswer {
+        refusal,
+        verdict,
+        touching,
+        apart,
     }
 }
 
 pub fn netxurbil_measured_boxes(a: MeasuredBox, b: MeasuredBox) -> BoxesAnswer
     ensures { result ≡ boxes_answer (measured_boxes a b) }
 {
-    boxes_answer(boxes::measured_boxes(a, b))
+    let said = boxes::measured_boxes(a, b);
+    let (refusal, verdict) = numbers(said);
+    let (touching, apart) = pairs(said, BoxPair::default());
+    BoxesAnswer {
+        refusal,
+        verdict,
+        touching,
+        apart,
+    }
 }

@@ -7,3 +7,4 @@ pub mod axes;
 pub mod boxes;
 pub mod circles;
 pub mod export;
+pub mod measured;

@@ -9,6 +9,7 @@ use native.Mathlib.Omega.{arith}
 use borrow.Author.Tests.{leb-true, leb-false}
 use lib.Dec.{leb}
 use lib.IntN.{ℤ, ◌+ℤ◌, ◌-ℤ◌}
+use Rattle.std.proofs.Common.{Ok}
 use Rattle.algebra.specs.Integer.{Z, whole, ◌⊟◌, ◌≼◌, Abs}
 use Rattle.algebra.specs.Signed.{number}
 use Rattle.algebra.specs.Squares.{above}
@@ -155,7 +156,7 @@ module _ (a b : MeasuredBox) (la : BoxLimits a) (lb : BoxLimits b) where
       touch_test w (not_negative _ _ la.hx wa.hx) (not_negative _ _ la.hy wa.hy)
       (not_negative _ _ lb.hx wb.hx) (not_negative _ _ lb.hy wb.hy)
 
-  within_right : BoxesRight a b (boxes_within a b)
+  within_right : BoxesRight a b (Ok (boxes_within a b))
   unfolding boxes_within
   within_right =
       by_test (boxes_touch (farthest_boxes a b))

@@ -1,6 +1,7 @@
 -- Closed cases: bodies that share just one point, one step farther apart, a tolerance of one step between them, spans
 -- of which one lies in the other, the limits, and 17 of each body. Assumes nothing.
 use mathlib.Core.Path.{◌≡◌, refl}
+use Rattle.std.proofs.Common.{Ok}
 use mathlib.Core.Bool.{true}
 use Prim.Native.Nat.{ℕ}
 use native.Mathlib.Omega.{arith}
@@ -13,10 +14,12 @@ use Rattle.measured_definitions.specs.declared.MeasuredBox.{MeasuredBox}
 use Rattle.measured_definitions.specs.declared.WholeCircle.{WholeCircle}
 use Rattle.measured_definitions.specs.declared.WholeBox.{WholeBox}
 use Rattle.measured_definitions.specs.declared.CirclePair.{CirclePair}
-use Rattle.measured_definitions.specs.declared.CirclesVerdict as Circles
-use Rattle.measured_definitions.specs.declared.BoxesVerdict as Boxes
+use Rattle.measured_definitions.specs.declared.Verdict.TheVariants.{SurelyTouching, SurelyApart, Either}
 use Rattle.measured_definitions.specs.Bodies.{SharePoint, Disc, disc, Box, box}
 use Rattle.measured_definitions.specs.Spans.{Coordinate, Size}
+use Rattle.measured_definitions.specs.Verdicts.{refused}
+use Rattle.measured_definitions.specs.Circles.{circles_verdict}
+use Rattle.measured_definitions.specs.Boxes.{boxes_verdict}
 use Rattle.measured_definitions.specs.MeasuredCircles.{measured_circles, circles_answer, circle_in_limits}
 use Rattle.measured_definitions.specs.MeasuredCircles.{circles_within, circles_touch, nearest_circles}
 use Rattle.measured_definitions.specs.MeasuredCircles.{farthest_circles}
@@ -95,39 +98,39 @@ abbrev anywhere : MeasuredCircle
 anywhere = circle (span (negsuc 1023) (pos 1024)) (span (negsuc 1023) (pos 1024)) (span (pos 0) (pos 1024))
 
 abbrev Touching : MeasuredCircle → MeasuredCircle → Type 0
-Touching a b = measured_circles a b ≡ Circles.TheVariants.SurelyTouching
+Touching a b = measured_circles a b ≡ Ok SurelyTouching
 
 abbrev Apart : MeasuredCircle → MeasuredCircle → Type 0
-Apart a b = measured_circles a b ≡ Circles.TheVariants.SurelyApart
+Apart a b = measured_circles a b ≡ Ok SurelyApart
 
 abbrev OutOfLimits : MeasuredCircle → MeasuredCircle → Type 0
-OutOfLimits a b = measured_circles a b ≡ Circles.TheVariants.Refused 17
+OutOfLimits a b = circles_verdict (measured_circles a b) ≡ refused 17
 
 record CircleCases : Type 0 where
   -- at (3, 4) it shares one point with radius 5; at (3, 5) none; measured as from 4 to 5, either
   one_point : Touching wheel (circle (just 3) (just 4) (just 0))
   one_step_off : Apart wheel (circle (just 3) (just 5) (just 0))
   tolerance : measured_circles wheel (circle (just 3) (span (pos 4) (pos 5)) (just 0))
-      ≡ Circles.TheVariants.Either (pair (whole_circle 0 0 5) (whole_circle 3 4 0))
-      (pair (whole_circle 0 0 5) (whole_circle 3 5 0))
+      ≡ Ok (Either (pair (whole_circle 0 0 5) (whole_circle 3 4 0))
+      (pair (whole_circle 0 0 5) (whole_circle 3 5 0)))
   -- from 0 to 10 and from 4 to 5: 10 and 4 are farthest apart, 6, and 4 and 4 nearest
   farthest_touch : Touching (circle (span (pos 0) (pos 10)) (just 0) (just 3))
       (circle (span (pos 4) (pos 5)) (just 0) (just 3))
   farthest_part : measured_circles (circle (span (pos 0) (pos 10)) (just 0) (just 3))
       (circle (span (pos 4) (pos 5)) (just 0) (just 2))
-      ≡ Circles.TheVariants.Either (pair (whole_circle 4 0 3) (whole_circle 4 0 2))
-      (pair (whole_circle 10 0 3) (whole_circle 4 0 2))
+      ≡ Ok (Either (pair (whole_circle 4 0 3) (whole_circle 4 0 2))
+      (pair (whole_circle 10 0 3) (whole_circle 4 0 2)))
   -- the largest radii may touch, the smallest surely: from 1 to 4 and 2, at a distance of 6, or of 3
   largest_radii : measured_circles (circle (just 0) (just 0) (span (pos 1) (pos 4))) (circle (just 6) (just 0) (just 2))
-      ≡ Circles.TheVariants.Either (pair (whole_circle 0 0 4) (whole_circle 6 0 2))
-      (pair (whole_circle 0 0 1) (whole_circle 6 0 2))
+      ≡ Ok (Either (pair (whole_circle 0 0 4) (whole_circle 6 0 2))
+      (pair (whole_circle 0 0 1) (whole_circle 6 0 2)))
   smallest_radii : Touching (circle (just 0) (just 0) (span (pos 1) (pos 4))) (circle (just 3) (just 0) (just 2))
   -- the limits are inside; 17 past them, or where a lowest exceeds its highest, of A and of B
   all_limits : measured_circles anywhere anywhere
-      ≡ Circles.TheVariants.Either
+      ≡ Ok (Either
       (pair (record { x = negsuc 1023; y = negsuc 1023; radius = pos 1024 })
       (record { x = negsuc 1023; y = negsuc 1023; radius = pos 1024 }))
-      (pair (record { x = negsuc 1023; y = negsuc 1023; radius = pos 0 }) (whole_circle 1024 1024 0))
+      (pair (record { x = negsuc 1023; y = negsuc 1023; radius = pos 0 }) (whole_circle 1024 1024 0)))
   x_of_a : OutOfLimits (circle (span (negsuc 1024) (pos 0)) (just 0) (just 0)) wheel
   y_of_a : OutOfLimits (circle (just 0) (span (pos 1) (pos 0)) (just 0)) wheel
   radius_of_a : OutOfLimits (circle (just 0) (just 0) (span (negsuc 0) (pos 0))) wheel
@@ -184,24 +187,24 @@ below_it x = measured_box x (span (negsuc 3) (negsuc 3)) (just 1) (just 2)
 
 record BoxCases : Type 0 where
   -- at (2, -4) they share a corner, at (3, -4) nothing, nor at (2, -5); measured as from 2 to 3, either
-  one_corner : measured_boxes crate (below_it (just 2)) ≡ Boxes.TheVariants.SurelyTouching
-  beside_it : measured_boxes crate (below_it (just 3)) ≡ Boxes.TheVariants.SurelyApart
+  one_corner : measured_boxes crate (below_it (just 2)) ≡ Ok SurelyTouching
+  beside_it : measured_boxes crate (below_it (just 3)) ≡ Ok SurelyApart
   under_it : measured_boxes crate (measured_box (just 2) (span (negsuc 4) (negsuc 4)) (just 1) (just 2))
-      ≡ Boxes.TheVariants.SurelyApart
+      ≡ Ok SurelyApart
   tolerance : measured_boxes crate (below_it (span (pos 2) (pos 3)))
-      ≡ Boxes.TheVariants.Either
+      ≡ Ok (Either
       (record { a = whole_box (pos 0) (pos 0) 1 2; b = whole_box (pos 2) (negsuc 3) 1 2 })
-      (record { a = whole_box (pos 0) (pos 0) 1 2; b = whole_box (pos 3) (negsuc 3) 1 2 })
+      (record { a = whole_box (pos 0) (pos 0) 1 2; b = whole_box (pos 3) (negsuc 3) 1 2 }))
   -- half-widths from 0 to 2: touching with the largest, apart with the smallest
   half_widths : measured_boxes crate (measured_box (just 3) (just 0) (span (pos 0) (pos 2)) (just 0))
-      ≡ Boxes.TheVariants.Either
+      ≡ Ok (Either
       (record { a = whole_box (pos 0) (pos 0) 1 2; b = whole_box (pos 3) (pos 0) 2 0 })
-      (record { a = whole_box (pos 0) (pos 0) 1 2; b = whole_box (pos 3) (pos 0) 0 0 })
-  hy_of_a : measured_boxes (measured_box (just 0) (just 0) (just 0) (span (negsuc 0) (pos 0))) crate
-      ≡ Boxes.TheVariants.Refused 17
-  hx_of_b : measured_boxes crate (measured_box (just 0) (just 0) (just 1025) (just 0)) ≡ Boxes.TheVariants.Refused 17
-  hy_of_b : measured_boxes crate (measured_box (just 0) (just 0) (just 0) (span (pos 1) (pos 0)))
-      ≡ Boxes.TheVariants.Refused 17
+      (record { a = whole_box (pos 0) (pos 0) 1 2; b = whole_box (pos 3) (pos 0) 0 0 }))
+  hy_of_a : boxes_verdict (measured_boxes (measured_box (just 0) (just 0) (just 0) (span (negsuc 0) (pos 0))) crate)
+      ≡ refused 17
+  hx_of_b : boxes_verdict (measured_boxes crate (measured_box (just 0) (just 0) (just 1025) (just 0))) ≡ refused 17
+  hy_of_b : boxes_verdict (measured_boxes crate (measured_box (just 0) (just 0) (just 0) (span (pos 1) (pos 0))))
+      ≡ refused 17
 
 box_cases : BoxCases
 unfolding measured_boxes box_in_limits in_limits boxes_within boxes_touch within nearest_boxes farthest_boxes nearest

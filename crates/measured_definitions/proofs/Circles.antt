@@ -7,6 +7,7 @@ use Prim.Native.Nat.{ℕ, ◌+◌, ◌*◌, ◌≤◌, ◌<◌}
 use native.Mathlib.Nat.{mul-le-mul, mul-le-mul_left, mul-pos}
 use native.Mathlib.Omega.{arith}
 use lib.IntN.{ℤ, ◌+ℤ◌, ◌-ℤ◌, ◌*ℤ◌}
+use Rattle.std.proofs.Common.{Ok}
 use Rattle.algebra.specs.Integer.{Z, whole, opp, ◌⊞◌, ◌⊟◌, ◌⊠◌, ◌⊛◌, ◌≐◌, ◌≼◌, Abs}
 use Rattle.algebra.specs.Signed.{number}
 use Rattle.algebra.specs.Squares.{above}
@@ -186,7 +187,7 @@ module _ (a b : MeasuredCircle) (la : CircleLimits a) (lb : CircleLimits b) wher
   test_of w wa wb =
       touch_test w (not_negative _ _ la.radius wa.radius) (not_negative _ _ lb.radius wb.radius)
 
-  within_right : CirclesRight a b (circles_within a b)
+  within_right : CirclesRight a b (Ok (circles_within a b))
   unfolding circles_within
   within_right =
       by_test (circles_touch (farthest_circles a b))

@@ -1,13 +1,15 @@
 -- Measured boxes, unturned. Definitions only.
-use Rattle.std.specs.Prelude.{ℕ}
+use Rattle.std.specs.Prelude.{ℕ, Result, Ok, Err}
 use Rattle.algebra.specs.Integer.{whole}
 use Rattle.algebra.specs.Signed.{number}
 use Rattle.algebra.specs.Squares.{above}
+use Rattle.shape_definitions.specs.declared.refusal.Refusal.{Refusal}
+use Rattle.shape_definitions.specs.Refusal.{number_of}
 use Rattle.measured_definitions.specs.declared.MeasuredBox.{MeasuredBox}
 use Rattle.measured_definitions.specs.declared.WholeBox.{WholeBox}
-use Rattle.measured_definitions.specs.declared.BoxesVerdict.{BoxesVerdict}
-use Rattle.measured_definitions.specs.declared.BoxesVerdict.TheVariants.{Refused, SurelyTouching}
-use Rattle.measured_definitions.specs.declared.BoxesVerdict.TheVariants.{SurelyApart, Either}
+use Rattle.measured_definitions.specs.declared.BoxPair.{BoxPair}
+use Rattle.measured_definitions.specs.declared.Verdict as Said
+use Rattle.measured_definitions.specs.declared.Verdict.TheVariants.{SurelyTouching, SurelyApart, Either}
 use Rattle.measured_definitions.specs.Bodies.{Box, box}
 use Rattle.measured_definitions.specs.Spans.{Coordinate, Size, Inside}
 use Rattle.measured_definitions.specs.Verdicts.{Kind, Verdict, refused, surely_touching, surely_apart, either}
@@ -52,11 +54,11 @@ boxes = record {
   points = box;
 }
 
-abbrev pub boxes_verdict : BoxesVerdict → Verdict WholeBox
-boxes_verdict (Refused n) = refused n
-boxes_verdict SurelyTouching = surely_touching
-boxes_verdict SurelyApart = surely_apart
-boxes_verdict (Either t s) = either t.a t.b s.a s.b
+abbrev pub boxes_verdict : Result (Said.Verdict BoxPair) Refusal → Verdict WholeBox
+boxes_verdict (Err why) = refused (number_of why)
+boxes_verdict (Ok SurelyTouching) = surely_touching
+boxes_verdict (Ok SurelyApart) = surely_apart
+boxes_verdict (Ok (Either t s)) = either t.a t.b s.a s.b
 
-abbrev pub BoxesRight : MeasuredBox → MeasuredBox → BoxesVerdict → Type 0
+abbrev pub BoxesRight : MeasuredBox → MeasuredBox → Result (Said.Verdict BoxPair) Refusal → Type 0
 BoxesRight a b v = Right boxes a b (boxes_verdict v)

@@ -1,13 +1,15 @@
 -- Measured circles. Definitions only.
-use Rattle.std.specs.Prelude.{ℕ}
+use Rattle.std.specs.Prelude.{ℕ, Result, Ok, Err}
 use Rattle.algebra.specs.Integer.{whole}
 use Rattle.algebra.specs.Signed.{number}
 use Rattle.algebra.specs.Squares.{above}
+use Rattle.shape_definitions.specs.declared.refusal.Refusal.{Refusal}
+use Rattle.shape_definitions.specs.Refusal.{number_of}
 use Rattle.measured_definitions.specs.declared.MeasuredCircle.{MeasuredCircle}
 use Rattle.measured_definitions.specs.declared.WholeCircle.{WholeCircle}
-use Rattle.measured_definitions.specs.declared.CirclesVerdict.{CirclesVerdict}
-use Rattle.measured_definitions.specs.declared.CirclesVerdict.TheVariants.{Refused, SurelyTouching}
-use Rattle.measured_definitions.specs.declared.CirclesVerdict.TheVariants.{SurelyApart, Either}
+use Rattle.measured_definitions.specs.declared.CirclePair.{CirclePair}
+use Rattle.measured_definitions.specs.declared.Verdict as Said
+use Rattle.measured_definitions.specs.declared.Verdict.TheVariants.{SurelyTouching, SurelyApart, Either}
 use Rattle.measured_definitions.specs.Bodies.{Disc, disc}
 use Rattle.measured_definitions.specs.Spans.{Coordinate, Size, Inside}
 use Rattle.measured_definitions.specs.Verdicts.{Kind, Verdict, refused, surely_touching, surely_apart, either}
@@ -48,11 +50,11 @@ circles = record {
   points = disc;
 }
 
-abbrev pub circles_verdict : CirclesVerdict → Verdict WholeCircle
-circles_verdict (Refused n) = refused n
-circles_verdict SurelyTouching = surely_touching
-circles_verdict SurelyApart = surely_apart
-circles_verdict (Either t s) = either t.a t.b s.a s.b
+abbrev pub circles_verdict : Result (Said.Verdict CirclePair) Refusal → Verdict WholeCircle
+circles_verdict (Err why) = refused (number_of why)
+circles_verdict (Ok SurelyTouching) = surely_touching
+circles_verdict (Ok SurelyApart) = surely_apart
+circles_verdict (Ok (Either t s)) = either t.a t.b s.a s.b
 
-abbrev pub CirclesRight : MeasuredCircle → MeasuredCircle → CirclesVerdict → Type 0
+abbrev pub CirclesRight : MeasuredCircle → MeasuredCircle → Result (Said.Verdict CirclePair) Refusal → Type 0
 CirclesRight a b v = Right circles a b (circles_verdict v)

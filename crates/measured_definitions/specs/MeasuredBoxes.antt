@@ -1,17 +1,18 @@
 -- What the call on two measured boxes answers. Where the farthest choice with the smallest half-widths touches, all do;
 -- where the nearest with the largest does not, none do; else these two are the choices. That this is right, BoxesRight,
 -- is a theorem. Definitions only.
-use Rattle.std.specs.Prelude.{Bool, cond, ◌&&◌, ℤ, pos, ◌+ℤ◌, ◌-ℤ◌}
+use Rattle.std.specs.Prelude.{Bool, Result, Ok, Err, cond, ◌&&◌, ℤ, pos, ◌+ℤ◌, ◌-ℤ◌}
 use Rattle.std.specs.Int.Signed.{le_z}
-use Rattle.shape_definitions.specs.Refusal.{accepted, measure_out_of_limits}
+use Rattle.shape_definitions.specs.declared.refusal.Refusal.{Refusal}
+use Rattle.shape_definitions.specs.declared.refusal.Refusal.TheVariants.{MeasureOutOfLimits}
+use Rattle.shape_definitions.specs.Refusal.{accepted, number_of}
 use Rattle.measured_definitions.specs.declared.AxisChoice.{AxisChoice}
 use Rattle.measured_definitions.specs.declared.MeasuredBox.{MeasuredBox}
 use Rattle.measured_definitions.specs.declared.WholeBox.{WholeBox}
 use Rattle.measured_definitions.specs.declared.BoxPair.{BoxPair}
 use Rattle.measured_definitions.specs.declared.BoxesAnswer.{BoxesAnswer}
-use Rattle.measured_definitions.specs.declared.BoxesVerdict.{BoxesVerdict}
-use Rattle.measured_definitions.specs.declared.BoxesVerdict.TheVariants.{Refused, SurelyTouching}
-use Rattle.measured_definitions.specs.declared.BoxesVerdict.TheVariants.{SurelyApart, Either}
+use Rattle.measured_definitions.specs.declared.Verdict.{Verdict}
+use Rattle.measured_definitions.specs.declared.Verdict.TheVariants.{SurelyTouching, SurelyApart, Either}
 use Rattle.measured_definitions.specs.Axes.{coordinate_in_limits, size_in_limits, nearest, farthest}
 use Rattle.measured_definitions.specs.Numbers.{no_verdict_number, surely_touching_number, surely_apart_number}
 use Rattle.measured_definitions.specs.Numbers.{either_number}
@@ -45,14 +46,14 @@ farthest_boxes a b =
     box_pair (farthest a.x b.x) (farthest a.y b.y)
     a.hx.lowest a.hy.lowest b.hx.lowest b.hy.lowest
 
-unfoldable pub boxes_within : MeasuredBox → MeasuredBox → BoxesVerdict
+unfoldable pub boxes_within : MeasuredBox → MeasuredBox → Verdict BoxPair
 boxes_within a b =
     let near = nearest_boxes a b in
     let far = farthest_boxes a b in
     cond (boxes_touch far) SurelyTouching (cond (boxes_touch near) (Either near far) SurelyApart)
 
-unfoldable pub measured_boxes : MeasuredBox → MeasuredBox → BoxesVerdict
-measured_boxes a b = cond (box_in_limits a && box_in_limits b) (boxes_within a b) (Refused measure_out_of_limits)
+unfoldable pub measured_boxes : MeasuredBox → MeasuredBox → Result (Verdict BoxPair) Refusal
+measured_boxes a b = cond (box_in_limits a && box_in_limits b) (Ok (boxes_within a b)) (Err MeasureOutOfLimits)
 
 -- ---- the numbers and values of each case, for a host
 abbrev pub no_box : WholeBox
@@ -61,11 +62,11 @@ no_box = record { x = pos 0; y = pos 0; hx = pos 0; hy = pos 0 }
 abbrev pub no_boxes : BoxPair
 no_boxes = record { a = no_box; b = no_box }
 
-unfoldable pub boxes_answer : BoxesVerdict → BoxesAnswer
-boxes_answer (Refused n) =
-    record { refusal = n; verdict = no_verdict_number; touching = no_boxes; apart = no_boxes }
-boxes_answer SurelyTouching =
+unfoldable pub boxes_answer : Result (Verdict BoxPair) Refusal → BoxesAnswer
+boxes_answer (Err why) =
+    record { refusal = number_of why; verdict = no_verdict_number; touching = no_boxes; apart = no_boxes }
+boxes_answer (Ok SurelyTouching) =
     record { refusal = accepted; verdict = surely_touching_number; touching = no_boxes; apart = no_boxes }
-boxes_answer SurelyApart =
+boxes_answer (Ok SurelyApart) =
     record { refusal = accepted; verdict = surely_apart_number; touching = no_boxes; apart = no_boxes }
-boxes_answer (Either t s) = record { refusal = accepted; verdict = either_number; touching = t; apart = s }
+boxes_answer (Ok (Either t s)) = record { refusal = accepted; verdict = either_number; touching = t; apart = s }

@@ -1,7 +1,10 @@
 // Document 02, request 08: circles and unturned boxes measured with a tolerance, in whole numbers of 1/256 m. Their
-// records, and what each call answers (specs/). No functions.
+// records, and what each call answers (specs/). No functions but a verdict's number.
 
 #![tactic(auto)]
+
+ghost use Rattle.std.specs.Prelude.{◌≡◌};
+ghost use Rattle.measured_definitions.specs.Numbers.{verdict_number};
 
 // Coordinates are from -1,024 to 1,024, radii and half-widths from 0 to it.
 pub const MEASURE_LIMIT: i32 = 1024;
@@ -33,7 +36,7 @@ pub struct MeasuredBox {
 
 // One choice of whole numbers.
 #[repr(C)]
-#[derive(Clone, Copy)]
+#[derive(Clone, Copy, Default)]
 pub struct WholeCircle {
     pub x: i32,
     pub y: i32,
@@ -41,7 +44,7 @@ pub struct WholeCircle {
 }
 
 #[repr(C)]
-#[derive(Clone, Copy)]
+#[derive(Clone, Copy, Default)]
 pub struct WholeBox {
     pub x: i32,
     pub y: i32,
@@ -49,52 +52,47 @@ pub struct WholeBox {
     pub hy: i32,
 }
 
+// Two records of each pair and each answer: C takes none with a type parameter.
 #[repr(C)]
-#[derive(Clone, Copy)]
+#[derive(Clone, Copy, Default)]
 pub struct CirclePair {
     pub a: WholeCircle,
     pub b: WholeCircle,
 }
 
 #[repr(C)]
-#[derive(Clone, Copy)]
+#[derive(Clone, Copy, Default)]
 pub struct BoxPair {
     pub a: WholeBox,
     pub b: WholeBox,
 }
 
-// A choice on one axis: a number of A and one of B.
+// A choice on one axis: a number of A and one of B. With the pairs kept for C, it is the only one of its shape.
 #[derive(Clone, Copy)]
 pub struct AxisChoice {
     pub a: i32,
     pub b: i32,
 }
 
-// The number of a refusal, or a verdict. Either comes with a pair that touches and then one that is apart.
+// What is said of two measured bodies. Either comes with a pair that touches and a pair that is apart.
 #[derive(Clone, Copy)]
-pub enum CirclesVerdict {
-    Refused(u8),
+pub enum Verdict<P> {
     SurelyTouching,
     SurelyApart,
-    Either(CirclePair, CirclePair),
+    Either { touching: P, apart: P },
 }
 
-#[derive(Clone, Copy)]
-pub enum BoxesVerdict {
-    Refused(u8),
-    SurelyTouching,
-    SurelyApart,
-    Either(BoxPair, BoxPair),
+impl<P: Copy> From<Verdict<P>> for u32 {
+    ghost from_gives = { λ verdict number. number ≡ verdict_number verdict };
+
+    fn from(verdict: Verdict<P>) -> u32 {
+        match verdict {
+            Verdict::SurelyTouching => 1,
+            Verdict::SurelyApart => 2,
+            Verdict::Either { .. } => 3,
+        }
+    }
 }
-
-// A verdict as numbers, 0 where the call was refused.
-pub const NO_VERDICT: u32 = 0;
-
-pub const SURELY_TOUCHING: u32 = 1;
-
-pub const SURELY_APART: u32 = 2;
-
-pub const EITHER: u32 = 3;
 
 // What a host gets: 0 and the verdict, or the refusal and no verdict; pairs of zeros where there are none.
 #[repr(C)]

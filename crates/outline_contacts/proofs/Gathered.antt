@@ -12,7 +12,7 @@ use Rattle.shape_definitions.specs.Outline.{origin, point_at, place_after}
 use Rattle.contact_definitions.specs.declared.axis.Best.{Best}
 use Rattle.contact_definitions.specs.Searches.{first_least}
 use Rattle.algebra.proofs.Lists.{getD_within}
-use Rattle.outline_contacts.specs.declared.faces.Corner.{Corner}
+use Rattle.contact_definitions.specs.declared.axis.Corner.{Corner}
 use Rattle.outline_contacts.specs.declared.faces.Face.{Face}
 use Rattle.outline_contacts.specs.Faces.{corner_of, face_of}
 

@@ -1,7 +1,7 @@
 -- Every face's least distance, a corner at a time. Assumes nothing.
 use mathlib.Core.Path.{◌≡◌, ap, ◌∙◌}
 use mathlib.Core.List.{List, map}
-use Prim.Native.Nat.{ℕ, ◌+◌, ◌-◌, ◌<◌, ◌≤◌}
+use Prim.Native.Nat.{ℕ, ◌+◌, ◌-◌, ◌<◌}
 use lib.ListN.{length, get_or}
 use lib.Ieee.{Float}
 use Rattle.algebra.specs.Loops.{places, scan}
@@ -10,8 +10,8 @@ use Rattle.floats.specs.declared.b2_math.B2vec2.{B2vec2}
 use Rattle.floats.specs.B2Math.{b2_min}
 use Rattle.shape_definitions.specs.Outline.{point_at}
 use Rattle.contact_definitions.specs.Searches.{below_value}
-use Rattle.contact_definitions.proofs.Searches.{scan_starts, scanned, scanned_all}
-use Rattle.outline_contacts.specs.FaceRows.{Eight, at, distance_at, least_from, LeastRow}
+use Rattle.contact_definitions.proofs.Searches.{scan_starts, scanned}
+use Rattle.outline_contacts.specs.FaceRows.{at, distance_at, least_from}
 
 pub record Lowest (nxs nys xs ys : List Float) (v2s : List B2vec2) (count2 : ℕ) (old : List Float) (n j : ℕ)
     (row : List Float) : Type 0 where
@@ -38,12 +38,4 @@ module _ (nxs nys xs ys : List Float) (v2s : List B2vec2) (count2 : ℕ) (old : 
           (so_far.at_each i below) (at new i) more
           (New_is i below
           ∙ ap (λ (v : B2vec2). b2_min (distance_at nxs nys xs ys v i) (at row i)) (getD_within v2s j d _ within));
-    }
-
-    pub lowest_ended : Eight row → count2 ≤ j → LeastRow nxs nys xs ys v2s count2 n old row
-    lowest_ended size past = record {
-      size = size;
-      least_at = λ i below.
-          scanned_all below_value (λ k. distance_at nxs nys xs ys (point_at v2s k) i) (at row i) _ j count2
-          (so_far.at_each i below) past;
     }

@@ -1,6 +1,6 @@
 -- Rows, a place at a time: what stands at the places below i after a store at i, and what stands past it. Assumes
 -- nothing.
-use mathlib.Core.Path.{◌≡◌, refl, sym, ap, ap₂, ◌∙◌}
+use mathlib.Core.Path.{◌≡◌, refl, sym, ap, ◌∙◌}
 use mathlib.Core.Logic.{inl, inr}
 use mathlib.Core.List.{List}
 use Prim.Native.Nat.{ℕ, ◌+◌, ◌<◌, ◌≤◌}
@@ -11,12 +11,11 @@ use lib.Ieee.{Float, nan, binary32, add, sub, mul}
 use Rattle.algebra.proofs.Booleans.{less_or_not}
 use Rattle.algebra.proofs.Lists.{getD_within}
 use Rattle.floats.specs.declared.b2_math.B2vec2.{B2vec2}
-use Rattle.floats.specs.declared.b2_math.B2Transform.{B2Transform}
-use Rattle.floats.specs.B2Math.{vec2, b2_sub, b2_dot, b2_mul_rot_by_vec2, b2_mul_transform_by_vec2}
-use Rattle.shape_definitions.specs.Outline.{origin, point_at}
+use Rattle.floats.specs.B2Math.{b2_sub, b2_dot}
+use Rattle.shape_definitions.specs.Outline.{origin}
 use Rattle.contact_definitions.specs.declared.axis.Best.{Best}
 use Rattle.outline_contacts.specs.declared.rows.FarthestFace.{FarthestFace}
-use Rattle.outline_contacts.specs.FaceRows.{Eight, at, vector_at, FaceRows, distance_at, faced}
+use Rattle.outline_contacts.specs.FaceRows.{Eight, at, distance_at, faced}
 
 pub eight_set : (row : List Float) (i : ℕ) (x : Float) → Eight row → Eight (set row i x)
 eight_set row i x eight = length-set row i x ∙ eight
@@ -34,37 +33,6 @@ module _ (row : List Float) (i : ℕ) (x : Float) where
   pub rest_next : (old : List Float) → ((k : ℕ) → i ≤ k → at row k ≡ at old k)
       → (k : ℕ) → i + 1 ≤ k → at (set row i x) k ≡ at old k
   rest_next old so_far k past = get_or-set_other row i k x nan (λ e. omega arith) ∙ so_far k (omega arith)
-
--- ---- the faces, carried
-module _ (xs ys : List Float) (i : ℕ) (v : B2vec2) (f : ℕ → B2vec2) where
-  vectors_next : i < length xs → i < length ys → ((k : ℕ) → k < i → vector_at xs ys k ≡ f k) → v ≡ f i
-      → (k : ℕ) → k < i + 1 → vector_at (set xs i v.x) (set ys i v.y) k ≡ f k
-  vectors_next in_xs in_ys so_far v_is k below =
-      ap₂ vec2
-      (row_next xs i v.x (λ j. (f j).x) in_xs (λ j h. ap (λ (u : B2vec2). u.x) (so_far j h))
-      (ap (λ (u : B2vec2). u.x) v_is) k below)
-      (row_next ys i v.y (λ j. (f j).y) in_ys (λ j h. ap (λ (u : B2vec2). u.y) (so_far j h))
-      (ap (λ (u : B2vec2). u.y) v_is) k below)
-
-module _ (xf : B2Transform) (vs ns : List B2vec2) (i : ℕ) (nxs nys xs ys : List Float) where
-  pub face_rows_next : FaceRows xf vs ns i nxs nys xs ys → i < 8 → (m v : B2vec2)
-      → m ≡ b2_mul_rot_by_vec2 xf.q (point_at ns i) → v ≡ b2_mul_transform_by_vec2 xf (point_at vs i)
-      → FaceRows xf vs ns (i + 1) (set nxs i m.x) (set nys i m.y) (set xs i v.x) (set ys i v.y)
-  face_rows_next rows below m v m_is v_is =
-      let nxs_size = rows.nxs_size in
-      let nys_size = rows.nys_size in
-      let xs_size = rows.xs_size in
-      let ys_size = rows.ys_size in
-      record {
-        nxs_size = eight_set nxs i m.x nxs_size;
-        nys_size = eight_set nys i m.y nys_size;
-        xs_size = eight_set xs i v.x xs_size;
-        ys_size = eight_set ys i v.y ys_size;
-        normals = vectors_next nxs nys i m (λ k. b2_mul_rot_by_vec2 xf.q (point_at ns k)) (omega arith)
-            (omega arith) rows.normals m_is;
-        corners = vectors_next xs ys i v (λ k. b2_mul_transform_by_vec2 xf (point_at vs k)) (omega arith)
-            (omega arith) rows.corners v_is;
-      }
 
 -- ---- a distance, as the code works it out
 pub distance_is : (nxs nys xs ys : List Float) (v : B2vec2) (i : ℕ)

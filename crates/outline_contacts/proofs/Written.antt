@@ -20,7 +20,7 @@ use Rattle.contact_definitions.specs.Clip.{clipped}
 use Rattle.contact_definitions.specs.ReferenceFace.{clipped_to_sides}
 use Rattle.contact_definitions.specs.B2CollidePolygon.{within_skins, outline_point}
 use Rattle.contact_definitions.proofs.Counts.{sides_few}
-use Rattle.collision.specs.declared.clip.Clip.{Clip}
+use Rattle.contact_definitions.specs.declared.b2_collision.Clip.{Clip}
 use Rattle.collision.specs.ClipPlaces.{left_over}
 use Rattle.outline_contacts.specs.declared.faces.Face.{Face}
 use Rattle.collision.specs.declared.manifolds.Kept.{Kept}

@@ -10,7 +10,7 @@ use Rattle.contact_definitions.specs.declared.b2_collide_edge.B2referenceFace.{B
 use Rattle.contact_definitions.specs.Manifold.{face_feature, vertex_feature, as_byte, contact_id}
 use Rattle.contact_definitions.specs.Searches.{first_least}
 use Rattle.contact_definitions.specs.B2CollidePolygon.{face_along}
-use Rattle.outline_contacts.specs.declared.faces.Corner.{Corner}
+use Rattle.contact_definitions.specs.declared.axis.Corner.{Corner}
 use Rattle.outline_contacts.specs.declared.faces.Face.{Face}
 
 abbrev pub corner_of : List B2vec2 → ℕ → Corner

@@ -3,6 +3,7 @@
 ghost use Rattle.std.specs.Prelude.{◌≡◌, [], ◌<◌, ◌≤◌};
 ghost use Rattle.std.specs.Float.{binary32};
 ghost use Rattle.std.specs.Float.Ieee.{add};
+ghost use Rattle.contact_definitions.specs.Answers.{manifold_answered};
 ghost use Rattle.contact_definitions.specs.Searches.{first_greatest};
 ghost use Rattle.contact_definitions.specs.B2CollidePolygon.{face_separation, polygons_axis, polygons_manifold};
 ghost use Rattle.contact_definitions.specs.B2CollidePolygon.{b2_collide_polygons};
@@ -13,12 +14,12 @@ ghost use Rattle.outline_contacts.specs.OnFace.{placed_end, manifold_on_face};
 
 use crate::faces::{Face, face_of, incident_ends, placed_face, within_skins};
 use crate::rows;
-use crate::rows::FarthestFace;
+use crate::rows::{FarthestFace, Rows};
 use collision::clip::clip_to_sides;
 use collision::manifolds::{flipped, kept_points, kind_of, no_points, only_kind};
 use collision::{manifold_answer, pair_ranges};
 use contact_definitions::axis::Axis;
-use contact_definitions::b2_collision::{B2clipVertex, B2manifold, ManifoldAnswer};
+use contact_definitions::b2_collision::{B2clipVertex, B2manifold};
 use floats::b2_common::{B2_LINEAR_SLOP, B2_MAX_FLOAT};
 use floats::b2_math::{
     B2Transform, B2vec2, b2_add, b2_cross_vec_by_scalar, b2_mul_t_transform,
@@ -26,15 +27,15 @@ use floats::b2_math::{
 };
 use floats::unit::unit;
 use shape_definitions::b2_polygon_shape::B2polygonShape;
-use shape_definitions::refusal;
+use shape_definitions::refusal::Refusal;
 use shape_ranges::places;
 
 // What B's separation has to be above A's by, to be the reference: 8589935/2^34.
 const TOLERANCE: f32 = 0.1 * B2_LINEAR_SLOP;
 
-// b2_find_max_separation, once for each direction: as one function with two callers it is not inlined. xf carries
-// outline 1 to the frame of outline 2.
-fn max_separation_of_a(
+// b2_find_max_separation; xf carries outline 1 to the frame of outline 2. OF_B where outline 1 is B: it gives each
+// caller a function of its own, which is inlined.
+fn max_separation<const OF_B: bool>(
     v1s: [B2vec2; 8],
     n1s: [B2vec2; 8],
     count1: usize,
@@ -47,40 +48,19 @@ fn max_separation_of_a(
         (first_greatest (face_separation xf (outlined v1s n1s count1) (outlined v2s [] count2)) count1)) }
 {
     let n = places::padded(count1);
-    let mut nxs = [0.0f32; 8];
-    let mut nys = [0.0f32; 8];
-    let mut xs = [0.0f32; 8];
-    let mut ys = [0.0f32; 8];
-    rows::face_rows(xf, v1s, n1s, n, &mut nxs, &mut nys, &mut xs, &mut ys);
+    let mut carried = Rows {
+        nxs: [0.0; 8],
+        nys: [0.0; 8],
+        xs: [0.0; 8],
+        ys: [0.0; 8],
+    };
+    rows::face_rows(xf, v1s, n1s, n, &mut carried);
     let mut s = [B2_MAX_FLOAT; 8];
-    rows::lower_all(&nxs, &nys, &xs, &ys, n, v2s, count2, &mut s);
+    rows::lower_all(&carried, n, v2s, count2, &mut s);
     rows::greatest(&s, n1s, count1)
 }
 
-fn max_separation_of_b(
-    v1s: [B2vec2; 8],
-    n1s: [B2vec2; 8],
-    count1: usize,
-    xf: B2Transform,
-    v2s: [B2vec2; 8],
-    count2: usize,
-) -> FarthestFace
-    requires { (0 < count1) × (count1 ≤ 8) × (count2 ≤ 8) }
-    ensures { (result.place < count1) × (result ≡ faced n1s
-        (first_greatest (face_separation xf (outlined v1s n1s count1) (outlined v2s [] count2)) count1)) }
-{
-    let n = places::padded(count1);
-    let mut nxs = [0.0f32; 8];
-    let mut nys = [0.0f32; 8];
-    let mut xs = [0.0f32; 8];
-    let mut ys = [0.0f32; 8];
-    rows::face_rows(xf, v1s, n1s, n, &mut nxs, &mut nys, &mut xs, &mut ys);
-    let mut s = [B2_MAX_FLOAT; 8];
-    rows::lower_all(&nxs, &nys, &xs, &ys, n, v2s, count2, &mut s);
-    rows::greatest(&s, n1s, count1)
-}
-
-// The axis of two outlines, given by their corners, normals and counts.
+// The axis of two outlines, given by their corners, normals and counts: an outline handed on by value is copied whole.
 pub fn polygons_axis(
     va: [B2vec2; 8],
     na: [B2vec2; 8],
@@ -96,11 +76,11 @@ pub fn polygons_axis(
     ensures { (result ≡ polygons_axis total_radius (outlined va na ca) xa (outlined vb nb cb) xb)
         × Placed na ca nb cb result }
 {
-    let a = max_separation_of_a(va, na, ca, b2_mul_t_transform(xb, xa), vb, cb);
+    let a = max_separation::<false>(va, na, ca, b2_mul_t_transform(xb, xa), vb, cb);
     if a.value > total_radius {
         return Axis::Apart(a.value);
     }
-    let b = max_separation_of_b(vb, nb, cb, b2_mul_t_transform(xa, xb), va, ca);
+    let b = max_separation::<true>(vb, nb, cb, b2_mul_t_transform(xa, xb), va, ca);
     if b.value > total_radius {
         return Axis::Apart(b.value);
     }
@@ -193,20 +173,20 @@ pub fn b2_collide_polygons(
     xfa: B2Transform,
     b: B2polygonShape,
     xfb: B2Transform,
-) -> ManifoldAnswer
-    ensures { result ≡ b2_collide_polygons m a xfa b xfb }
+) -> Result<B2manifold, Refusal>
+    ensures { manifold_answered m result ≡ b2_collide_polygons m a xfa b xfb }
 {
     let count_a = a.m_count;
     let count_b = b.m_count;
     let wrong_a = manifold_answer::miscounted(count_a);
     let wrong_b = manifold_answer::miscounted(count_b);
     if wrong_a | wrong_b {
-        return manifold_answer::refused(m, refusal::COUNT_OUT_OF_RANGE);
+        return Err(Refusal::CountOutOfRange);
     }
     let shapes = pair_ranges::polygons_in_range(a, b);
     let placed = pair_ranges::placements_in_range(xfa, xfb);
     if shapes & placed {
-        return manifold_answer::accepted(polygons_manifold(m, a, xfa, b, xfb));
+        return Ok(polygons_manifold(m, a, xfa, b, xfb));
     }
-    manifold_answer::out_of_range(m, shapes)
+    Err(manifold_answer::out_of_range(shapes))
 }

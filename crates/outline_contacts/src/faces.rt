@@ -7,6 +7,7 @@ ghost use Rattle.contact_definitions.specs.B2CollidePolygon.{within_skins};
 ghost use Rattle.outline_contacts.specs.Faces.{corner_of, face_of, face_vertex, incident_ends, placed_along};
 
 use collision::manifolds::contact_id;
+use contact_definitions::axis::Corner;
 use contact_definitions::b2_collide_edge::B2referenceFace;
 use contact_definitions::b2_collision::{B2clipVertex, B2contactFeatureType};
 use floats::b2_common::B2_MAX_FLOAT;
@@ -15,13 +16,6 @@ use floats::b2_math::{
     b2_mul_transform_by_vec2, b2_neg,
 };
 use shape_ranges::places;
-
-// A corner of an outline and its place.
-#[derive(Clone, Copy)]
-pub struct Corner {
-    pub index: usize,
-    pub v: B2vec2,
-}
 
 // The reference face from v11 to v12 of outline 1, and the incident edge from w1 to w2 of outline 2, each in its own
 // frame. flip where outline 1 is B.
@@ -48,14 +42,12 @@ pub fn b2_find_incident_edge(n: B2vec2, ns: [B2vec2; 8], vs: [B2vec2; 8], count:
 {
     let mut index = 0usize;
     let mut min_dot: f32 = B2_MAX_FLOAT;
-    let mut i = 0usize;
-    while i < count {
+    for i in 0..count {
         let dot = n.x * ns[i].x + n.y * ns[i].y;
         if dot < min_dot {
             min_dot = dot;
             index = i;
         }
-        i += 1;
     }
     Corner {
         index,

@@ -6,7 +6,7 @@ use mathlib.Core.Path.{◌≡◌, refl, sym, ◌∙◌, ap, subst}
 use mathlib.Core.Bool.{Bool, true, false}
 use mathlib.Core.List.{List}
 use native.Mathlib.Omega.{arith}
-use lib.Dec.{leb, eqb}
+use lib.Dec.{leb}
 use lib.ListN.{length, get_or, take, set, length-set}
 use lib.Seq.{set-get_or, length-take-le}
 use borrow.Author.Tests.{leb-true, leb-false}
@@ -14,22 +14,21 @@ use borrow.Rule.Slice.PartMut.{put_mid, mid_of}
 use Rattle.lines.specs.Buffers.{Put}
 use Rattle.lines.specs.Fields.{byte_at}
 use Rattle.lines.specs.Hex.{frame_of, line_feed}
-use Rattle.shape_definitions.specs.Refusal.{accepted}
-use Rattle.contact_definitions.proofs.Counts.{either}
 use Rattle.record_definitions.specs.declared.world.Body.{Body}
 use Rattle.record_definitions.specs.declared.world.Pair.{Pair}
 use Rattle.record_definitions.specs.declared.world.World.{World}
 use Rattle.record_definitions.specs.declared.frame.Change.{Change}
 use Rattle.record_definitions.specs.declared.server.Server.{Server}
 use Rattle.record_definitions.specs.World.{forget}
-use Rattle.record_definitions.specs.Touch.{first_refusal}
-use Rattle.record_definitions.specs.Frame.{frame_refusal, test_refusal, all_tests, test_change, change_of_kind}
 use Rattle.record_definitions.specs.Frame.{change}
 use Rattle.record_definitions.specs.Server.{Reply, Framed, Stepped, next_step}
 use Rattle.record_definitions.specs.OneFrame.{after_frame}
 use Rattle.record_definitions.specs.Reading.{Reading, kept_length}
 use Rattle.record_definitions.proofs.Replies.{after_framed, reply_framed}
 use Rattle.record_definitions.proofs.Feeding.{SoFar, next_line}
+use Rattle.std.specs.Prelude.{Ok}
+use Rattle.frames.specs.declared.changes.BodyChange.{BodyChange}
+use Rattle.frames.specs.Made.{of_body}
 use Rattle.record.specs.declared.feed.Names.{Names}
 use Rattle.record.specs.Decoding.{Named}
 use Rattle.record_definitions.proofs.OneLine.{said_is, world_forgets, world_keeps, length_forget, count_held}
@@ -150,17 +149,14 @@ module _ {print : Reply → List ℕ} {chunk old : List ℕ} {r : Reading} {out 
     line_tests keeps same_body =
         line_keeps keeps w.bodies (rw same_body (set-get_or w.bodies a past_a)) _ refl
 
--- ---- a test forgets nothing and leaves the body
-abbrev Leaves : Body → Change → Type 0
-Leaves a c = (c.forget ≡ false) × (c.body ≡ a)
+    -- a refusal: all is as it was
+    pub line_refuses : c.forget ≡ false → c.body ≡ get_or w.bodies a past_a
+        → c.pair ≡ get_or w.pairs (8 * a + b) past_pair → After (record { world = w; steps = steps })
+    line_refuses keeps same_body same_pair =
+        line_keeps keeps w.bodies (rw same_body (set-get_or w.bodies a past_a))
+        w.pairs (rw same_pair (set-get_or w.pairs (8 * a + b) past_pair))
 
-pub test_leaves : (a b : Body) (pair : Pair) (bytes : List ℕ) → byte_at bytes 0 ≡ 5
-    → ((change a b pair bytes).forget ≡ false) × ((change a b pair bytes).body ≡ a)
-unfolding change change_of_kind test_change
-test_leaves a b pair bytes five =
-    either (Leaves a) (eqb (frame_refusal bytes) accepted) _ _
-    (rw five
-    (either (Leaves a) (eqb (test_refusal (byte_at bytes 1) (byte_at bytes 2) a.kind b.kind) accepted) _ _
-    (either (Leaves a) (eqb (first_refusal (all_tests (byte_at bytes 1) (byte_at bytes 2) a b pair)) accepted) _ _
-    (refl, refl) (refl, refl)) (refl, refl)))
-    (refl, refl)
+-- what was made of a body, by its case
+pub made_as : (body : Body) (pair : Pair) (c : Change) {made is : BodyChange} → made ≡ is
+    → of_body body (Ok made) pair ≡ c → of_body body (Ok is) pair ≡ c
+made_as body pair c made_is = subst (λ (m : BodyChange). of_body body (Ok m) pair ≡ c) made_is

@@ -4,16 +4,18 @@ ghost use Rattle.std.specs.Prelude.{◌≡◌, ◌*◌, ◌≤◌, min, length, 
 ghost use Rattle.algebra.specs.Buffer.{over};
 ghost use Rattle.lines.specs.Buffers.{Put};
 ghost use Rattle.lines.specs.Hex.{line_of};
-ghost use Rattle.contact_definitions.specs.PointStates.{state_number};
 ghost use Rattle.record_definitions.specs.Answer.{names_bytes, states_bytes, head_bytes, point_bytes, touch_bytes};
 ghost use Rattle.record_definitions.specs.Answer.{answer_bytes, said_bytes, touch_lines, said_line, longest_answer};
 ghost use Rattle.record_definitions.specs.Answer.{longest_line, most_further, longest_said};
 ghost use Rattle.record_definitions.specs.Server.{step_bytes};
+ghost use Rattle.record_definitions.specs.declared.frame.Answer.TheVariants.{Refused};
+ghost use Rattle.shape_definitions.specs.Refusal.{number_of};
 
-use contact_definitions::b2_collision::{B2pointState, PointStates};
+use contact_definitions::b2_collision::PointStates;
 use lines::{fields, hex};
 use record_definitions::frame::{Answer, Said};
 use record_definitions::touch::{Touch, TouchPoint};
+use shape_definitions::refusal::Refusal;
 
 // Where each part of a test's result ends: its head, the normal, the first point, and the second.
 const HEAD: usize = 13;
@@ -35,18 +37,6 @@ const MOST_FURTHER: usize = 6;
 
 pub const LONGEST_SAID: usize = (1 + MOST_FURTHER) * LONGEST_LINE;
 
-// Null 0, add 1, persist 2, remove 3.
-fn state_number(state: B2pointState) -> u8
-    ensures { result ≡ state_number state }
-{
-    match state {
-        B2pointState::B2NullState => 0,
-        B2pointState::B2AddState => 1,
-        B2pointState::B2PersistState => 2,
-        B2pointState::B2RemoveState => 3,
-    }
-}
-
 // The kind of the frame, both ids, the point count and the kind of the contact.
 fn put_names(out: &mut [u8], t: Touch)
     requires { 5 ≤ length out.old }
@@ -64,14 +54,10 @@ fn put_states(out: &mut [u8], s: PointStates)
     requires { 4 ≤ length out.old }
     ensures { out.new ≡ over (states_bytes s) out.old }
 {
-    let old0 = s.old0;
-    let old1 = s.old1;
-    let new0 = s.new0;
-    let new1 = s.new1;
-    out[0] = state_number(old0);
-    out[1] = state_number(old1);
-    out[2] = state_number(new0);
-    out[3] = state_number(new1);
+    out[0] = u8::from(s.old0);
+    out[1] = u8::from(s.old1);
+    out[2] = u8::from(s.new0);
+    out[3] = u8::from(s.new1);
 }
 
 // What every result has.
@@ -139,8 +125,7 @@ pub fn put_said(out: &mut [u8], said: Said) -> usize
     ensures put { Put (said_bytes said) out.old result out.new }
     ensures upper_bound { result ≤ longest_answer }
 {
-    let answer = said.answer;
-    put_answer(out, answer)
+    put_answer(out, said.answer)
 }
 
 // How many characters.
@@ -152,6 +137,15 @@ pub fn put_answer_line(out: &mut [u8], answer: Answer) -> usize
     let mut bytes = [0u8; LONGEST_ANSWER];
     let n = put_answer(&mut bytes, answer);
     hex::put_line(out, &bytes[..n])
+}
+
+// That of a refusal.
+pub fn put_refusal_line(out: &mut [u8], why: Refusal) -> usize
+    requires { longest_line ≤ length out.old }
+    ensures put { Put (line_of (answer_bytes (Refused (number_of why)))) out.old result out.new }
+    ensures upper_bound { result ≤ longest_line }
+{
+    put_answer_line(out, Answer::Refused(u8::from(why)))
 }
 
 // The bytes of a step's end.
@@ -176,25 +170,17 @@ pub fn put_step_line(out: &mut [u8], steps: u32) -> usize
     hex::put_line(out, &bytes)
 }
 
-// A count of further results; one past the row says the whole row.
-fn few(n: usize) -> usize
-    ensures { result ≡ min n most_further }
-{
-    if n > MOST_FURTHER { MOST_FURTHER } else { n }
-}
-
 // A line for each of the first n results.
 fn put_touch_lines(out: &mut [u8], touches: [Touch; MOST_FURTHER], n: usize) -> usize
     requires { most_further * longest_line ≤ length out.old }
     ensures put { Put (touch_lines (take n touches)) out.old result out.new }
     ensures upper_bound { result ≤ most_further * longest_line }
 {
-    let last = few(n);
+    // A count past the row says the whole row.
+    let last = n.min(MOST_FURTHER);
     let mut at = 0usize;
-    let mut i = 0usize;
-    while i < last {
+    for i in 0..last {
         at += put_answer_line(&mut out[at..], Answer::Tested(touches[i]));
-        i += 1;
     }
     at
 }
@@ -205,12 +191,9 @@ pub fn put_said_line(out: &mut [u8], said: Said) -> usize
     requires { longest_said ≤ length out.old }
     ensures { Put (said_line said) out.old result out.new }
 {
-    let answer = said.answer;
-    let first = put_answer_line(out, answer);
-    let further = said.further;
-    if further == 0 {
+    let first = put_answer_line(out, said.answer);
+    if said.further == 0 {
         return first;
     }
-    let more = said.more;
-    first + put_touch_lines(&mut out[first..], more, further)
+    first + put_touch_lines(&mut out[first..], said.more, said.further)
 }

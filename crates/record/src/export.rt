@@ -16,19 +16,16 @@ use frames::frame::PLACEMENT_LENGTH;
 use frames::{changes, frame, world};
 use lines::fields;
 use record_definitions::frame::{Answer, Change, Said};
-use shape_definitions::refusal;
+use shape_definitions::refusal::Refusal;
 
 // What is returned for a refusal: its number above this one.
 const REFUSAL_BASE: u32 = 256;
-
-const OUTPUT_TOO_SHORT: u32 = REFUSAL_BASE + refusal::CONTACT_OUT_OF_RANGE as u32;
 
 // The number of a refusal, 0 for another answer.
 fn refusal_in(said: Said) -> u8
     ensures { result ≡ Export.refusal_in said }
 {
-    let answer = said.answer;
-    match answer {
+    match said.answer {
         Answer::Accepted => 0,
         Answer::Refused(number) => number,
         Answer::Tested(_) => 0,
@@ -40,7 +37,7 @@ fn outline_end(frames: &[u8], at: usize) -> usize
     requires { at ≤ 200 }
     ensures { (result ≡ at + frame_length 2 (byte_at frames.now (at + 2))) × (result ≤ at + largest_frame) }
 {
-    at + frame::frame_length(2, fields::byte(frames, at + 2))
+    at + frame::frame_length(2, fields::byte(frames, at + 2)).unwrap_or(0)
 }
 
 // Whether a frame of this kind, for this id, begins here.
@@ -105,7 +102,7 @@ fn run<'a>(f0: &'a [u8], f1: &'a [u8], f2: &'a [u8], f3: &'a [u8]) -> Said
 fn malformed() -> Said
     ensures { result ≡ said_alone (Refused malformed_frame) }
 {
-    changes::said_alone(Answer::Refused(refusal::MALFORMED_FRAME))
+    changes::said_alone(Answer::Refused(u8::from(Refusal::MalformedFrame)))
 }
 
 // What is said of an input: 10 where it is not the four frames in their order, and else what they say.
@@ -135,12 +132,12 @@ pub fn netxurbil_test(frames: &[u8], out: &mut [u8]) -> u32
         × (out.new ≡ Export.export_output frames.now out.old) }
 {
     if out.len() < LONGEST_ANSWER {
-        return OUTPUT_TOO_SHORT;
+        return REFUSAL_BASE + u32::from(u8::from(Refusal::ContactOutOfRange));
     }
     let said = export_said(frames);
     let number = refusal_in(said);
     if number != 0 {
-        return REFUSAL_BASE + number as u32;
+        return REFUSAL_BASE + u32::from(number);
     }
     answer::put_said(out, said) as u32
 }

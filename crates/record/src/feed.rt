@@ -9,11 +9,13 @@ ghost use Rattle.record.specs.Decoding.{Named};
 
 use crate::answer;
 use crate::answer::LONGEST_SAID;
+use frames::changes::BodyChange;
 use frames::frame::TEST;
 use frames::{counts, frame, world};
 use headings::turns;
 use lines::hex::{LARGEST_FRAME, LINE_FEED};
 use lines::{fields, hex};
+use record_definitions::frame::Answer;
 use record_definitions::reader::{Fed, KEPT_LENGTH, Reader};
 use record_definitions::server::Server;
 use record_definitions::world::CHAIN;
@@ -52,7 +54,7 @@ fn decode(line: &[u8], bytes: &mut [u8]) -> Names
     requires { largest_frame ≤ length bytes.old }
     ensures { Named line.now result bytes.new }
 {
-    let count = hex::unhex(line, bytes);
+    let count = hex::unhex(line, bytes).unwrap_or(0);
     let kind = fields::byte(&bytes[..count], 0);
     let first = place(&bytes[..count], 1);
     let second = place(&bytes[..count], 2);
@@ -62,20 +64,6 @@ fn decode(line: &[u8], bytes: &mut [u8]) -> Names
         first,
         second,
     }
-}
-
-// The step number, one higher; the largest holds.
-fn next_step(steps: u32) -> u32
-    ensures { result ≡ next_step steps }
-{
-    counts::one_more(steps)
-}
-
-// A count of the characters kept; one past the row says the whole row.
-fn held(len: usize) -> usize
-    ensures { result ≡ min len kept_length }
-{
-    if len > KEPT_LENGTH { KEPT_LENGTH } else { len }
 }
 
 // One more character of a line, of which the first are kept; how many are.
@@ -100,7 +88,8 @@ pub fn feed(s: Reader, chunk: &[u8], out: &mut [u8]) -> Fed
     let mut w = s.server.world;
     let mut steps = s.server.steps;
     let mut line = s.line;
-    let mut len = held(s.len);
+    // A count past the row says the whole row.
+    let mut len = s.len.min(KEPT_LENGTH);
     let mut at = 0usize;
     let mut i = 0usize;
     while i < chunk.len() {
@@ -119,43 +108,39 @@ pub fn feed(s: Reader, chunk: &[u8], out: &mut [u8]) -> Fed
                 let b = d.second;
                 let k = 8 * a + b;
                 if d.kind != TEST {
-                    let made = frame::body_frame(w.bodies[a], &bytes[..n], &sines);
-                    let answer = made.answer;
-                    at += answer::put_answer_line(&mut out[at..], answer);
-                    let body = made.body;
-                    w.bodies[a] = body;
-                    if made.forget {
-                        let pairs = w.pairs;
-                        let fresh = world::forget(pairs, a);
-                        w.pairs = fresh;
+                    match frame::body_frame(w.bodies[a], &bytes[..n], &sines) {
+                        Ok(change) => {
+                            at += answer::put_answer_line(&mut out[at..], Answer::Accepted);
+                            match change {
+                                BodyChange::Defined(body) => {
+                                    w.bodies[a] = body;
+                                    w.pairs = world::forget(w.pairs, a);
+                                }
+                                BodyChange::Moved(body) => w.bodies[a] = body,
+                            }
+                        }
+                        Err(why) => at += answer::put_refusal_line(&mut out[at..], why),
+                    }
+                } else if w.bodies[a].kind == CHAIN {
+                    match frame::chain_test(w.bodies[a], w.bodies[b], w.pairs[k], &bytes[..n]) {
+                        Ok(made) => {
+                            at += answer::put_said_line(&mut out[at..], made.said);
+                            w.pairs[k] = made.pair;
+                        }
+                        Err(why) => at += answer::put_refusal_line(&mut out[at..], why),
                     }
                 } else {
-                    if w.bodies[a].kind == CHAIN {
-                        let c = frame::chain_test(
-                            w.bodies[a],
-                            w.bodies[b],
-                            w.pairs[k],
-                            &bytes[..n],
-                        );
-                        let said = c.said;
-                        at += answer::put_said_line(&mut out[at..], said);
-                        let pair = c.pair;
-                        w.pairs[k] = pair;
-                    } else {
-                        let t = frame::test_frame(
-                            w.bodies[a],
-                            w.bodies[b],
-                            w.pairs[k],
-                            &bytes[..n],
-                        );
-                        let answer = t.answer;
-                        at += answer::put_answer_line(&mut out[at..], answer);
-                        let pair = t.pair;
-                        w.pairs[k] = pair;
+                    match frame::test_frame(w.bodies[a], w.bodies[b], w.pairs[k], &bytes[..n]) {
+                        Ok(made) => {
+                            let answer = Answer::Tested(made.touch);
+                            at += answer::put_answer_line(&mut out[at..], answer);
+                            w.pairs[k] = made.pair;
+                        }
+                        Err(why) => at += answer::put_refusal_line(&mut out[at..], why),
                     }
                 }
             } else {
-                steps = next_step(steps);
+                steps = counts::one_more(steps);
                 at += answer::put_step_line(&mut out[at..], steps);
             }
         } else {

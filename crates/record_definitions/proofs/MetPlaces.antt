@@ -2,7 +2,7 @@
 use mathlib.Core.Path.{◌≡◌, refl}
 use lib.Dec.{eqb}
 use lib.ListN.{length}
-use Rattle.contact_definitions.specs.declared.b2_collision.ManifoldAnswer.{ManifoldAnswer}
+use Rattle.contact_definitions.specs.Answers.{ManifoldAnswer}
 use Rattle.contact_definitions.specs.Manifold.{default_manifold}
 use Rattle.contact_definitions.specs.Unwritten.{AsGiven, CallsLeave}
 use Rattle.contact_definitions.proofs.Counts.{either}

@@ -17,7 +17,7 @@ use Rattle.floats.specs.declared.b2_math.B2vec2.{B2vec2}
 use Rattle.floats.specs.Ranges.{point_in_range, radius_in_range, rotation_in_range, transform_in_range}
 use Rattle.lines.specs.Fields.{byte_at, vector_at}
 use Rattle.shape_definitions.specs.declared.b2_edge_shape.B2edgeShape.{B2edgeShape}
-use Rattle.shape_definitions.specs.declared.b2_edge_shape.EdgeAnswer.{EdgeAnswer}
+use Rattle.shape_definitions.specs.Answers.{EdgeAnswer}
 use Rattle.shape_definitions.specs.declared.b2_polygon_shape.B2polygonShape.{B2polygonShape}
 use Rattle.shape_definitions.specs.Circle.{circle_in_range}
 use Rattle.shape_definitions.specs.Edge.{b2_set_one_sided, b2_set_two_sided, edge_in_range}

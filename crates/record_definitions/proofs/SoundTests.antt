@@ -20,8 +20,8 @@ use Rattle.shape_definitions.specs.Edge.{edge_in_range}
 use Rattle.shape_definitions.specs.Validate.{polygon_in_range}
 use Rattle.shape_definitions.specs.Refusal.{accepted, placement_out_of_range, count_out_of_range, wall_too_short}
 use Rattle.contact_definitions.specs.declared.b2_collision.B2manifold.{B2manifold}
-use Rattle.contact_definitions.specs.declared.b2_collision.ManifoldAnswer.{ManifoldAnswer}
-use Rattle.contact_definitions.specs.declared.b2_collision.WorldAnswer.{WorldAnswer}
+use Rattle.contact_definitions.specs.Answers.{ManifoldAnswer}
+use Rattle.contact_definitions.specs.Answers.{WorldAnswer}
 use Rattle.contact_definitions.specs.Manifold.{miscounted, unless_miscounted, where_in_range, manifold_accepted}
 use Rattle.contact_definitions.specs.Manifold.{manifold_refused, default_manifold}
 use Rattle.contact_definitions.specs.B2CollideCircle.{b2_collide_circles, b2_collide_polygon_and_circle}

@@ -14,7 +14,7 @@ use Rattle.floats.specs.Ranges.{point_in_range, transform_in_range}
 use Rattle.headings.specs.Headings.{heading}
 use Rattle.lines.specs.Fields.{byte_at, float_at, vector_at, points_at, placement_at}
 use Rattle.shape_definitions.specs.declared.b2_circle_shape.B2circleShape.{B2circleShape}
-use Rattle.shape_definitions.specs.declared.b2_edge_shape.EdgeAnswer.{EdgeAnswer}
+use Rattle.shape_definitions.specs.Answers.{EdgeAnswer}
 use Rattle.shape_definitions.specs.declared.b2_polygon_shape.PolygonAnswer.{PolygonAnswer}
 use Rattle.shape_definitions.specs.Circle.{circle_in_range}
 use Rattle.shape_definitions.specs.Edge.{b2_set_one_sided, b2_set_two_sided}

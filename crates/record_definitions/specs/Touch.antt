@@ -7,9 +7,9 @@ use Rattle.shape_definitions.specs.Refusal.{accepted}
 use Rattle.shape_definitions.specs.Outline.{point_at}
 use Rattle.contact_definitions.specs.declared.b2_collision.B2manifold.{B2manifold}
 use Rattle.contact_definitions.specs.declared.b2_collision.B2worldManifold.{B2worldManifold}
-use Rattle.contact_definitions.specs.declared.b2_collision.ManifoldAnswer.{ManifoldAnswer}
+use Rattle.contact_definitions.specs.Answers.{ManifoldAnswer}
 use Rattle.contact_definitions.specs.declared.b2_collision.PointStates.{PointStates}
-use Rattle.contact_definitions.specs.declared.b2_collision.WorldAnswer.{WorldAnswer}
+use Rattle.contact_definitions.specs.Answers.{WorldAnswer}
 use Rattle.contact_definitions.specs.Manifold.{as_byte, default_manifold, kind_number, manifold_point}
 use Rattle.contact_definitions.specs.B2CollideCircle.{b2_collide_circles, b2_collide_polygon_and_circle}
 use Rattle.contact_definitions.specs.B2CollidePolygon.{b2_collide_polygons}

@@ -15,7 +15,7 @@ use Rattle.floats.specs.B2Common.{b2_polygon_radius}
 use Rattle.headings.specs.Headings.{heading, Component}
 use Rattle.headings.proofs.Theorem.{heading_is}
 use Rattle.lines.specs.Fields.{byte_at, number_at, float_at, vector_at, points_at, rotation_at, placement_at}
-use Rattle.shape_definitions.specs.declared.b2_edge_shape.EdgeAnswer.{EdgeAnswer}
+use Rattle.shape_definitions.specs.Answers.{EdgeAnswer}
 use Rattle.shape_definitions.specs.Circle.{circle_in_range}
 use Rattle.shape_definitions.specs.Edge.{b2_set_one_sided, b2_set_two_sided}
 use Rattle.shape_definitions.specs.Polygon.{all_points, b2_polygon_shape_set}

@@ -16,8 +16,8 @@ use Rattle.shape_definitions.specs.Validate.{polygon_in_range}
 use Rattle.shape_definitions.specs.Refusal.{accepted, shape_out_of_range, placement_out_of_range, count_out_of_range}
 use Rattle.shape_definitions.specs.Refusal.{contact_out_of_range}
 use Rattle.contact_definitions.specs.declared.b2_collision.B2manifold.{B2manifold}
-use Rattle.contact_definitions.specs.declared.b2_collision.ManifoldAnswer.{ManifoldAnswer}
-use Rattle.contact_definitions.specs.declared.b2_collision.WorldAnswer.{WorldAnswer}
+use Rattle.contact_definitions.specs.Answers.{ManifoldAnswer}
+use Rattle.contact_definitions.specs.Answers.{WorldAnswer}
 use Rattle.contact_definitions.specs.Manifold.{miscounted}
 use Rattle.contact_definitions.specs.B2CollidePolygon.{b2_collide_polygons}
 use Rattle.contact_definitions.specs.WorldManifold.{b2_world_manifold_initialize, manifold_in_range}

@@ -22,7 +22,7 @@ use Rattle.shape_definitions.specs.Circle.{circle_in_range}
 use Rattle.shape_definitions.specs.Polygon.{outline_of_corners, outline_of_welded, b2_polygon_shape_set}
 use Rattle.shape_definitions.specs.Refusal.{accepted}
 use Rattle.shape_definitions.specs.Validate.{polygon_in_range}
-use Rattle.contact_definitions.specs.declared.b2_collision.ManifoldAnswer.{ManifoldAnswer}
+use Rattle.contact_definitions.specs.Answers.{ManifoldAnswer}
 use Rattle.contact_definitions.specs.Manifold.{default_manifold, with_local_point, with_count, with_one_point}
 use Rattle.contact_definitions.specs.Searches.{some_below, first_greatest}
 use Rattle.contact_definitions.specs.B2CollideCircle.{farther, circle_separation, circle_at_corner, circle_at_face}

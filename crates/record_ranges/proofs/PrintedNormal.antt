@@ -18,8 +18,8 @@ use Rattle.lines.specs.Fields.{byte_at}
 use Rattle.shape_definitions.specs.Refusal.{accepted}
 use Rattle.contact_definitions.specs.declared.b2_collision.B2manifold.{B2manifold}
 use Rattle.contact_definitions.specs.declared.b2_collision.B2manifoldType.{B2manifoldType}
-use Rattle.contact_definitions.specs.declared.b2_collision.ManifoldAnswer.{ManifoldAnswer}
-use Rattle.contact_definitions.specs.declared.b2_collision.WorldAnswer.{WorldAnswer}
+use Rattle.contact_definitions.specs.Answers.{ManifoldAnswer}
+use Rattle.contact_definitions.specs.Answers.{WorldAnswer}
 use Rattle.contact_definitions.specs.Manifold.{default_manifold}
 use Rattle.contact_definitions.specs.WorldManifold.{world_of_face, world_of_kind, manifold_in_range}
 use Rattle.contact_definitions.specs.WorldManifold.{default_world_manifold, b2_world_manifold_initialize}

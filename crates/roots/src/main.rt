@@ -9,19 +9,15 @@ use std::io;
 
 mod vectors;
 
-fn print_step(rt: &impl Print, x: f32) -> io::Result<()> {
-    match root::root_by_steps(x) {
-        Rooted::Special(_r) => println!(rt; "special"),
-        Rooted::Exact(_r) => println!(rt; "exact"),
-        Rooted::Rounded(_r) => println!(rt; "rounded"),
-    }
-}
-
 fn print_root(rt: &impl Print, operand: u32) -> io::Result<()> {
     let x = bits::f32_from_bits(operand);
     let root = bits::f32_to_bits(b2_math::b2_sqrt(x));
-    print!(rt; "{operand:08x} {root:08x} ")?;
-    print_step(rt, x)
+    let step = match root::root_by_steps(x) {
+        Rooted::Special(_) => "special",
+        Rooted::Exact(_) => "exact",
+        Rooted::Rounded(_) => "rounded",
+    };
+    println!(rt; "{operand:08x} {root:08x} {step}")
 }
 
 fn print_roots(rt: &impl Print, operands: &[u32]) -> io::Result<()> {

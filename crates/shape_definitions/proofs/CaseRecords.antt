@@ -7,9 +7,9 @@ use lib.ListN.{length, drop}
 use Rattle.floats.specs.declared.b2_math.B2vec2.{B2vec2}
 use Rattle.shape_definitions.specs.declared.b2_polygon_shape.B2polygonShape.{B2polygonShape}
 use Rattle.shape_definitions.specs.declared.b2_polygon_shape.PolygonAnswer.{PolygonAnswer}
-use Rattle.shape_definitions.specs.declared.b2_polygon_shape.ValidateAnswer.{ValidateAnswer}
+use Rattle.shape_definitions.specs.Answers.{ValidateAnswer}
 use Rattle.shape_definitions.specs.declared.b2_edge_shape.B2edgeShape.{B2edgeShape}
-use Rattle.shape_definitions.specs.declared.b2_edge_shape.EdgeAnswer.{EdgeAnswer}
+use Rattle.shape_definitions.specs.Answers.{EdgeAnswer}
 
 -- ---- outlines: turned down with a number, or accepted with a centroid, corners and their normals
 abbrev pub turned_down : ℕ → B2polygonShape → PolygonAnswer

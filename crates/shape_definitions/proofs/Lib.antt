@@ -1,3 +1,4 @@
+pub mod Numbers
 pub mod Counted
 pub mod Edges
 pub mod CaseRecords

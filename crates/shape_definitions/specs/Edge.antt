@@ -4,7 +4,7 @@ use Rattle.std.specs.Prelude.{Bool, true, false, not, cond, ◌&&◌, ◌||◌}
 use Rattle.floats.specs.declared.b2_math.B2vec2.{B2vec2}
 use Rattle.floats.specs.Ranges.{point_in_range, radius_in_range}
 use Rattle.shape_definitions.specs.declared.b2_edge_shape.B2edgeShape.{B2edgeShape}
-use Rattle.shape_definitions.specs.declared.b2_edge_shape.EdgeAnswer.{EdgeAnswer}
+use Rattle.shape_definitions.specs.Answers.{EdgeAnswer}
 use Rattle.shape_definitions.specs.Refusal.{accepted, shape_out_of_range}
 
 abbrev pub wall : B2edgeShape → Bool → B2vec2 → B2vec2 → B2vec2 → B2vec2 → EdgeAnswer

@@ -1,3 +1,4 @@
+pub mod Answers
 pub mod Refusal
 pub mod Outline
 pub mod Polygon

@@ -1,6 +1,13 @@
--- Document 01, "Numbers a call can be turned down with". 0 is no refusal. src/refusal.rt has the same numbers
--- for the code; every contract that uses one holds the two together. Definitions only.
-use Rattle.std.specs.Prelude.{ℕ}
+-- Document 01, "Numbers a call can be turned down with". 0 is no refusal. The code has an enum (src/refusal.rt);
+-- number_of holds the two together. Definitions only.
+use Rattle.std.specs.Prelude.{ℕ, Result, Ok, Err}
+use Rattle.shape_definitions.specs.declared.refusal.Refusal.{Refusal}
+use Rattle.shape_definitions.specs.declared.refusal.Refusal.TheVariants.{WrongNumberOfPoints, ShapeOutOfRange, TooFewAfterWelding}
+use Rattle.shape_definitions.specs.declared.refusal.Refusal.TheVariants.{WalkNotClosed, EdgeOrAreaTooSmall, PlacementOutOfRange}
+use Rattle.shape_definitions.specs.declared.refusal.Refusal.TheVariants.{CountOutOfRange, WallTooShort, ContactOutOfRange}
+use Rattle.shape_definitions.specs.declared.refusal.Refusal.TheVariants.{MalformedFrame, UnknownId, NoShape}
+use Rattle.shape_definitions.specs.declared.refusal.Refusal.TheVariants.{PairNotListed, UnknownTurn, ChainTooFew}
+use Rattle.shape_definitions.specs.declared.refusal.Refusal.TheVariants.{ChainTooNear, MeasureOutOfLimits}
 
 abbrev pub accepted : ℕ
 accepted = 0
@@ -72,3 +79,33 @@ chain_too_near = 16
 -- a measured number outside its limits, or a lowest above its highest
 abbrev pub measure_out_of_limits : ℕ
 measure_out_of_limits = 17
+
+-- the number of each
+abbrev pub number_of : Refusal → ℕ
+number_of WrongNumberOfPoints = wrong_number_of_points
+number_of ShapeOutOfRange = shape_out_of_range
+number_of TooFewAfterWelding = too_few_after_welding
+number_of WalkNotClosed = walk_not_closed
+number_of EdgeOrAreaTooSmall = edge_or_area_too_small
+number_of PlacementOutOfRange = placement_out_of_range
+number_of CountOutOfRange = count_out_of_range
+number_of WallTooShort = wall_too_short
+number_of ContactOutOfRange = contact_out_of_range
+number_of MalformedFrame = malformed_frame
+number_of UnknownId = unknown_id
+number_of NoShape = no_shape
+number_of PairNotListed = pair_not_listed
+number_of UnknownTurn = unknown_turn
+number_of ChainTooFew = chain_too_few
+number_of ChainTooNear = chain_too_near
+number_of MeasureOutOfLimits = measure_out_of_limits
+
+-- that of a result, 0 where it is none
+abbrev pub refusal_number : {A : Type 0} → Result A Refusal → ℕ
+refusal_number (Ok made) = accepted
+refusal_number (Err why) = number_of why
+
+-- and what it made, or where it is refused what was given
+abbrev pub made_or : {A : Type 0} → A → Result A Refusal → A
+made_or given (Ok made) = made
+made_or given (Err why) = given

@@ -8,7 +8,7 @@ use Rattle.rounding.specs.Literals.{zero32}
 use Rattle.floats.specs.B2Math.{b2_sub, b2_cross}
 use Rattle.floats.specs.Ranges.{point_in_range, radius_in_range, normal_in_range}
 use Rattle.shape_definitions.specs.declared.b2_polygon_shape.B2polygonShape.{B2polygonShape}
-use Rattle.shape_definitions.specs.declared.b2_polygon_shape.ValidateAnswer.{ValidateAnswer}
+use Rattle.shape_definitions.specs.Answers.{ValidateAnswer}
 use Rattle.shape_definitions.specs.Refusal.{accepted, shape_out_of_range, count_out_of_range}
 use Rattle.shape_definitions.specs.Outline.{point_at, place_after}
 use Rattle.shape_definitions.specs.Polygon.{all_points}

@@ -11,10 +11,3 @@ pub struct B2edgeShape {
     pub m_vertex3: B2vec2,
     pub m_one_sided: bool,
 }
-
-// What a call that makes a wall answers: 0 and the new wall, or the refusal and the wall that it was given.
-#[derive(Clone, Copy)]
-pub struct EdgeAnswer {
-    pub refusal: u8,
-    pub shape: B2edgeShape,
-}

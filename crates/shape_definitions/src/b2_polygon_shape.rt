@@ -1,4 +1,4 @@
-// Outlines (Box2D's b2_polygon_shape.h): the record, and what the calls answer.
+// Outlines (Box2D's b2_polygon_shape.h): the record, and what C gets of a call that makes one.
 use floats::b2_math::B2vec2;
 
 #[repr(C)]
@@ -11,20 +11,12 @@ pub struct B2polygonShape {
     pub m_count: usize,
 }
 
-// What a call that makes an outline answers: 0 and the new outline, or the refusal and the outline that it was given.
+// A result as C gets it: 0 and the new outline, or the number of the refusal and the outline that was given.
 #[repr(C)]
 #[derive(Clone, Copy)]
 pub struct PolygonAnswer {
     pub refusal: u8,
     pub shape: B2polygonShape,
-}
-
-// What the convexity test answers: the refusal, 0 for none, and whether the outline is convex (no, where it is
-// refused).
-#[derive(Clone, Copy)]
-pub struct ValidateAnswer {
-    pub refusal: u8,
-    pub valid: bool,
 }
 
 // The sum of some triangles: their area, and their centroids, each times its area.

@@ -16,10 +16,8 @@ pub fn four_within(limit: f32, ps: [B2vec2; 8], from: usize) -> bool
     ensures { result ≡ all_points (vec2_within limit) (take 4 (drop from ps)) }
 {
     let mut ok = true;
-    let mut j = 0usize;
-    while j < 4 {
+    for j in 0..4 {
         ok = ok & ranges::vec2_within(limit, ps[from + j]);
-        j += 1;
     }
     ok
 }
@@ -28,17 +26,7 @@ pub fn four_within(limit: f32, ps: [B2vec2; 8], from: usize) -> bool
 pub fn counted_within(limit: f32, ps: [B2vec2; 8], n: usize) -> bool
     ensures { result ≡ all_points (vec2_within limit) (take n ps) }
 {
-    let mut i = 0usize;
-    while i < 8 {
-        if i >= n {
-            return true;
-        }
-        if !ranges::vec2_within(limit, ps[i]) {
-            return false;
-        }
-        i += 1;
-    }
-    true
+    ps.iter().take(n).all(|p| ranges::vec2_within(limit, *p))
 }
 
 // The same, four points at a time where that decides.

@@ -7,6 +7,7 @@ use mathlib.Core.Option.{Option, none, some}
 use Prim.Native.Nat.{ℕ, ◌<◌, ◌≤◌}
 use native.Mathlib.Omega.{arith}
 use lib.Dec.{T}
+use Rattle.std.specs.Prelude.{Some, None, is_some, unwrap_or}
 use lib.ListN.{length, take, length-map}
 use lib.Seq.{length-take-le, take_at}
 use lib.Ieee.{binary32, div, lt}
@@ -67,21 +68,25 @@ module _ (old : B2polygonShape) (points : List B2vec2) (count : ℕ) where
         ∙ sym (counted_is ∙ ap (λ (t : Bool). cond (not t) (refused shape_out_of_range old)
         (outline_of_welded old (welded (take count points)))) inside)
 
--- ---- a row of three corners or more: m of them stand in the first places, over the old vertices
+-- ---- a row of m corners: they stand in the first places, over the old vertices
 module _ (ps old : List B2vec2) (m : ℕ) (vs : List B2vec2) where
-  corners_are : (places : List ℕ) → WalkResult ps old (some places) m vs → take m vs ≡ map (point_at ps) places
+  count_is : (places : List ℕ) → WalkResult ps old (some places) (Some m) vs → m ≡ length places
+  count_is places walked = ap (λ answer. unwrap_or answer 0) walked.0
+
+  corners_are : (places : List ℕ) → WalkResult ps old (some places) (Some m) vs
+      → take m vs ≡ map (point_at ps) places
   corners_are places walked =
       ap (take m) walked.1 ∙ take_at (map (point_at ps) places) _ m (length-map places (point_at ps)
-      ∙ sym walked.0)
+      ∙ sym (count_is places walked))
 
-  corners_count : (o : Option (List ℕ)) → WalkResult ps old o m vs → 3 ≤ m → length (take m vs) ≡ m
-  corners_count none walked enough = absurd (omega arith)
-  corners_count (some places) walked enough = ap length (corners_are places walked) ∙ length-map places (point_at ps)
-      ∙ sym walked.0
+  corners_count : (o : Option (List ℕ)) → WalkResult ps old o (Some m) vs → length (take m vs) ≡ m
+  corners_count none walked = absurd (subst T (ap is_some walked) tt)
+  corners_count (some places) walked = ap length (corners_are places walked) ∙ length-map places (point_at ps)
+      ∙ sym (count_is places walked)
 
-  over_vertices : (o : Option (List ℕ)) → WalkResult ps old o m vs → 3 ≤ m → vs ≡ put_first (take m vs) old
-  over_vertices none walked enough = absurd (omega arith)
-  over_vertices (some places) walked enough = walked.1 ∙ ap (λ (new : List B2vec2). put_first new old)
+  over_vertices : (o : Option (List ℕ)) → WalkResult ps old o (Some m) vs → vs ≡ put_first (take m vs) old
+  over_vertices none walked = absurd (subst T (ap is_some walked) tt)
+  over_vertices (some places) walked = walked.1 ∙ ap (λ (new : List B2vec2). put_first new old)
       (sym (corners_are places walked))
 
 -- ---- 3: what is left after welding
@@ -97,17 +102,24 @@ module _ (old : B2polygonShape) (ps : List B2vec2) where
       (sym (le-ltb (length ps) 3 enough))
 
   -- ---- 4: the walk
-  module _ (before : List B2vec2) (m : ℕ) (vs : List B2vec2) where
-    not_closed : (o : Option (List ℕ)) → WalkResult ps before o m vs → m < 3
+  module _ (before vs : List B2vec2) where
+    not_back : (o : Option (List ℕ)) → WalkResult ps before o None vs
         → refused walk_not_closed old ≡ outline_of_row old ps o
-    not_closed none walked few = refl
-    not_closed (some places) walked few = let same = walked.0 in simp (lt-ltb (length places) 3 (omega arith))
+    not_back none walked = refl
+    not_back (some places) walked = absurd (subst T (ap is_some (sym walked.0)) tt)
 
-    of_corners : (o : Option (List ℕ)) → WalkResult ps before o m vs → 3 ≤ m
+  module _ (before : List B2vec2) (m : ℕ) (vs : List B2vec2) where
+    few_corners : (o : Option (List ℕ)) → WalkResult ps before o (Some m) vs → m < 3
+        → refused walk_not_closed old ≡ outline_of_row old ps o
+    few_corners none walked few = absurd (subst T (ap is_some walked) tt)
+    few_corners (some places) walked few =
+        let same = count_is ps before m vs places walked in simp (lt-ltb (length places) 3 (omega arith))
+
+    of_corners : (o : Option (List ℕ)) → WalkResult ps before o (Some m) vs → 3 ≤ m
         → outline_of_corners old (take m vs) ≡ outline_of_row old ps o
-    of_corners none walked enough = absurd (omega arith)
+    of_corners none walked enough = absurd (subst T (ap is_some walked) tt)
     of_corners (some places) walked enough =
-        let same = walked.0 in
+        let same = count_is ps before m vs places walked in
         ap (outline_of_corners old) (corners_are ps before m vs places walked)
         ∙ ap (λ (t : Bool). cond t (refused walk_not_closed old) (outline_of_corners old (map (point_at ps) places)))
         (sym (le-ltb (length places) 3 (omega arith)))
@@ -131,20 +143,25 @@ module _ (old : B2polygonShape) (points : List B2vec2) (count : ℕ) where
       kept_so = of_welded old points count enough not_more eight (take n ps) inside welds;
     }
 
-    module _ (known : AfterWeld n ps) (enough : 3 ≤ n) (m : ℕ) (vs : List B2vec2)
-        (walked : WalkResult (take n ps) old.m_vertices (row (take n ps)) m vs) where
+    module _ (known : AfterWeld n ps) (enough : 3 ≤ n) where
       row_so : outline_of_row old (take n ps) (row (take n ps)) ≡ b2_polygon_shape_set_counted old points count
       row_so = let same = known.kept_length in of_row old (take n ps) (omega arith) ∙ known.kept_so
 
-      pub walk_not_back : m < 3 → refused walk_not_closed old ≡ b2_polygon_shape_set_counted old points count
-      walk_not_back few = not_closed old (take n ps) old.m_vertices m vs (row (take n ps)) walked few ∙ row_so
+      pub walk_not_back : (vs : List B2vec2) → WalkResult (take n ps) old.m_vertices (row (take n ps)) None vs
+          → refused walk_not_closed old ≡ b2_polygon_shape_set_counted old points count
+      walk_not_back vs walked = not_back old (take n ps) old.m_vertices vs (row (take n ps)) walked ∙ row_so
 
-      pub after_walk : 3 ≤ m → AfterWalk m vs
-      after_walk closed = record {
-        corners_length = corners_count (take n ps) old.m_vertices m vs (row (take n ps)) walked closed;
-        corners_over = over_vertices (take n ps) old.m_vertices m vs (row (take n ps)) walked closed;
-        corners_so = of_corners old (take n ps) old.m_vertices m vs (row (take n ps)) walked closed ∙ row_so;
-      }
+      module _ (m : ℕ) (vs : List B2vec2)
+          (walked : WalkResult (take n ps) old.m_vertices (row (take n ps)) (Some m) vs) where
+        pub walk_too_short : m < 3 → refused walk_not_closed old ≡ b2_polygon_shape_set_counted old points count
+        walk_too_short few = few_corners old (take n ps) old.m_vertices m vs (row (take n ps)) walked few ∙ row_so
+
+        pub after_walk : 3 ≤ m → AfterWalk m vs
+        after_walk closed = record {
+          corners_length = corners_count (take n ps) old.m_vertices m vs (row (take n ps)) walked;
+          corners_over = over_vertices (take n ps) old.m_vertices m vs (row (take n ps)) walked;
+          corners_so = of_corners old (take n ps) old.m_vertices m vs (row (take n ps)) walked closed ∙ row_so;
+        }
 
 -- ---- 5: edges and area
 short_edge : (es old new : List B2vec2) (t : Bool) → NormalsResult es old t false new → t ≡ false

@@ -6,6 +6,7 @@ use mathlib.Core.List.{List}
 use Prim.Native.Nat.{ℕ, ◌≤◌}
 use lib.ListN.{length, take}
 use lib.Ieee.{Float}
+use Rattle.std.specs.Prelude.{Option as Answer}
 use Rattle.floats.specs.declared.b2_math.B2vec2.{B2vec2}
 use Rattle.floats.specs.Ranges.{point_in_range}
 use Rattle.shape_definitions.specs.declared.b2_polygon_shape.B2polygonShape.{B2polygonShape}
@@ -37,9 +38,11 @@ module _ (points : List B2vec2) (count : ℕ) (given : List Float) (eight : Eigh
       (welds ∙ ap (λ (l : List B2vec2). welded (take count l)) given_is)
 
 -- ---- after the walk and after the normals: what stood in the places is the old outline's
-pub walked : (ps before old vs : List B2vec2) (m : ℕ) → before ≡ old → WalkResult ps before (row ps) m vs
-    → WalkResult ps old (row ps) m vs
-walked ps before old vs m before_is so = subst (λ (l : List B2vec2). WalkResult ps l (row ps) m vs) before_is so
+pub walked : (ps before old vs : List B2vec2) (answer goes : Answer ℕ) → before ≡ old → answer ≡ goes
+    → WalkResult ps before (row ps) answer vs → WalkResult ps old (row ps) goes vs
+walked ps before old vs answer goes before_is answer_is so =
+    subst (λ (a : Answer ℕ). WalkResult ps old (row ps) a vs) answer_is
+    (subst (λ (l : List B2vec2). WalkResult ps l (row ps) answer vs) before_is so)
 
 pub faced : (corners before old ns : List B2vec2) (z t : Bool) → before ≡ old → z ≡ t
     → NormalsResult (edges corners) before (long_enough (edges corners)) z ns

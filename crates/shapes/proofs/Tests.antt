@@ -1,36 +1,16 @@
 -- The tests of the outline builder, from the values that the code computes on the way. Assumes nothing.
 use mathlib.Core.Path.{◌≡◌, sym, ◌∙◌, ap, ap₂}
-use mathlib.Core.Bool.{Bool, true, false, cond, ◌||◌}
+use mathlib.Core.Bool.{Bool, cond, ◌||◌}
 use Prim.Native.Nat.{ℕ, ◌+◌, ◌-◌, ◌<◌, ◌≤◌}
 use mathlib.Core.List.{List}
 use lib.Dec.{eqb}
 use lib.ListN.{length, take}
 use lib.Seq.{length-take-le, get_or-take}
-use lib.Ieee.{Float, lt, eq}
 use Rattle.algebra.specs.Loops.{places, scan}
 use Rattle.algebra.proofs.Loops.{scan_next}
 use Rattle.floats.specs.declared.b2_math.B2vec2.{B2vec2}
-use Rattle.rounding.specs.Literals.{zero32}
-use Rattle.floats.specs.B2Math.{b2_sub, b2_cross, b2_length_squared}
+use Rattle.floats.specs.B2Math.{b2_sub}
 use Rattle.shape_definitions.specs.Outline.{origin, point_at, later_places, earlier, turns_closer, closer, replaces}
-
--- ---- k is the cross product of r and v
-module _ (r v : B2vec2) (k : Float) (k_is : k ≡ b2_cross r v) where
-  -- it is below 0
-  pub turns_below : lt k zero32 ≡ true → true ≡ turns_closer r v
-  turns_below below = simp (ap (λ x. lt x zero32) (sym k_is) ∙ below)
-
-  -- it is 0: the squared lengths a and b decide
-  pub turns_level : (a b : Float) → lt k zero32 ≡ false → eq k zero32 ≡ true → a ≡ b2_length_squared r
-      → b ≡ b2_length_squared v
-      → lt a b ≡ turns_closer r v
-  turns_level a b not_below level a_is b_is =
-      simp (ap (λ x. lt x zero32) (sym k_is) ∙ not_below, ap (λ x. eq x zero32) (sym k_is) ∙ level, a_is, b_is)
-
-  -- it is neither
-  pub turns_above : lt k zero32 ≡ false → eq k zero32 ≡ false → eq k zero32 ≡ turns_closer r v
-  turns_above not_below not_level =
-      simp (not_level, ap (λ x. lt x zero32) (sym k_is) ∙ not_below, ap (λ x. eq x zero32) (sym k_is) ∙ not_level)
 
 -- the point at a place of the first n
 pub at_first_place : (l : List B2vec2) (n i : ℕ) → i < n → point_at (take n l) i ≡ point_at l i

@@ -4,6 +4,7 @@ use mathlib.Core.Path.{◌≡◌, refl, sym, ◌∙◌, ap, subst}
 use mathlib.Core.List.{List, [], ◌∷◌, ◌++◌, map, map-append}
 use mathlib.Core.Option
 use mathlib.Core.Option.{Option, some}
+use Rattle.std.specs.Prelude.{Some, None}
 use Prim.Native.Nat.{ℕ, suc, ◌+◌, ◌-◌, ◌<◌, ◌≤◌}
 use native.Mathlib.Omega.{arith}
 use lib.Dec.{eqb}
@@ -71,11 +72,11 @@ module _ (ps old corners : List B2vec2) (m ih : ℕ) (p : B2vec2) (w : Walking p
 
   -- it is the start
   pub walking_back : (count : ℕ) (new : List B2vec2) → next ps ih ≡ start ps → count ≡ m + 1 → new ≡ set corners m p
-      → WalkResult ps old (row ps) count new
+      → WalkResult ps old (row ps) (Some count) new
   unfolding done_here
   walking_back count new back count_is New_is =
-      subst (λ (o : Option (List ℕ)). WalkResult ps old o count new) row_is
-      (count_is ∙ sym (length_one_more w.done ih m w.done_length), New_is ∙ filled_here)
+      subst (λ (o : Option (List ℕ)). WalkResult ps old o (Some count) new) row_is
+      (ap Some (count_is ∙ sym (length_one_more w.done ih m w.done_length)), New_is ∙ filled_here)
     where
       row_is : some (w.done ++ (ih ∷ [])) ≡ row ps
       row_is =
@@ -84,9 +85,9 @@ module _ (ps old corners : List B2vec2) (m ih : ℕ) (p : B2vec2) (w : Walking p
 
 -- not back after eight
 pub walking_lost : (ps old corners new : List B2vec2) (m ih : ℕ) → Walking ps old m ih corners → 8 ≤ m
-    → WalkResult ps old (row ps) 0 new
+    → WalkResult ps old (row ps) None new
 walking_lost ps old corners new m ih w ended =
-    subst (λ (o : Option (List ℕ)). WalkResult ps old o 0 new)
+    subst (λ (o : Option (List ℕ)). WalkResult ps old o None new)
     (ap (λ (k : ℕ). Option.map (◌++◌ w.done) (walk eqb (next ps) (start ps) k ih)) none_left ∙ w.rest) refl
   where
     none_left : 0 ≡ 8 - m

@@ -1,76 +1,77 @@
 // Outlines (Box2D's b2_polygon_shape.h): boxes, the outline builder and the convexity test.
-ghost use Rattle.std.specs.Prelude.{◌≡◌, [], ◌∷◌};
-ghost use Rattle.shape_definitions.specs.Polygon.{refused, put_first};
+ghost use Rattle.std.specs.Prelude.{◌≡◌, Ok};
+ghost use Rattle.shape_definitions.specs.Answers.{polygon_answered, validate_answered};
+ghost use Rattle.shape_definitions.specs.Polygon.{put_first};
 ghost use Rattle.shape_definitions.specs.Polygon.{b2_polygon_shape_set_counted, b2_polygon_shape_set};
+ghost use Rattle.shape_definitions.specs.Boxes.{box_with};
 ghost use Rattle.shape_definitions.specs.Boxes.{b2_polygon_shape_set_as_box, b2_polygon_shape_set_as_box_angle};
 ghost use Rattle.shape_definitions.specs.Validate.{b2_polygon_shape_validate};
 
-use crate::{convex, coordinates, lent, outline};
+use crate::coordinates::Row;
+use crate::{convex, outline};
 use floats::b2_common::B2_EPSILON;
 use floats::b2_math::B2vec2;
 use floats::b2_settings::B2_MAX_POLYGON_VERTICES;
 use floats::{b2_math, ranges};
-use shape_definitions::b2_polygon_shape::{B2polygonShape, PolygonAnswer, ValidateAnswer};
-use shape_definitions::refusal;
+use shape_definitions::b2_polygon_shape::B2polygonShape;
+use shape_definitions::refusal::Refusal;
 use shape_ranges::polygon_range;
 
-// A call that is turned down hands the outline back.
-fn refused(old: B2polygonShape, number: u8) -> PolygonAnswer
-    ensures { result ≡ refused number old }
-{
-    PolygonAnswer {
-        refusal: number,
-        shape: old,
-    }
-}
+const ORIGIN: B2vec2 = B2vec2 { x: 0.0, y: 0.0 };
 
 // Four points over the old ones.
-fn put_four(old: [B2vec2; 8], a: B2vec2, b: B2vec2, c: B2vec2, d: B2vec2) -> [B2vec2; 8]
-    ensures { result ≡ put_first (a ∷ b ∷ c ∷ d ∷ []) old }
+fn put_four(old: [B2vec2; 8], first: [B2vec2; 4]) -> [B2vec2; 8]
+    ensures { result ≡ put_first first old }
 {
     let mut new = old;
-    new[0] = a;
-    new[1] = b;
-    new[2] = c;
-    new[3] = d;
+    [new[0], new[1], new[2], new[3]] = first;
     new
 }
 
+// The outline with four new corners and their normals.
+fn box_with(
+    old: B2polygonShape,
+    centroid: B2vec2,
+    corners: [B2vec2; 4],
+    normals: [B2vec2; 4],
+) -> B2polygonShape
+    ensures { polygon_answered old (Ok result) ≡ box_with old centroid corners normals }
+{
+    B2polygonShape {
+        m_centroid: centroid,
+        m_vertices: put_four(old.m_vertices, corners),
+        m_normals: put_four(old.m_normals, normals),
+        m_count: 4,
+        ..old
+    }
+}
+
 // A box of half-widths hx and hy around the origin.
-pub fn b2_polygon_shape_set_as_box(old: B2polygonShape, hx: f32, hy: f32) -> PolygonAnswer
-    ensures { result ≡ b2_polygon_shape_set_as_box old hx hy }
+pub fn b2_polygon_shape_set_as_box(
+    old: B2polygonShape,
+    hx: f32,
+    hy: f32,
+) -> Result<B2polygonShape, Refusal>
+    ensures { polygon_answered old result ≡ b2_polygon_shape_set_as_box old hx hy }
 {
     let hx_in = ranges::coordinate_in_range(hx);
     let hy_in = ranges::coordinate_in_range(hy);
     if !(hx_in & hy_in) {
-        return refused(old, refusal::SHAPE_OUT_OF_RANGE);
+        return Err(Refusal::ShapeOutOfRange);
     }
-    let old_vertices = old.m_vertices;
-    let old_normals = old.m_normals;
-    let vs = put_four(
-        old_vertices,
+    let corners = [
         B2vec2 { x: -hx, y: -hy },
         B2vec2 { x: hx, y: -hy },
         B2vec2 { x: hx, y: hy },
         B2vec2 { x: -hx, y: hy },
-    );
-    let ns = put_four(
-        old_normals,
+    ];
+    let normals = [
         B2vec2 { x: 0.0, y: -1.0 },
         B2vec2 { x: 1.0, y: 0.0 },
         B2vec2 { x: 0.0, y: 1.0 },
         B2vec2 { x: -1.0, y: 0.0 },
-    );
-    PolygonAnswer {
-        refusal: refusal::ACCEPTED,
-        shape: B2polygonShape {
-            m_radius: old.m_radius,
-            m_centroid: B2vec2 { x: 0.0, y: 0.0 },
-            m_vertices: vs,
-            m_normals: ns,
-            m_count: 4,
-        },
-    }
+    ];
+    Ok(box_with(old, ORIGIN, corners, normals))
 }
 
 // A box of half-widths hx and hy, turned by q and moved to center.
@@ -80,45 +81,34 @@ pub fn b2_polygon_shape_set_as_box_angle(
     hy: f32,
     center: B2vec2,
     q: b2_math::B2Rot,
-) -> PolygonAnswer
-    ensures { result ≡ b2_polygon_shape_set_as_box_angle old hx hy center q }
+) -> Result<B2polygonShape, Refusal>
+    ensures { polygon_answered old result ≡ b2_polygon_shape_set_as_box_angle old hx hy center q }
 {
     let hx_in = ranges::coordinate_in_range(hx);
     let hy_in = ranges::coordinate_in_range(hy);
     let center_in = ranges::point_in_range(center);
     if !(hx_in & hy_in & center_in) {
-        return refused(old, refusal::SHAPE_OUT_OF_RANGE);
+        return Err(Refusal::ShapeOutOfRange);
     }
     if !ranges::rotation_in_range(q) {
-        return refused(old, refusal::PLACEMENT_OUT_OF_RANGE);
+        return Err(Refusal::PlacementOutOfRange);
     }
-    let xf = b2_math::B2Transform { p: center, q: q };
-    let old_vertices = old.m_vertices;
-    let old_normals = old.m_normals;
-    let vs = put_four(
-        old_vertices,
-        b2_math::b2_mul_transform_by_vec2(xf, B2vec2 { x: -hx, y: -hy }),
-        b2_math::b2_mul_transform_by_vec2(xf, B2vec2 { x: hx, y: -hy }),
-        b2_math::b2_mul_transform_by_vec2(xf, B2vec2 { x: hx, y: hy }),
-        b2_math::b2_mul_transform_by_vec2(xf, B2vec2 { x: -hx, y: hy }),
-    );
-    let ns = put_four(
-        old_normals,
-        b2_math::b2_mul_rot_by_vec2(q, B2vec2 { x: 0.0, y: -1.0 }),
-        b2_math::b2_mul_rot_by_vec2(q, B2vec2 { x: 1.0, y: 0.0 }),
-        b2_math::b2_mul_rot_by_vec2(q, B2vec2 { x: 0.0, y: 1.0 }),
-        b2_math::b2_mul_rot_by_vec2(q, B2vec2 { x: -1.0, y: 0.0 }),
-    );
-    PolygonAnswer {
-        refusal: refusal::ACCEPTED,
-        shape: B2polygonShape {
-            m_radius: old.m_radius,
-            m_centroid: center,
-            m_vertices: vs,
-            m_normals: ns,
-            m_count: 4,
-        },
-    }
+    let xf = b2_math::B2Transform { p: center, q };
+    let place = |x: f32, y: f32| b2_math::b2_mul_transform_by_vec2(xf, B2vec2 { x, y });
+    let turn = |x: f32, y: f32| b2_math::b2_mul_rot_by_vec2(q, B2vec2 { x, y });
+    let corners = [
+        place(-hx, -hy),
+        place(hx, -hy),
+        place(hx, hy),
+        place(-hx, hy),
+    ];
+    let normals = [
+        turn(0.0, -1.0),
+        turn(1.0, 0.0),
+        turn(0.0, 1.0),
+        turn(-1.0, 0.0),
+    ];
+    Ok(box_with(old, center, corners, normals))
 }
 
 // The outline of the first count points: weld, start, walk, normals, centroid (the steps are in outline.rt).
@@ -126,109 +116,69 @@ pub fn b2_polygon_shape_set_core(
     old: B2polygonShape,
     points: [B2vec2; 8],
     count: usize,
-) -> PolygonAnswer
-    ensures { result ≡ b2_polygon_shape_set_counted old points count }
+) -> Result<B2polygonShape, Refusal>
+    ensures { polygon_answered old result ≡ b2_polygon_shape_set_counted old points count }
 {
-    if count < 3 {
-        return refused(old, refusal::WRONG_NUMBER_OF_POINTS);
+    if count < 3 || count > B2_MAX_POLYGON_VERTICES {
+        return Err(Refusal::WrongNumberOfPoints);
     }
-    if count > B2_MAX_POLYGON_VERTICES {
-        return refused(old, refusal::WRONG_NUMBER_OF_POINTS);
+    let given = Row::of(points);
+    if !given.in_range(count) {
+        return Err(Refusal::ShapeOutOfRange);
     }
-    let given = coordinates::coordinates(points);
-    if !coordinates::in_range(&given, count) {
-        return refused(old, refusal::SHAPE_OUT_OF_RANGE);
-    }
-    let mut ps = [0.0f32; 16];
+    let mut ps = Row::of([ORIGIN; 8]);
     let n = outline::weld(&given, count, &mut ps);
     if n < 3 {
-        return refused(old, refusal::TOO_FEW_AFTER_WELDING);
+        return Err(Refusal::TooFewAfterWelding);
     }
     let i0 = outline::start(&ps, n);
-    let old_vertices = old.m_vertices;
-    let mut vs = coordinates::coordinates(old_vertices);
-    let m = outline::walk(&ps, n, i0, &mut vs);
+    let mut vs = Row::of(old.m_vertices);
+    let m = outline::walk(&ps, n, i0, &mut vs).ok_or(Refusal::WalkNotClosed)?;
     if m < 3 {
-        return refused(old, refusal::WALK_NOT_CLOSED);
+        return Err(Refusal::WalkNotClosed);
     }
-    let old_normals = old.m_normals;
-    let mut ns = coordinates::coordinates(old_normals);
+    let mut ns = Row::of(old.m_normals);
     if !outline::normals(&vs, m, &mut ns) {
-        return refused(old, refusal::EDGE_OR_AREA_TOO_SMALL);
+        return Err(Refusal::EdgeOrAreaTooSmall);
     }
     let sum = outline::fan(&vs, m);
-    if sum.area > B2_EPSILON {
-        let s = coordinates::at(&vs, 0);
-        let centroid = b2_math::b2_add(b2_math::b2_scale(1.0 / sum.area, sum.moment), s);
-        let vertices = coordinates::points(&vs);
-        let normals = coordinates::points(&ns);
-        return PolygonAnswer {
-            refusal: refusal::ACCEPTED,
-            shape: B2polygonShape {
-                m_radius: old.m_radius,
-                m_centroid: centroid,
-                m_vertices: vertices,
-                m_normals: normals,
-                m_count: m,
-            },
-        };
+    if !(sum.area > B2_EPSILON) {
+        return Err(Refusal::EdgeOrAreaTooSmall);
     }
-    refused(old, refusal::EDGE_OR_AREA_TOO_SMALL)
-}
-
-// The outline of count points, in eight places.
-pub fn set_of_eight(
-    old: B2polygonShape,
-    p0: B2vec2,
-    p1: B2vec2,
-    p2: B2vec2,
-    p3: B2vec2,
-    p4: B2vec2,
-    p5: B2vec2,
-    p6: B2vec2,
-    p7: B2vec2,
-    count: usize,
-) -> PolygonAnswer
-    ensures { result ≡ b2_polygon_shape_set_counted old (p0 ∷ p1 ∷ p2 ∷ p3 ∷ p4 ∷ p5 ∷ p6 ∷ p7 ∷ []) count }
-{
-    b2_polygon_shape_set_core(old, [p0, p1, p2, p3, p4, p5, p6, p7], count)
+    let s = vs.at(0);
+    let centroid = b2_math::b2_add(b2_math::b2_scale(1.0 / sum.area, sum.moment), s);
+    Ok(B2polygonShape {
+        m_centroid: centroid,
+        m_vertices: vs.points(),
+        m_normals: ns.points(),
+        m_count: m,
+        ..old
+    })
 }
 
 // The outline of the points of a lent slice. C can call it (crate shapes_c).
-pub fn b2_polygon_shape_set(old: B2polygonShape, vertices: &[B2vec2]) -> PolygonAnswer
-    ensures { result ≡ b2_polygon_shape_set old vertices.now }
+pub fn b2_polygon_shape_set(
+    old: B2polygonShape,
+    vertices: &[B2vec2],
+) -> Result<B2polygonShape, Refusal>
+    ensures { polygon_answered old result ≡ b2_polygon_shape_set old vertices.now }
 {
-    let p0 = lent::point_or(vertices, 0);
-    let p1 = lent::point_or(vertices, 1);
-    let p2 = lent::point_or(vertices, 2);
-    let p3 = lent::point_or(vertices, 3);
-    let p4 = lent::point_or(vertices, 4);
-    let p5 = lent::point_or(vertices, 5);
-    let p6 = lent::point_or(vertices, 6);
-    let p7 = lent::point_or(vertices, 7);
-    set_of_eight(old, p0, p1, p2, p3, p4, p5, p6, p7, vertices.len())
+    // Written out: filled by a loop or a copy, the call was measured to take an eighth longer.
+    let at = |i: usize| vertices.get(i).copied().unwrap_or(ORIGIN);
+    let points = [at(0), at(1), at(2), at(3), at(4), at(5), at(6), at(7)];
+    b2_polygon_shape_set_core(old, points, vertices.len())
 }
 
 // Whether an outline is convex, by the rounded cross products.
-pub fn b2_polygon_shape_validate(shape: B2polygonShape) -> ValidateAnswer
-    ensures { result ≡ b2_polygon_shape_validate shape }
+pub fn b2_polygon_shape_validate(shape: B2polygonShape) -> Result<bool, Refusal>
+    ensures { validate_answered result ≡ b2_polygon_shape_validate shape }
 {
     let count = shape.m_count;
     if count > B2_MAX_POLYGON_VERTICES {
-        return ValidateAnswer {
-            refusal: refusal::COUNT_OUT_OF_RANGE,
-            valid: false,
-        };
+        return Err(Refusal::CountOutOfRange);
     }
     if !polygon_range::polygon_in_range(shape) {
-        return ValidateAnswer {
-            refusal: refusal::SHAPE_OUT_OF_RANGE,
-            valid: false,
-        };
+        return Err(Refusal::ShapeOutOfRange);
     }
-    let vs = shape.m_vertices;
-    ValidateAnswer {
-        refusal: refusal::ACCEPTED,
-        valid: convex::faces_convex(vs, count),
-    }
+    Ok(convex::faces_convex(shape.m_vertices, count))
 }

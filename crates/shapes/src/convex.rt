@@ -1,6 +1,6 @@
 // The steps of the convexity test: whether a corner lies right of a face, by the rounded cross product. The corners are
 // given by their coordinates, and all eight places are read at every face, so that the compiler can take them at once.
-ghost use Rattle.std.specs.Prelude.{◌≡◌, not, ◌<◌, ◌≤◌, length};
+ghost use Rattle.std.specs.Prelude.{◌≡◌, not, ◌<◌, ◌≤◌};
 ghost use mathlib.Core.List.{map, zip_with};
 ghost use Rattle.std.specs.Float.Ieee.{lt};
 ghost use Rattle.rounding.specs.Literals.{zero32};
@@ -26,44 +26,45 @@ struct Coordinates {
     ys: [f32; 8],
 }
 
-fn split_coordinates(vs: [B2vec2; 8]) -> Coordinates
-    ensures { (result.xs ≡ map (λ v. v.x) vs) × (result.ys ≡ map (λ v. v.y) vs) }
-{
-    let mut xs = [0.0f32; 8];
-    let mut ys = [0.0f32; 8];
-    let mut j = 0usize;
-    while j < 8 {
-        let v = vs[j];
-        xs[j] = v.x;
-        ys[j] = v.y;
-        j += 1;
+impl Coordinates {
+    fn of(vs: [B2vec2; 8]) -> Coordinates
+        ensures { (result.xs ≡ map (λ v. v.x) vs) × (result.ys ≡ map (λ v. v.y) vs) }
+    {
+        let mut xs = [0.0f32; 8];
+        let mut ys = [0.0f32; 8];
+        for j in 0..8 {
+            let v = vs[j];
+            xs[j] = v.x;
+            ys[j] = v.y;
+        }
+        Coordinates { xs, ys }
     }
-    Coordinates { xs: xs, ys: ys }
-}
 
-// The corner at place j.
-fn corner(xs: &[f32; 8], ys: &[f32; 8], j: usize) -> B2vec2
-    requires { (j < 8) × (length xs.now ≡ 8) × (length ys.now ≡ 8) }
-    ensures { result ≡ point_at (zip_with vec2 xs.now ys.now) j }
-{
-    B2vec2 { x: xs[j], y: ys[j] }
-}
-
-// Whether some of the first count corners lies right of the face from i; its ends, which are corners too, do not.
-fn some_right(xs: &[f32; 8], ys: &[f32; 8], count: usize, i: usize) -> bool
-    requires { (count ≤ 8) × (i < count) × (length xs.now ≡ 8) × (length ys.now ≡ 8) }
-    ensures { result ≡ not (corners_not_right (zip_with vec2 xs.now ys.now) count i count) }
-{
-    let p = corner(xs, ys, i);
-    let e = b2_math::b2_sub(corner(xs, ys, places::after(i, count)), p);
-    let mut right = false;
-    let mut j = 0usize;
-    while j < 8 {
-        let here = right_of(p, e, corner(xs, ys, j));
-        right = right | (here & (j < count));
-        j += 1;
+    // The corner at place j.
+    fn corner(&self, j: usize) -> B2vec2
+        requires { j < 8 }
+        ensures { result ≡ point_at (zip_with vec2 self.now.xs self.now.ys) j }
+    {
+        B2vec2 {
+            x: self.xs[j],
+            y: self.ys[j],
+        }
     }
-    right
+
+    // Whether some of the first count corners lies right of the face from i; its ends, which are corners too, do not.
+    fn some_right(&self, count: usize, i: usize) -> bool
+        requires { (count ≤ 8) × (i < count) }
+        ensures { result ≡ not (corners_not_right (zip_with vec2 self.now.xs self.now.ys) count i count) }
+    {
+        let p = self.corner(i);
+        let e = b2_math::b2_sub(self.corner(places::after(i, count)), p);
+        let mut right = false;
+        for j in 0..8 {
+            let here = right_of(p, e, self.corner(j));
+            right = right | (here & (j < count));
+        }
+        right
+    }
 }
 
 // Whether no corner lies right of a face.
@@ -71,15 +72,11 @@ pub fn faces_convex(vs: [B2vec2; 8], count: usize) -> bool
     requires { count ≤ 8 }
     ensures { result ≡ faces_convex vs count count }
 {
-    let both = split_coordinates(vs);
-    let xs = both.xs;
-    let ys = both.ys;
-    let mut i = 0usize;
-    while i < count {
-        if some_right(&xs, &ys, count, i) {
+    let corners = Coordinates::of(vs);
+    for i in 0..count {
+        if corners.some_right(count, i) {
             return false;
         }
-        i += 1;
     }
     true
 }

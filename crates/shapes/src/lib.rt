@@ -5,10 +5,9 @@
 pub mod b2_edge_shape;
 pub mod b2_polygon_shape;
 
-// The steps of the outline builder (weld, start, walk, normals, area with moment), the rows of coordinates that they
-// lend to each other, and the lent slice that it reads.
+// The steps of the outline builder (weld, start, walk, normals, area with moment), and the rows of coordinates that they
+// lend to each other.
 mod coordinates;
-mod lent;
 mod outline;
 
 // The steps of the convexity test.

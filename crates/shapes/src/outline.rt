@@ -1,17 +1,17 @@
 // The steps of the outline builder: welding, the start, the walk, normals, and area with moment. Points stand in the
 // first places of a row of sixteen coordinates, which is lent from step to step; the definitions are over the list of
 // points.
-ghost use Rattle.std.specs.Prelude.{◌≡◌, true, ◌||◌, ◌<◌, ◌≤◌, eqb, take};
+ghost use Rattle.std.specs.Prelude.{◌≡◌, true, ◌||◌, ◌<◌, ◌≤◌, eqb, take, IfSome};
 ghost use Rattle.std.specs.Float.Ieee.{lt};
 ghost use Rattle.algebra.specs.Loops.{near_any};
 ghost use Rattle.floats.specs.B2Common.{epsilon_squared};
 ghost use Rattle.floats.specs.B2Math.{b2_length_squared};
 ghost use Rattle.shape_definitions.specs.Outline.{too_near, welded, comes_before, start, turns_closer, next, row};
 ghost use Rattle.shape_definitions.specs.Outline.{edges, long_enough, normal_of_edge, with_triangle, fan};
-ghost use Rattle.shapes.specs.Coordinates.{points_in, EightPoints};
+ghost use Rattle.shapes.specs.Coordinates.{points_in};
 ghost use Rattle.shapes.specs.Parts.{WalkResult, NormalsResult};
 
-use crate::coordinates;
+use crate::coordinates::Row;
 use floats::b2_common::{B2_EPSILON, B2_LINEAR_SLOP};
 use floats::b2_math;
 use floats::b2_math::B2vec2;
@@ -35,41 +35,37 @@ fn too_near(v: B2vec2, kept: B2vec2) -> bool
 }
 
 // Whether v is too near to one of the first n points.
-fn near_any(ps: &[f32; 16], n: usize, v: B2vec2) -> bool
-    requires { (n ≤ 8) × EightPoints ps.now }
-    ensures { result ≡ near_any too_near v (take n (points_in ps.now)) }
+fn near_any(ps: &Row, n: usize, v: B2vec2) -> bool
+    requires { n ≤ 8 }
+    ensures { result ≡ near_any too_near v (take n (points_in ps.now.xs)) }
 {
-    let mut j = 0usize;
-    while j < n {
-        if too_near(v, coordinates::at(ps, j)) {
+    for j in 0..n {
+        if too_near(v, ps.at(j)) {
             return true;
         }
-        j += 1;
     }
     false
 }
 
 // The first count points without those too near to an earlier one that is kept, in the first places of ps, and their
 // number.
-pub fn weld(points: &[f32; 16], count: usize, ps: &mut [f32; 16]) -> usize
-    requires { (count ≤ 8) × EightPoints points.now × EightPoints ps.old }
-    ensures { (result ≤ count) × EightPoints ps.new
-        × (take result (points_in ps.new) ≡ welded (take count (points_in points.now))) }
+pub fn weld(points: &Row, count: usize, ps: &mut Row) -> usize
+    requires { count ≤ 8 }
+    ensures { (result ≤ count)
+        × (take result (points_in ps.new.xs) ≡ welded (take count (points_in points.now.xs))) }
 {
     let mut n = 0usize;
-    let mut i = 0usize;
-    while i < count {
-        let v = coordinates::at(points, i);
+    for i in 0..count {
+        let v = points.at(i);
         if !near_any(ps, n, v) {
-            coordinates::put(ps, n, v);
+            ps.put(n, v);
             n += 1;
         }
-        i += 1;
     }
     n
 }
 
-// Whether p has a larger x than the best so far, or the same x and a smaller y.
+// Whether p has a larger x than the best so far, or the same x and a smaller y. Floats have no `Ord`.
 fn comes_before(best: B2vec2, p: B2vec2) -> bool
     ensures { result ≡ comes_before best p }
 {
@@ -80,20 +76,18 @@ fn comes_before(best: B2vec2, p: B2vec2) -> bool
 }
 
 // The place of the largest x, smallest y among equals.
-pub fn start(ps: &[f32; 16], n: usize) -> usize
-    requires { (0 < n) × (n ≤ 8) × EightPoints ps.now }
-    ensures { (result < n) × (result ≡ start (take n (points_in ps.now))) }
+pub fn start(ps: &Row, n: usize) -> usize
+    requires { (0 < n) × (n ≤ 8) }
+    ensures { (result < n) × (result ≡ start (take n (points_in ps.now.xs))) }
 {
     let mut i0 = 0usize;
-    let mut best = coordinates::at(ps, 0);
-    let mut i = 1usize;
-    while i < n {
-        let p = coordinates::at(ps, i);
+    let mut best = ps.at(0);
+    for i in 1..n {
+        let p = ps.at(i);
         if comes_before(best, p) {
             i0 = i;
             best = p;
         }
-        i += 1;
     }
     i0
 }
@@ -121,45 +115,40 @@ fn replaced(ih: usize, ie: usize, r: B2vec2, v: B2vec2) -> bool
 }
 
 // The place of the corner after the one at ih.
-pub fn next(ps: &[f32; 16], n: usize, ih: usize) -> usize
-    requires { (n ≤ 8) × (ih < n) × EightPoints ps.now }
-    ensures { (result < n) × (result ≡ next (take n (points_in ps.now)) ih) }
+pub fn next(ps: &Row, n: usize, ih: usize) -> usize
+    requires { (n ≤ 8) × (ih < n) }
+    ensures { (result < n) × (result ≡ next (take n (points_in ps.now.xs)) ih) }
 {
-    let corner = coordinates::at(ps, ih);
+    let corner = ps.at(ih);
     let mut ie = 0usize;
-    let mut r = b2_math::b2_sub(coordinates::at(ps, 0), corner);
-    let mut j = 1usize;
-    while j < n {
-        let v = b2_math::b2_sub(coordinates::at(ps, j), corner);
+    let mut r = b2_math::b2_sub(ps.at(0), corner);
+    for j in 1..n {
+        let v = b2_math::b2_sub(ps.at(j), corner);
         if replaced(ih, ie, r, v) {
             ie = j;
             r = v;
         }
-        j += 1;
     }
     ie
 }
 
-// The corners from the one at i0 on, over the points of corners, and their number; 0 where the walk is not back after
+// The corners from the one at i0 on, over the points of corners, and their number; None where the walk is not back after
 // eight.
-pub fn walk(ps: &[f32; 16], n: usize, i0: usize, corners: &mut [f32; 16]) -> usize
-    requires { (n ≤ 8) × (i0 < n) × (i0 ≡ start (take n (points_in ps.now)))
-        × EightPoints ps.now × EightPoints corners.old }
-    ensures { (result ≤ 8) × EightPoints corners.new
-        × WalkResult (take n (points_in ps.now)) (points_in corners.old)
-        (row (take n (points_in ps.now))) result (points_in corners.new) }
+pub fn walk(ps: &Row, n: usize, i0: usize, corners: &mut Row) -> Option<usize>
+    requires { (n ≤ 8) × (i0 < n) × (i0 ≡ start (take n (points_in ps.now.xs))) }
+    ensures { IfSome result (λ m. m ≤ 8)
+        × WalkResult (take n (points_in ps.now.xs)) (points_in corners.old.xs)
+        (row (take n (points_in ps.now.xs))) result (points_in corners.new.xs) }
 {
     let mut ih = i0;
-    let mut m = 0usize;
-    while m < 8 {
-        coordinates::put(corners, m, coordinates::at(ps, ih));
-        m += 1;
+    for m in 0..8 {
+        corners.put(m, ps.at(ih));
         ih = next(ps, n, ih);
         if ih == i0 {
-            return m;
+            return Some(m + 1);
         }
     }
-    0
+    None
 }
 
 // The unit normal of an edge that is long enough, on its right; squared is the edge's squared length.
@@ -177,25 +166,19 @@ fn normal_of_edge(edge: B2vec2, squared: f32) -> B2vec2
 
 // The normals of m corners, over those of ns, and whether every edge is long enough; where one is not, ns is left
 // anyhow.
-pub fn normals(vs: &[f32; 16], m: usize, ns: &mut [f32; 16]) -> bool
-    requires { (m ≤ 8) × EightPoints vs.now × EightPoints ns.old }
-    ensures { EightPoints ns.new
-        × NormalsResult (edges (take m (points_in vs.now))) (points_in ns.old)
-        (long_enough (edges (take m (points_in vs.now)))) result (points_in ns.new) }
+pub fn normals(vs: &Row, m: usize, ns: &mut Row) -> bool
+    requires { m ≤ 8 }
+    ensures { NormalsResult (edges (take m (points_in vs.now.xs))) (points_in ns.old.xs)
+        (long_enough (edges (take m (points_in vs.now.xs)))) result (points_in ns.new.xs) }
 {
-    let mut i = 0usize;
-    while i < m {
-        let edge = b2_math::b2_sub(
-            coordinates::at(vs, places::after(i, m)),
-            coordinates::at(vs, i),
-        );
+    for i in 0..m {
+        let edge = b2_math::b2_sub(vs.at(places::after(i, m)), vs.at(i));
         let squared = b2_math::b2_length_squared(edge);
         if squared > EPSILON_SQUARED {
-            coordinates::put(ns, i, normal_of_edge(edge, squared));
+            ns.put(i, normal_of_edge(edge, squared));
         } else {
             return false;
         }
-        i += 1;
     }
     true
 }
@@ -215,22 +198,20 @@ fn with_triangle(p1: B2vec2, p2: B2vec2, p3: B2vec2, sum: FanSum) -> FanSum
 }
 
 // The triangles from the first corner to each edge, all measured from that corner, summed in corner order.
-pub fn fan(vs: &[f32; 16], m: usize) -> FanSum
-    requires { (0 < m) × (m ≤ 8) × EightPoints vs.now }
-    ensures { result ≡ fan (take m (points_in vs.now)) }
+pub fn fan(vs: &Row, m: usize) -> FanSum
+    requires { (0 < m) × (m ≤ 8) }
+    ensures { result ≡ fan (take m (points_in vs.now.xs)) }
 {
-    let s = coordinates::at(vs, 0);
+    let s = vs.at(0);
     let p1 = b2_math::b2_sub(s, s);
     let mut sum = FanSum {
         area: 0.0,
         moment: B2vec2 { x: 0.0, y: 0.0 },
     };
-    let mut i = 0usize;
-    while i < m {
-        let p2 = b2_math::b2_sub(coordinates::at(vs, i), s);
-        let p3 = b2_math::b2_sub(coordinates::at(vs, places::after(i, m)), s);
+    for i in 0..m {
+        let p2 = b2_math::b2_sub(vs.at(i), s);
+        let p3 = b2_math::b2_sub(vs.at(places::after(i, m)), s);
         sum = with_triangle(p1, p2, p3, sum);
-        i += 1;
     }
     sum
 }

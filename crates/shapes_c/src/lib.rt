@@ -12,5 +12,11 @@ use shapes::b2_polygon_shape;
 pub extern "C" fn b2_polygon_shape_set(old: B2polygonShape, vertices: &[B2vec2]) -> PolygonAnswer
     ensures { result ≡ b2_polygon_shape_set old vertices.now }
 {
-    b2_polygon_shape::b2_polygon_shape_set(old, vertices)
+    match b2_polygon_shape::b2_polygon_shape_set(old, vertices) {
+        Ok(shape) => PolygonAnswer { refusal: 0, shape },
+        Err(why) => PolygonAnswer {
+            refusal: u8::from(why),
+            shape: old,
+        },
+    }
 }

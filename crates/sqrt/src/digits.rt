@@ -2,69 +2,89 @@
 // promised: a test decides. Where that fails the candidate's neighbour is tested, and where that fails too, and for
 // subnormal numbers, an interval is halved.
 ghost use Rattle.std.specs.Prelude.{◌≡◌, ◌+◌, ◌*◌, ◌/◌, ◌%◌, ◌^◌, ◌<◌, ◌≤◌};
-ghost use Rattle.sqrt.specs.Root.{NearestRoot, DigitsOf};
+ghost use Rattle.sqrt.specs.Root.{NearestRoot, RoundedDigits, DigitsOf};
 
 use crate::parabolas;
-use std::num;
 
 // 2^23, the first digit of a significand, is what the exponent counts: bit patterns from there on are normal numbers'.
 pub const LEADING: u64 = 8388608;
 
-// √n to the nearest whole number, by halving an interval.
-fn bisected_root(n: u64) -> u64
-    requires { (0 < n) × (n < 2 ^ 48) }
-    ensures { NearestRoot n result }
-{
-    let mut low: u64 = 0;
-    let mut high: u64 = 16777216;
-    while high - low > 1 {
-        let middle = (low + high) / 2;
-        if middle * middle <= n {
-            low = middle;
-        } else {
-            high = middle;
+// A number whose root is taken, as a whole number.
+#[derive(Clone, Copy)]
+struct Radicand {
+    n: u64,
+    ghost bounds: { (0 < n) × (n < 2 ^ 48) },
+}
+
+impl Radicand {
+    // For the last 24 digits of g * 2^23 and the significand's: 2^23 times the significand, and twice that where g is
+    // odd.
+    fn of(u: u64) -> Radicand
+        requires { u < 2 ^ 24 }
+        ensures { result.n ≡ (u % 2 ^ 23 + 2 ^ 23) * 2 ^ 23 * (u / 2 ^ 23 + 1) }
+    {
+        Radicand {
+            n: (u + u.max(LEADING)) * LEADING,
         }
     }
-    if n - low * low > low { low + 1 } else { low }
-}
 
-// √n to the nearest whole number: s where it passes the test, as it does where the candidate was off by one.
-fn second_root(n: u64, s: u64) -> u64
-    requires { (0 < n) × (n < 2 ^ 48) × (s ≤ 2 ^ 25) }
-    ensures { NearestRoot n result }
-{
-    if n <= s * s + s {
-        if s * s < n + s {
-            return s;
+    // √n to the nearest whole number, by halving an interval.
+    fn bisected_root(self) -> u64
+        ensures { NearestRoot self.n result }
+    {
+        let n = self.n;
+        let mut low: u64 = 0;
+        let mut high: u64 = 16777216;
+        while high - low > 1 {
+            let middle = (low + high) / 2;
+            if middle * middle <= n {
+                low = middle;
+            } else {
+                high = middle;
+            }
         }
+        if n - low * low > low { low + 1 } else { low }
     }
-    bisected_root(n)
+
+    // √n to the nearest whole number: s where it passes the test, as it does where the candidate was off by one.
+    fn second_root(self, s: u64) -> u64
+        requires { s ≤ 2 ^ 25 }
+        ensures { NearestRoot self.n result }
+    {
+        if self.n <= s * s + s {
+            if s * s < self.n + s {
+                return s;
+            }
+        }
+        self.bisected_root()
+    }
+
+    // The neighbour of r on the side of √n.
+    fn neighbour(self, r: u64) -> u64
+        requires { r < 2 ^ 25 }
+        ensures { result ≤ 2 ^ 25 }
+    {
+        if self.n > r * r + r {
+            return r + 1;
+        }
+        r.saturating_sub(1)
+    }
+
+    // √n to the nearest whole number: the candidate r where it passes the test, 0 ≤ r r + r - n < 2 r, made in one
+    // comparison by a difference that wraps. The bounds of r and s stay clauses: each says no more than that its square
+    // fits, and a type that says that is no plainer.
+    fn nearest_root(self, r: u64) -> u64
+        requires { r < 2 ^ 25 }
+        ensures { NearestRoot self.n result }
+    {
+        if (r * r + r).wrapping_sub(self.n) < 2 * r {
+            return r;
+        }
+        self.second_root(self.neighbour(r))
+    }
 }
 
-// The neighbour of r on the side of √n.
-fn neighbour(n: u64, r: u64) -> u64
-    requires { r < 2 ^ 25 }
-    ensures { result ≤ 2 ^ 25 }
-{
-    if n > r * r + r {
-        return r + 1;
-    }
-    if r > 0 { r - 1 } else { 0 }
-}
-
-// √n to the nearest whole number: the candidate r where it passes the test, 0 ≤ r r + r - n < 2 r, made in one
-// comparison by a difference that wraps.
-fn nearest_root(n: u64, r: u64) -> u64
-    requires { (0 < n) × (n < 2 ^ 48) × (r < 2 ^ 25) }
-    ensures { NearestRoot n result }
-{
-    if num::wrapping_sub_u64(r * r + r, n) < 2 * r {
-        return r;
-    }
-    second_root(n, neighbour(n, r))
-}
-
-// About the root of n = radicand(u), as a whole number of 24 digits, by a parabola in u with 39 digits right of the
+// About the root of n = Radicand::of(u), as a whole number of 24 digits, by a parabola in u with 39 digits right of the
 // point: the first seven digits of u choose it. Nothing but r < 2^25 is promised.
 fn candidate(u: u64) -> u64
     requires { u < 2 ^ 24 }
@@ -74,18 +94,8 @@ fn candidate(u: u64) -> u64
     let height = p.0;
     let slope = p.1 as u64 * 256;
     let bend = height % 65536;
-    let line = num::wrapping_add_u64(height, slope * u);
-    num::wrapping_sub_u64(line, bend * ((u * u) >> 2)) >> 39
-}
-
-// The number whose root is taken, for the last 24 digits of g * 2^23 and the significand's: 2^23 times the significand,
-// and twice that where g is odd.
-fn radicand(u: u64) -> u64
-    requires { u < 2 ^ 24 }
-    ensures { result ≡ (u % 2 ^ 23 + 2 ^ 23) * 2 ^ 23 * (u / 2 ^ 23 + 1) }
-{
-    let larger = if u >= LEADING { u } else { LEADING };
-    (u + larger) * LEADING
+    let line = height.wrapping_add(slope * u);
+    line.wrapping_sub(bend * ((u * u) >> 2)) >> 39
 }
 
 // The digits of a root: n, the number whose root is taken, the whole number nearest to √n, and the exponent that the
@@ -95,6 +105,7 @@ pub struct Found {
     pub n: u64,
     pub root: u64,
     pub exponent: u64,
+    ghost rounded: { RoundedDigits n root exponent },
 }
 
 // The digits of the root of the normal number whose pattern is b, f * 2^(g - 277): f is its significand, and g its
@@ -106,10 +117,10 @@ pub fn normal_digits(b: u64) -> Found
 {
     let s = b + 1048576000;
     let u = s % 16777216;
-    let n = radicand(u);
+    let radicand = Radicand::of(u);
     Found {
-        n,
-        root: nearest_root(n, candidate(u)),
+        n: radicand.n,
+        root: radicand.nearest_root(candidate(u)),
         exponent: s / 16777216,
     }
 }
@@ -125,10 +136,12 @@ pub fn subnormal_digits(b: u64) -> Found
         f = f * 2;
         g = g - 1;
     }
-    let n = f * LEADING * (g % 2 + 1);
+    let radicand = Radicand {
+        n: f * LEADING * (g % 2 + 1),
+    };
     Found {
-        n,
-        root: bisected_root(n),
+        n: radicand.n,
+        root: radicand.bisected_root(),
         exponent: g / 2 - 1,
     }
 }

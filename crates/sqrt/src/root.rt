@@ -3,7 +3,6 @@
 ghost use Rattle.std.specs.Prelude.{◌≡◌, ◌*◌, ◌^◌, true};
 ghost use Rattle.std.specs.Float.{binary32};
 ghost use Rattle.sqrt.specs.Sqrt.{special, special_root, exact_or_rounded, root_by_steps, sqrt};
-ghost use Rattle.sqrt.specs.Root.{RoundedDigits};
 
 use crate::digits;
 use crate::digits::{Found, LEADING};
@@ -27,7 +26,6 @@ fn special_root(x: f32) -> f32
 
 // Exact results, then rounding: the root is √n behind an exponent, and r the whole number nearest to √n.
 fn exact_or_rounded(d: Found) -> Rooted
-    requires { RoundedDigits d.n d.root d.exponent }
     ensures { result ≡ exact_or_rounded binary32 (d.n * 4 ^ d.exponent) }
 {
     let r = d.root;

@@ -2,7 +2,7 @@
 -- the call; to a malformed request, no word at all. Definitions only.
 use Rattle.std.specs.Prelude.{ℕ, ◌+◌, ◌*◌, true, List, [], ◌∷◌}
 use Rattle.shape_definitions.specs.declared.b2_polygon_shape.PolygonAnswer.{PolygonAnswer}
-use Rattle.shape_definitions.specs.declared.b2_polygon_shape.ValidateAnswer.{ValidateAnswer}
+use Rattle.shape_definitions.specs.Answers.{ValidateAnswer}
 use Rattle.shape_definitions.specs.Polygon.{b2_polygon_shape_set}
 use Rattle.shape_definitions.specs.Boxes.{b2_polygon_shape_set_as_box, b2_polygon_shape_set_as_box_angle}
 use Rattle.shape_definitions.specs.Validate.{b2_polygon_shape_validate}

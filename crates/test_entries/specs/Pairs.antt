@@ -1,6 +1,6 @@
 -- What the entries of the contact calls of two shapes answer: the refusal (0 for accepted), and then the manifold after
 -- the call; to a malformed request, no word at all. Definitions only.
-use Rattle.std.specs.Prelude.{ℕ, ◌&&◌, List}
+use Rattle.std.specs.Prelude.{ℕ, ◌+◌, ◌*◌, Bool, cond, ◌&&◌, List, Option, Some, None, eqb, length}
 use Rattle.contact_definitions.specs.B2CollideCircle.{b2_collide_circles, b2_collide_polygon_and_circle}
 use Rattle.contact_definitions.specs.B2CollidePolygon.{b2_collide_polygons}
 use Rattle.contact_definitions.specs.B2CollideEdge.{b2_collide_edge_and_circle, b2_collide_edge_and_polygon}
@@ -8,6 +8,22 @@ use Rattle.wire.specs.Requests.{well_formed}
 use Rattle.wire.specs.Records.{polygon_at, edge_at, edge_known}
 use Rattle.wire.specs.ContactRecords.{circle_at, transform_at, manifold_at, kind_known}
 use Rattle.wire.specs.ContactAnswers.{manifold_answer_words}
+use Rattle.test_entries.specs.declared.pairs.Pair.{Pair}
+
+-- What a request holds, where it is well formed: a manifold, shape A, its placement, shape B, its placement. Of each
+-- shape are given its number of words, when it is known, and what it is at a word.
+unfoldable pub pair_at : {A B : Type 0} → ℕ → (List ℕ → ℕ → Bool) → (List ℕ → ℕ → A) → ℕ → (List ℕ → ℕ → Bool)
+    → (List ℕ → ℕ → B) → List ℕ → Option (Pair A B)
+pair_at words_a known_a at_a words_b known_b at_b request =
+    cond (eqb (length request) (4 * (25 + words_a + words_b))
+    && (kind_known request 1 && (known_a request 17 && known_b request (21 + words_a))))
+    (Some (record {
+      old = manifold_at request 1;
+      a = at_a request 17;
+      xfa = transform_at request (17 + words_a);
+      b = at_b request (21 + words_a);
+      xfb = transform_at request (21 + words_a + words_b);
+    })) None
 
 -- 7, a manifold, circle A, placement A, circle B, placement B
 unfoldable pub circles_answer : List ℕ → List ℕ

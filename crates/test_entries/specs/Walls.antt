@@ -1,7 +1,7 @@
 -- What the entries that make walls answer: the refusal (0 for accepted), and then the wall after the call; to a
 -- malformed request, no word at all. Definitions only.
 use Rattle.std.specs.Prelude.{ℕ, List, ◌∷◌}
-use Rattle.shape_definitions.specs.declared.b2_edge_shape.EdgeAnswer.{EdgeAnswer}
+use Rattle.shape_definitions.specs.Answers.{EdgeAnswer}
 use Rattle.shape_definitions.specs.Edge.{b2_set_one_sided, b2_set_two_sided}
 use Rattle.wire.specs.Requests.{well_formed}
 use Rattle.wire.specs.Records.{vector_at, edge_at, edge_known}

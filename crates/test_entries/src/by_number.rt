@@ -1,4 +1,4 @@
-// The entry of a number, or 0 where none has it.
+// The entry of a number, by which C asks, or 0 where none has it.
 ghost use Rattle.wire.specs.Words.{Written};
 ghost use Rattle.test_entries.specs.ByNumber.{shape_answer, contact_answer};
 

@@ -1,6 +1,6 @@
 // The entries that tests call, by number: each takes a request of bytes, whose first word is its number, writes the
-// answer's words to the front of the lent output, and returns how many it wrote: 0, and the output as it was, for a
-// malformed request or an output too short.
+// answer's words to the front of the lent output, and returns how many it wrote, as C gets it: 0, and the output as it
+// was, for a malformed request or an output too short.
 
 #![tactic(auto)]
 

@@ -7,10 +7,10 @@ use floats::b2_math::B2vec2;
 use floats::{b2_math, bits};
 use headings::turns;
 use record_definitions::world::LARGEST_TURN;
-use shape_definitions::refusal;
+use shape_definitions::refusal::Refusal;
 use sqrt::root;
 use sqrt::root::Rooted;
-use wire::{answers, words};
+use wire::words;
 
 // 15, x: the root.
 pub fn root(input: &[u8], out: &mut [u8]) -> u32
@@ -39,7 +39,7 @@ pub fn normalize(input: &[u8], out: &mut [u8]) -> u32
         bits::f32_to_bits(n.length),
         bits::f32_to_bits(n.v.x),
         bits::f32_to_bits(n.v.y),
-        answers::flag(n.had_length),
+        u32::from(n.had_length),
     ];
     words::put_words(out, &answer)
 }
@@ -53,7 +53,7 @@ pub fn heading(input: &[u8], out: &mut [u8]) -> u32
     }
     let number = words::word(input, 1) as usize;
     if number > LARGEST_TURN {
-        let answer = [refusal::UNKNOWN_TURN as u32, 0, 0];
+        let answer = [u32::from(u8::from(Refusal::UnknownTurn)), 0, 0];
         return words::put_words(out, &answer);
     }
     let sines = turns::sines();
@@ -62,6 +62,7 @@ pub fn heading(input: &[u8], out: &mut [u8]) -> u32
     words::put_words(out, &answer)
 }
 
+// The step is a word of the answer, so a number.
 fn put_step(step: u32, r: f32, out: &mut [u8]) -> u32
     ensures { Written (given step r) out.old result out.new }
 {

@@ -1,17 +1,9 @@
 // Outlines: the builder, boxes and the convexity test.
-ghost use Rattle.std.specs.Prelude.{◌≡◌, ◌≤◌};
 ghost use Rattle.wire.specs.Words.{Written};
 ghost use Rattle.test_entries.specs.Outlines.{set_answer, box_answer, box_angle_answer, validate_answer};
 
-use lines::fields;
 use shapes::b2_polygon_shape;
 use wire::{answers, records, words};
-
-fn at_most_eight(n: usize) -> usize
-    ensures { (result ≤ n) × (result ≤ 8) × (n ≤ 8 → result ≡ n) }
-{
-    if n < 8 { n } else { 8 }
-}
 
 // 1, an outline, n, n points: the outline of the points.
 pub fn set(input: &[u8], out: &mut [u8]) -> u32
@@ -25,9 +17,9 @@ pub fn set(input: &[u8], out: &mut [u8]) -> u32
         return 0;
     }
     let old = records::polygon(input, 1);
-    let points = records::points(input, 38, at_most_eight(n));
+    let points = records::points(input, 38, n.min(8));
     let answer = b2_polygon_shape::b2_polygon_shape_set_core(old, points, n);
-    answers::put_polygon(out, answer)
+    answers::put_polygon(out, old, answer)
 }
 
 // 2, an outline, hx, hy: a box.
@@ -41,7 +33,7 @@ pub fn set_as_box(input: &[u8], out: &mut [u8]) -> u32
     let hx = records::float(input, 37);
     let hy = records::float(input, 38);
     let answer = b2_polygon_shape::b2_polygon_shape_set_as_box(old, hx, hy);
-    answers::put_polygon(out, answer)
+    answers::put_polygon(out, old, answer)
 }
 
 // 3, an outline, hx, hy, the centre, sine, cosine: a box that is turned and moved.
@@ -57,7 +49,7 @@ pub fn set_as_box_angle(input: &[u8], out: &mut [u8]) -> u32
     let center = records::vector(input, 39);
     let q = records::rotation(input, 41);
     let answer = b2_polygon_shape::b2_polygon_shape_set_as_box_angle(old, hx, hy, center, q);
-    answers::put_polygon(out, answer)
+    answers::put_polygon(out, old, answer)
 }
 
 // 4, an outline: whether it is convex.
@@ -68,10 +60,10 @@ pub fn validate(input: &[u8], out: &mut [u8]) -> u32
         return 0;
     }
     let shape = records::polygon(input, 1);
-    let validity = b2_polygon_shape::b2_polygon_shape_validate(shape);
+    let convex = b2_polygon_shape::b2_polygon_shape_validate(shape);
     let answer = [
-        fields::wide(validity.refusal),
-        answers::flag(validity.valid),
+        answers::refusal_word(convex),
+        u32::from(convex.unwrap_or(false)),
     ];
     words::put_words(out, &answer)
 }

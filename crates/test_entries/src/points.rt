@@ -19,7 +19,7 @@ pub fn clip(input: &[u8], out: &mut [u8]) -> u32
     let offset = records::float(input, 15);
     let index = words::word(input, 16) as usize;
     let answer = b2_collision::b2_clip_segment_to_line(old, ends, normal, offset, index);
-    contact_answers::put_clip(out, answer)
+    contact_answers::put_clip(out, old, answer)
 }
 
 // 13, a world manifold, a manifold, placement A, radius A, placement B, radius B: the world points.
@@ -29,11 +29,10 @@ pub fn world_points(input: &[u8], out: &mut [u8]) -> u32
     if input.len() != 140 {
         return 0;
     }
-    if !contact_records::kind_known(input, 9) {
-        return 0;
-    }
     let old = contact_records::world_manifold(input, 1);
-    let m = contact_records::manifold(input, 9);
+    let Some(m) = contact_records::known_manifold(input, 9) else {
+        return 0;
+    };
     let xfa = contact_records::transform(input, 25);
     let radius_a = records::float(input, 29);
     let xfb = contact_records::transform(input, 30);
@@ -41,7 +40,7 @@ pub fn world_points(input: &[u8], out: &mut [u8]) -> u32
     let answer = b2_collision::b2_world_manifold_initialize_core(
         old, m, xfa, radius_a, xfb, radius_b,
     );
-    contact_answers::put_world(out, answer)
+    contact_answers::put_world(out, old, answer)
 }
 
 // 14, four states, the old manifold, the new manifold: the states of both manifolds' points.
@@ -51,15 +50,15 @@ pub fn states(input: &[u8], out: &mut [u8]) -> u32
     if input.len() != 148 {
         return 0;
     }
-    let states = contact_records::states_known(input, 1);
-    let kind1 = contact_records::kind_known(input, 5);
-    let kind2 = contact_records::kind_known(input, 21);
-    if !(states & kind1 & kind2) {
+    let Some(given) = contact_records::known_states(input, 1) else {
         return 0;
-    }
-    let given = contact_records::states(input, 1);
-    let m1 = contact_records::manifold(input, 5);
-    let m2 = contact_records::manifold(input, 21);
+    };
+    let Some(m1) = contact_records::known_manifold(input, 5) else {
+        return 0;
+    };
+    let Some(m2) = contact_records::known_manifold(input, 21) else {
+        return 0;
+    };
     let answer = b2_collision::b2_get_point_states(given, m1, m2);
-    contact_answers::put_states(out, answer)
+    contact_answers::put_states(out, given, answer)
 }

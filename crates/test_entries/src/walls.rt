@@ -12,16 +12,15 @@ pub fn set_one_sided(input: &[u8], out: &mut [u8]) -> u32
     if input.len() != 76 {
         return 0;
     }
-    if !records::edge_known(input, 1) {
+    let Some(old) = records::known_edge(input, 1) else {
         return 0;
-    }
-    let old = records::edge(input, 1);
+    };
     let v0 = records::vector(input, 11);
     let v1 = records::vector(input, 13);
     let v2 = records::vector(input, 15);
     let v3 = records::vector(input, 17);
     let answer = b2_edge_shape::b2_set_one_sided(old, v0, v1, v2, v3);
-    answers::put_edge(out, answer)
+    answers::put_edge(out, old, answer)
 }
 
 // 6, a wall, v1, v2: a wall that is met from both sides.
@@ -31,12 +30,11 @@ pub fn set_two_sided(input: &[u8], out: &mut [u8]) -> u32
     if input.len() != 60 {
         return 0;
     }
-    if !records::edge_known(input, 1) {
+    let Some(old) = records::known_edge(input, 1) else {
         return 0;
-    }
-    let old = records::edge(input, 1);
+    };
     let v1 = records::vector(input, 11);
     let v2 = records::vector(input, 13);
     let answer = b2_edge_shape::b2_set_two_sided(old, v1, v2);
-    answers::put_edge(out, answer)
+    answers::put_edge(out, old, answer)
 }

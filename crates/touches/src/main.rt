@@ -6,7 +6,7 @@
 mod pause;
 mod say;
 
-ghost use Rattle.std.specs.Prelude.{◌≡◌, ◌<◌, ◌≤◌, true, length, drop, IfOk};
+ghost use Rattle.std.specs.Prelude.{◌≡◌, ◌<◌, ◌≤◌, length, drop, IfOk, IfSome};
 ghost use Rattle.record_definitions.specs.Answer.{longest_said};
 ghost use Rattle.record_definitions.specs.Server.{reply_line};
 ghost use Rattle.record_definitions.specs.Reading.{reading, after, printed};
@@ -50,14 +50,11 @@ fn put<'a>(
     }
 }
 
-// The answers written so far, and whether the last output was written whole.
+// A read or a write failed, which was said on standard error.
 #[derive(Clone, Copy)]
-pub struct Written {
-    pub answers: u64,
-    pub whole: bool,
-}
+pub struct Failed;
 
-// Writes what some input prints, part after part as the system takes it.
+// Writes what some input prints, part after part as the system takes it: the answers written so far.
 fn put_out<'a>(
     rt: &(impl Clock + Eprint + AllocGlobal),
     to: &mut impl Write,
@@ -65,37 +62,28 @@ fn put_out<'a>(
     input: &'a [u8],
     output: &'a [u8],
     before: u64,
-) -> Written
+) -> Result<u64, Failed>
     requires { output.now ≡ printed reply_line (reading s) input.now }
 {
     let mut done = 0usize;
-    let mut failed = None;
     while done < output.len() {
         match put(rt, to, s, input, done, &output[done..]) {
             Ok(n) => done += n,
             Err(why) => {
-                failed = Some(why);
-                break;
+                let answers = before.wrapping_add(say::answers(&output[..done]) as u64);
+                say::failed(rt, "writing", answers, &why);
+                return Err(Failed);
             }
         }
     }
-    let new = say::answers(&output[..done]);
-    let answers = before.wrapping_add(new as u64);
-    if let Some(why) = &failed {
-        say::failed(rt, "writing", answers, why);
-    }
-    Written {
-        answers,
-        whole: failed.is_none(),
-    }
+    Ok(before.wrapping_add(say::answers(output) as u64))
 }
 
-// The state after a piece of input, the answers so far, and whether to go on.
+// The state after a piece of input, and the answers so far.
 #[derive(Clone, Copy)]
 pub struct Going {
     pub reader: Reader,
     pub answers: u64,
-    pub more: bool,
 }
 
 // A whole piece of input: what it prints is written, as often as the output is full. It ends early where a write fails.
@@ -106,9 +94,9 @@ fn piece(
     chunk: &[u8],
     out: &mut [u8],
     before: u64,
-) -> Going
+) -> Result<Going, Failed>
     requires { longest_said ≤ length out.old }
-    ensures { result.more ≡ true → reading result.reader ≡ after (reading s) chunk.now }
+    ensures { IfOk result (λ g. reading g.reader ≡ after (reading s) chunk.now) }
 {
     let mut answers = before;
     let mut from = 0usize;
@@ -117,95 +105,67 @@ fn piece(
         let taken = f.taken;
         let written = f.written;
         let end = from + taken;
-        let w = put_out(rt, to, s, &chunk[from..end], &out[..written], answers);
-        answers = w.answers;
-        if !w.whole {
-            return Going {
-                reader: s,
-                answers,
-                more: false,
-            };
-        }
+        answers = put_out(rt, to, s, &chunk[from..end], &out[..written], answers)?;
         s = f.reader;
         from = end;
     }
-    Going {
-        reader: s,
-        answers,
-        more: true,
-    }
+    Ok(Going { reader: s, answers })
 }
 
-// What a read brought: so many bytes, and whether more can follow.
-#[derive(Clone, Copy)]
-pub struct Got {
-    pub count: usize,
-    pub more: bool,
-}
-
-// One read. Where it brought nothing the input ends, and a line that has begun gets the line feed that it lacks; where
-// it failed, the program ends, unless the system says that there is something to read later.
+// One read: how many bytes it brought, or None where the input has ended. Where it failed the program ends, unless the
+// system says that there is something to read later.
 fn input(
     rt: &(impl Clock + Eprint + AllocGlobal),
     from: &mut impl Read,
     chunk: &mut [u8],
-    begun: usize,
     answers: u64,
-) -> Got
+) -> Result<Option<usize>, Failed>
     requires { 0 < length chunk.old }
-    ensures { result.count ≤ length chunk.new }
+    ensures { IfOk result (λ got. IfSome got (λ n. n ≤ length chunk.new)) }
 {
     match from.read(chunk) {
-        Ok(0) => {
-            if begun != 0 {
-                chunk[0] = LINE_FEED;
-                return Got {
-                    count: 1,
-                    more: false,
-                };
-            }
-            Got {
-                count: 0,
-                more: false,
-            }
-        }
-        Ok(count) => Got { count, more: true },
+        Ok(0) => Ok(None),
+        Ok(n) => Ok(Some(n)),
         Err(why) => {
-            let more = pause::later(rt, &why);
-            if !more {
-                say::failed(rt, "reading", answers, &why);
+            if pause::later(rt, &why) {
+                return Ok(Some(0));
             }
-            Got { count: 0, more }
+            say::failed(rt, "reading", answers, &why);
+            Err(Failed)
         }
     }
 }
 
-// Piece after piece. Nothing says that an input ends: the count of pieces does, after 2^64 - 1 of them.
+// Piece after piece; at the end a line that has begun gets the line feed that it lacks. Nothing says that an input
+// ends: the count of pieces does, after 2^64 - 1 of them.
 fn all(
     rt: &(impl Clock + Eprint + AllocGlobal),
     from: &mut impl Read,
     to: &mut impl Write,
     chunk: &mut [u8],
     out: &mut [u8],
-)
+) -> Result<(), Failed>
     requires { (0 < length chunk.old) × (longest_said ≤ length out.old) }
 {
     let mut reader = feed::start();
     let mut answers = 0u64;
     for _ in 0..u64::MAX {
-        let got = input(rt, from, chunk, reader.len, answers);
-        let n = got.count;
-        let g = piece(rt, to, reader, &chunk[..n], out, answers);
-        if !(got.more & g.more) {
-            return;
-        }
+        let Some(n) = input(rt, from, chunk, answers)? else {
+            if reader.len != 0 {
+                piece(rt, to, reader, &[LINE_FEED], out, answers)?;
+            }
+            return Ok(());
+        };
+        let g = piece(rt, to, reader, &chunk[..n], out, answers)?;
         reader = g.reader;
         answers = g.answers;
     }
+    Ok(())
 }
 
 fn main(rt: HostRuntime) {
     let mut chunk = [0u8; 65536];
     let mut out = [0u8; 65536];
-    all(&rt, &mut rt.stdin(), &mut rt.stdout(), &mut chunk, &mut out);
+    // A failure was said where it came; it ends the program as the end of the input does.
+    let _ = all(&rt, &mut rt.stdin(), &mut rt.stdout(), &mut chunk, &mut out);
 }

@@ -23,28 +23,21 @@ pub fn failed(rt: &(impl Eprint + AllocGlobal), what: &str, answers: u64, why: &
     let _ = eprintln!(rt; "touches: {what} failed after {answers} answer{ending}: {reason}");
 }
 
-// The line feeds of a short part of an output, counted in a byte, so that the compiler takes 32 characters at once.
+// The characters of a part of an output whose line feeds a byte can count.
+const PART: usize = 224;
+
+// The line feeds of such a part, counted in a byte, so that the compiler takes 32 characters at once.
 fn few(part: &[u8]) -> u8
     requires { length part.now ≤ 224 }
     ensures { result ≤ length part.now }
 {
     let mut n = 0u8;
-    let mut i = 0usize;
-    while i < part.len() {
-        if part[i] == LINE_FEED {
+    for x in part {
+        if *x == LINE_FEED {
             n += 1;
         }
-        i += 1;
     }
     n
-}
-
-// Where a short part ends that begins within an output.
-fn part_end(from: usize, most: usize) -> usize
-    requires { from < most }
-    ensures { (from < result) × (result ≤ most) × (result ≤ from + 224) }
-{
-    if most - from < 224 { most } else { from + 224 }
 }
 
 // How many answers an output has, each ended by its line feed.
@@ -54,8 +47,8 @@ pub fn answers(output: &[u8]) -> usize
     let mut n = 0usize;
     let mut from = 0usize;
     while from < output.len() {
-        let end = part_end(from, output.len());
-        n += few(&output[from..end]) as usize;
+        let end = output.len().min(from + PART);
+        n += usize::from(few(&output[from..end]));
         from = end;
     }
     n

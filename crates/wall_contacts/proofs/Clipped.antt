@@ -16,7 +16,7 @@ use Rattle.contact_definitions.specs.Clip.{clipped}
 use Rattle.contact_definitions.specs.ReferenceFace.{clipped_to_sides}
 use Rattle.contact_definitions.specs.EdgeReference.{within_radius, point_in_frame, point_as_it_is}
 use Rattle.contact_definitions.proofs.Counts.{sides_few}
-use Rattle.collision.specs.declared.clip.Clip.{Clip}
+use Rattle.contact_definitions.specs.declared.b2_collision.Clip.{Clip}
 use Rattle.collision.specs.ClipPlaces.{left_over}
 use Rattle.collision.specs.declared.manifolds.Kept.{Kept}
 use Rattle.collision.specs.KeptPoints.{point_at_end, kept_ends, points_kept}

@@ -14,9 +14,6 @@ use Rattle.shape_definitions.specs.Outline.{point_at}
 use Rattle.wall_contacts.specs.PlacedRows.{Row, PointRows, face_distance}
 
 -- ---- one row
-pub row_empty : (f : ℕ → Float) (xs : List Float) → length xs ≡ 8 → Row f 0 xs
-row_empty f xs eight = record { size = eight; at = λ i d below. absurd (omega arith) }
-
 pub row_fewer : {f : ℕ → Float} {m n : ℕ} {xs : List Float} → m ≤ n → Row f n xs → Row f m xs
 row_fewer fewer row = record { size = row.size; at = λ i d below. row.at i d (omega arith) }
 
@@ -35,9 +32,6 @@ row_next {f} {i} {xs} v room row v_is = record { size = length-set xs i v ∙ ro
     ]
 
 -- ---- the coordinates of points
-pub points_empty : (f : ℕ → B2vec2) (xs ys : List Float) → length xs ≡ 8 → length ys ≡ 8 → PointRows f 0 xs ys
-points_empty f xs ys eight_x eight_y = record { x = row_empty _ xs eight_x; y = row_empty _ ys eight_y }
-
 pub points_fewer : {f : ℕ → B2vec2} {m n : ℕ} {xs ys : List Float} → m ≤ n → PointRows f n xs ys → PointRows f m xs ys
 points_fewer fewer rows = record { x = row_fewer fewer rows.x; y = row_fewer fewer rows.y }
 

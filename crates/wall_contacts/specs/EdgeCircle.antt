@@ -14,7 +14,7 @@ use Rattle.shape_definitions.specs.Refusal.{wall_too_short}
 use Rattle.shape_definitions.specs.declared.b2_circle_shape.B2circleShape.{B2circleShape}
 use Rattle.contact_definitions.specs.declared.b2_collision.B2manifold.{B2manifold}
 use Rattle.contact_definitions.specs.declared.b2_collision.B2manifoldType.TheVariants.{ECircles, EFaceA}
-use Rattle.contact_definitions.specs.declared.b2_collision.ManifoldAnswer.{ManifoldAnswer}
+use Rattle.contact_definitions.specs.Answers.{ManifoldAnswer}
 use Rattle.contact_definitions.specs.Manifold.{vertex_feature, face_feature, contact_id, with_count, with_one_point}
 use Rattle.contact_definitions.specs.Manifold.{manifold_refused, manifold_accepted}
 use Rattle.contact_definitions.specs.B2CollideCircle.{farther}

@@ -4,6 +4,7 @@ ghost use Rattle.std.specs.Float.Ieee.{lt};
 ghost use Rattle.rounding.specs.Literals.{zero32};
 ghost use Rattle.floats.specs.B2Math.{b2_sub, b2_dot, b2_normalize, unit_or_same, b2_mul_transform_by_vec2};
 ghost use Rattle.floats.specs.Unit.{unit_scale};
+ghost use Rattle.contact_definitions.specs.Answers.{manifold_answered};
 ghost use Rattle.contact_definitions.specs.B2CollideEdge.{b2_collide_edge_and_circle, b2_collide_edge_and_polygon};
 ghost use Rattle.contact_definitions.specs.B2CollideEdge.{edge_polygon_manifold};
 ghost use Rattle.contact_definitions.specs.EdgeAxis.{placed_corner, right_of, b2_compute_edge_separation};
@@ -13,16 +14,17 @@ ghost use Rattle.contact_definitions.specs.Manifold.{with_count};
 ghost use Rattle.wall_contacts.specs.EdgeCircle.{wall_circle};
 ghost use Rattle.wall_contacts.specs.PlacedRows.{PointRows};
 
+use crate::edge_separation::Rows;
 use crate::{edge_axis, edge_circle, edge_manifold, edge_separation};
 use collision::{manifold_answer, manifolds, pair_ranges};
 use contact_definitions::axis::Axis;
-use contact_definitions::b2_collision::{B2manifold, ManifoldAnswer};
+use contact_definitions::b2_collision::B2manifold;
 use floats::b2_math::{B2Transform, B2vec2};
 use floats::{b2_math, unit};
 use shape_definitions::b2_circle_shape::B2circleShape;
 use shape_definitions::b2_edge_shape::B2edgeShape;
 use shape_definitions::b2_polygon_shape::B2polygonShape;
-use shape_definitions::refusal;
+use shape_definitions::refusal::Refusal;
 use shape_ranges::places;
 
 // The answer for a wall and a circle in range: the circle's centre is taken to the wall's frame.
@@ -32,8 +34,8 @@ fn wall_circle_answer(
     xfa: B2Transform,
     b: B2circleShape,
     xfb: B2Transform,
-) -> ManifoldAnswer
-    ensures { result ≡ wall_circle m a xfa b xfb }
+) -> Result<B2manifold, Refusal>
+    ensures { manifold_answered m result ≡ wall_circle m a xfa b xfb }
 {
     let centre = b.m_p;
     let radius = a.m_radius + b.m_radius;
@@ -50,15 +52,15 @@ pub fn b2_collide_edge_and_circle(
     xfa: B2Transform,
     b: B2circleShape,
     xfb: B2Transform,
-) -> ManifoldAnswer
-    ensures { result ≡ b2_collide_edge_and_circle m a xfa b xfb }
+) -> Result<B2manifold, Refusal>
+    ensures { manifold_answered m result ≡ b2_collide_edge_and_circle m a xfa b xfb }
 {
     let shapes = pair_ranges::edge_circle_in_range(a, b);
     let placed = pair_ranges::placements_in_range(xfa, xfb);
     if shapes & placed {
         return wall_circle_answer(m, a, xfa, b, xfb);
     }
-    manifold_answer::out_of_range(m, shapes)
+    Err(manifold_answer::out_of_range(shapes))
 }
 
 // A vector times the factor that makes it unit.
@@ -93,44 +95,41 @@ fn with_faces(
     xf: B2Transform,
     polygon: B2polygonShape,
     radius: f32,
-    xs: &[f32; 8],
-    ys: &[f32; 8],
+    corners: &Rows,
     n: usize,
     wall: Axis,
 ) -> B2manifold
     requires { (0 < polygon.m_count) × (polygon.m_count ≤ n) × (n ≤ 8)
         × (wall ≡ b2_compute_edge_separation xf polygon edge.m_vertex1 (right_of edge1))
-        × PointRows (placed_corner xf polygon) n xs.now ys.now }
+        × PointRows (placed_corner xf polygon) n corners.now.xs corners.now.ys }
     ensures { result ≡ edge_manifold_on (edge_polygon_axis radius edge edge1 xf polygon)
         (with_count m 0) edge edge1 xf polygon radius }
 {
     let count = polygon.m_count;
-    let mut nxs = [0.0f32; 8];
-    let mut nys = [0.0f32; 8];
+    let mut normals = Rows {
+        xs: [0.0; 8],
+        ys: [0.0; 8],
+    };
     let mut faces = [0.0f32; 8];
     let ns = polygon.m_normals;
     edge_separation::normal_rows(
         xf.q,
         ns,
-        xs,
-        ys,
+        corners,
         n,
         edge.m_vertex1,
         edge.m_vertex2,
-        &mut nxs,
-        &mut nys,
+        &mut normals,
         &mut faces,
     );
-    let face = edge_separation::b2_compute_polygon_separation(&faces, &nxs, &nys, count);
+    let face = edge_separation::b2_compute_polygon_separation(&faces, &normals, count);
     let axis = edge_axis::edge_polygon_axis(
         edge,
         edge1,
         wall,
         edge_axis::primary_axis(radius, wall, face),
     );
-    edge_manifold::edge_manifold_on(
-        axis, m, edge, edge1, xf, polygon, radius, xs, ys, &nxs, &nys,
-    )
+    edge_manifold::edge_manifold_on(axis, m, edge, edge1, xf, polygon, radius, corners, &normals)
 }
 
 // xf carries the outline to the wall's frame; k is the factor that makes the wall's direction unit. It comes from the
@@ -157,16 +156,18 @@ fn edge_polygon_manifold(
         return manifolds::no_points(m);
     }
     let n = places::padded(count);
-    let mut xs = [0.0f32; 8];
-    let mut ys = [0.0f32; 8];
+    let mut corners = Rows {
+        xs: [0.0; 8],
+        ys: [0.0; 8],
+    };
     let vs = polygon.m_vertices;
-    edge_separation::place_rows(xf, vs, n, &mut xs, &mut ys);
+    edge_separation::place_rows(xf, vs, n, &mut corners);
     let radius = polygon.m_radius + edge.m_radius;
-    let wall = edge_separation::b2_compute_edge_separation(&xs, &ys, n, count, v1, normal1);
+    let wall = edge_separation::b2_compute_edge_separation(&corners, n, count, v1, normal1);
     if edge_axis::separation_of(wall) > radius {
         return manifolds::no_points(m);
     }
-    with_faces(m, edge, edge1, xf, polygon, radius, &xs, &ys, n, wall)
+    with_faces(m, edge, edge1, xf, polygon, radius, &corners, n, wall)
 }
 
 // The wall's root is taken first, since all that follows waits for it.
@@ -176,21 +177,21 @@ pub fn b2_collide_edge_and_polygon(
     xfa: B2Transform,
     b: B2polygonShape,
     xfb: B2Transform,
-) -> ManifoldAnswer
-    ensures { result ≡ b2_collide_edge_and_polygon m a xfa b xfb }
+) -> Result<B2manifold, Refusal>
+    ensures { manifold_answered m result ≡ b2_collide_edge_and_polygon m a xfa b xfb }
 {
     let v1 = a.m_vertex1;
     let v2 = a.m_vertex2;
     let count = b.m_count;
     let k = unit::unit_scale(b2_math::b2_sub(v2, v1));
     if manifold_answer::miscounted(count) {
-        return manifold_answer::refused(m, refusal::COUNT_OUT_OF_RANGE);
+        return Err(Refusal::CountOutOfRange);
     }
     let shapes = pair_ranges::edge_polygon_in_range(a, b);
     let placed = pair_ranges::placements_in_range(xfa, xfb);
     if shapes & placed {
         let xf = b2_math::b2_mul_t_transform(xfa, xfb);
-        return manifold_answer::accepted(edge_polygon_manifold(m, a, k, xf, b));
+        return Ok(edge_polygon_manifold(m, a, k, xf, b));
     }
-    manifold_answer::out_of_range(m, shapes)
+    Err(manifold_answer::out_of_range(shapes))
 }

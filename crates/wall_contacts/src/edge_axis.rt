@@ -22,8 +22,8 @@ pub fn separation_of(axis: Axis) -> f32
 {
     match axis {
         Axis::Apart(s) => s,
-        Axis::FaceA(s, x, y, i) => s,
-        Axis::FaceB(s, x, y, i) => s,
+        Axis::FaceA(s, _, _, _) => s,
+        Axis::FaceB(s, _, _, _) => s,
     }
 }
 
@@ -70,7 +70,7 @@ fn region_before(edge0: B2vec2, edge1: B2vec2, normal: B2vec2) -> GaussRegion
     region_by(convex, b2_math::b2_cross(normal, right))
 }
 
-// The normal held against the wall after, with the direction edge2.
+// The normal held against the wall after, with the direction edge2: the mirror image, with other operands first.
 fn region_after(edge1: B2vec2, edge2: B2vec2, normal: B2vec2) -> GaussRegion
     ensures { result ≡ region_after edge1 edge2 normal }
 {
@@ -97,20 +97,16 @@ fn gauss_region(edge: B2edgeShape, edge1: B2vec2, normal: B2vec2) -> GaussRegion
 fn is_apart(axis: Axis) -> bool
     ensures { result ≡ is_apart axis }
 {
-    match axis {
-        Axis::Apart(s) => true,
-        Axis::FaceA(s, x, y, i) => false,
-        Axis::FaceB(s, x, y, i) => false,
-    }
+    matches!(axis, Axis::Apart(_))
 }
 
 fn axis_normal(axis: Axis) -> B2vec2
     ensures { result ≡ axis_normal axis }
 {
     match axis {
-        Axis::Apart(s) => B2vec2 { x: 0.0, y: 0.0 },
-        Axis::FaceA(s, x, y, i) => B2vec2 { x, y },
-        Axis::FaceB(s, x, y, i) => B2vec2 { x, y },
+        Axis::Apart(_) => B2vec2 { x: 0.0, y: 0.0 },
+        Axis::FaceA(_, x, y, _) => B2vec2 { x, y },
+        Axis::FaceB(_, x, y, _) => B2vec2 { x, y },
     }
 }
 

@@ -4,18 +4,17 @@ ghost use Rattle.std.specs.Prelude.{◌≡◌, cond, ◌&&◌};
 ghost use Rattle.std.specs.Float.Ieee.{lt};
 ghost use Rattle.rounding.specs.Literals.{zero32};
 ghost use Rattle.floats.specs.B2Math.{b2_neg, b2_dot};
-ghost use Rattle.contact_definitions.specs.B2CollideCircle.{farther};
+ghost use Rattle.contact_definitions.specs.Answers.{manifold_answered};
 ghost use Rattle.contact_definitions.specs.B2CollideEdge.{over_before, over_after, edge_circle_answer};
 ghost use Rattle.wall_contacts.specs.EdgeCircle.{end_touch, face_touch, touch_answer};
 
 use collision::manifolds;
-use contact_definitions::b2_collision::{
-    B2contactFeatureType, B2manifold, B2manifoldType, ManifoldAnswer,
-};
+use collision::reach::farther_than;
+use contact_definitions::b2_collision::{B2contactFeatureType, B2manifold, B2manifoldType};
 use floats::b2_math::B2vec2;
 use floats::{b2_math, unit};
 use shape_definitions::b2_edge_shape::B2edgeShape;
-use shape_definitions::refusal;
+use shape_definitions::refusal::Refusal;
 
 // How a circle meets a wall: not, at the end of an index with its place, along the face with its normal, or over the
 // middle of a wall whose squared length is not above 0 (refusal 8).
@@ -27,19 +26,11 @@ pub enum Touch {
     Flat,
 }
 
-// Whether p and q are farther apart than the radius.
-fn farther(radius: f32, q: B2vec2, p: B2vec2) -> bool
-    ensures { result ≡ farther radius q p }
-{
-    let d = b2_math::b2_sub(q, p);
-    b2_math::b2_dot(d, d) > radius * radius
-}
-
 // At the end p of the wall.
 fn end_touch(p: B2vec2, q: B2vec2, radius: f32, index_a: u8) -> Touch
     ensures { result ≡ end_touch p q radius index_a }
 {
-    if farther(radius, q, p) {
+    if farther_than(radius, q, p) {
         return Touch::Nothing;
     }
     Touch::End(index_a, p.x, p.y)
@@ -72,7 +63,7 @@ fn face_touch(
             1.0 / den,
             b2_math::b2_add(b2_math::b2_scale(u, a), b2_math::b2_scale(v, b)),
         );
-        if farther(radius, q, p) {
+        if farther_than(radius, q, p) {
             return Touch::Nothing;
         }
         let normal = unit::unit(facing(n, offset));
@@ -92,7 +83,8 @@ fn over_before(edge: B2edgeShape, q: B2vec2) -> bool
     false
 }
 
-// Whether it is over the wall after vertex 2.
+// Whether it is over the wall after vertex 2. Its differences are taken the other way round, so that one function for
+// both ends would take four points and say less.
 fn over_after(edge: B2edgeShape, q: B2vec2) -> bool
     ensures { result ≡ over_after edge q }
 {
@@ -157,30 +149,23 @@ pub fn edge_circle_answer(
     q: B2vec2,
     radius: f32,
     centre: B2vec2,
-) -> ManifoldAnswer
-    ensures { result ≡ edge_circle_answer m edge q radius centre }
+) -> Result<B2manifold, Refusal>
+    ensures { manifold_answered m result ≡ edge_circle_answer m edge q radius centre }
 {
-    let t = wall_touch(edge, q, radius);
-    match t {
-        Touch::Nothing => ManifoldAnswer {
-            manifold: manifolds::no_points(m),
-            refusal: refusal::ACCEPTED,
-        },
+    match wall_touch(edge, q, radius) {
+        Touch::Nothing => Ok(manifolds::no_points(m)),
         Touch::End(i, x, y) => {
             let none = B2vec2 { x: 0.0, y: 0.0 };
             let end = B2vec2 { x, y };
-            ManifoldAnswer {
-                manifold: manifolds::circle_point(
-                    m,
-                    B2manifoldType::ECircles,
-                    none,
-                    end,
-                    centre,
-                    i,
-                    B2contactFeatureType::EVertex,
-                ),
-                refusal: refusal::ACCEPTED,
-            }
+            Ok(manifolds::circle_point(
+                m,
+                B2manifoldType::ECircles,
+                none,
+                end,
+                centre,
+                i,
+                B2contactFeatureType::EVertex,
+            ))
         }
         Touch::Face(x, y) => {
             let normal = B2vec2 { x, y };
@@ -188,22 +173,16 @@ pub fn edge_circle_answer(
                 x: edge.m_vertex1.x,
                 y: edge.m_vertex1.y,
             };
-            ManifoldAnswer {
-                manifold: manifolds::circle_point(
-                    m,
-                    B2manifoldType::EFaceA,
-                    normal,
-                    a,
-                    centre,
-                    0,
-                    B2contactFeatureType::EFace,
-                ),
-                refusal: refusal::ACCEPTED,
-            }
+            Ok(manifolds::circle_point(
+                m,
+                B2manifoldType::EFaceA,
+                normal,
+                a,
+                centre,
+                0,
+                B2contactFeatureType::EFace,
+            ))
         }
-        Touch::Flat => ManifoldAnswer {
-            manifold: m,
-            refusal: refusal::WALL_TOO_SHORT,
-        },
+        Touch::Flat => Err(Refusal::WallTooShort),
     }
 }

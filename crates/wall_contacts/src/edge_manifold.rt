@@ -12,6 +12,7 @@ ghost use Rattle.wall_contacts.specs.AxisParts.{place_below};
 
 use crate::edge_reference;
 use crate::edge_reference::Reference;
+use crate::edge_separation::Rows;
 use collision::{clip, manifolds};
 use contact_definitions::axis::Axis;
 use contact_definitions::b2_collision::{B2clipVertex, B2manifold};
@@ -28,7 +29,7 @@ fn within_radius(radius: f32, normal: B2vec2, v1: B2vec2, v: B2vec2) -> bool
 }
 
 // An end as the manifold has it: in the outline's frame where the wall's face is the reference, else as it is with its
-// id swapped.
+// id swapped. Of two outlines the other case is taken to a frame too.
 fn placed_end(flip: bool, xf: B2Transform, e: B2clipVertex) -> B2clipVertex
     ensures { result ≡ placed_end flip xf e }
 {
@@ -94,38 +95,34 @@ pub fn edge_manifold_on(
     xf: B2Transform,
     polygon: B2polygonShape,
     radius: f32,
-    xs: &[f32; 8],
-    ys: &[f32; 8],
-    nxs: &[f32; 8],
-    nys: &[f32; 8],
+    corners: &Rows,
+    normals: &Rows,
 ) -> B2manifold
     requires { (0 < polygon.m_count) × (polygon.m_count ≤ 8) × place_below polygon.m_count axis
-        × PointRows (placed_corner xf polygon) polygon.m_count xs.now ys.now
-        × PointRows (placed_normal xf polygon) polygon.m_count nxs.now nys.now }
+        × PointRows (placed_corner xf polygon) polygon.m_count corners.now.xs corners.now.ys
+        × PointRows (placed_normal xf polygon) polygon.m_count normals.now.xs normals.now.ys }
     ensures { result ≡ edge_manifold_on axis (with_count m 0) edge edge1 xf polygon radius }
 {
     let count = polygon.m_count;
     let v1 = edge.m_vertex1;
     let v2 = edge.m_vertex2;
     let f = match axis {
-        Axis::Apart(s) => {
+        Axis::Apart(_) => {
             return manifolds::no_points(m);
         }
-        Axis::FaceA(s, x, y, i) => edge_reference::reference_a(
-            xs,
-            ys,
-            nxs,
-            nys,
+        Axis::FaceA(_, x, y, _) => edge_reference::reference_a(
+            corners,
+            normals,
             count,
             v1,
             v2,
             edge1,
             B2vec2 { x, y },
         ),
-        Axis::FaceB(s, x, y, i) => {
+        Axis::FaceB(_, _, _, i) => {
             let vb = polygon.m_vertices;
             let nb = polygon.m_normals;
-            edge_reference::reference_b(xs, ys, nxs, nys, count, v1, v2, i, nb[i], vb[i])
+            edge_reference::reference_b(corners, normals, count, v1, v2, i, nb[i], vb[i])
         }
     };
     reference_manifold(m, f, xf, radius)

@@ -1,6 +1,6 @@
 // Wall against outline, the reference face: that of the wall, with the outline's edge most against it, or a face of
 // the outline, with the wall. What is clipped is chosen first, so that the clipping has one caller.
-ghost use Rattle.std.specs.Prelude.{◌≡◌, ℕ, ◌<◌, ◌≤◌, length};
+ghost use Rattle.std.specs.Prelude.{◌≡◌, ℕ, ◌<◌, ◌≤◌};
 ghost use Rattle.floats.specs.declared.b2_math.B2Transform.{B2Transform};
 ghost use Rattle.shape_definitions.specs.declared.b2_polygon_shape.B2polygonShape.{B2polygonShape};
 ghost use Rattle.contact_definitions.specs.Manifold.{feature_number, contact_id, as_byte};
@@ -9,59 +9,48 @@ ghost use Rattle.contact_definitions.specs.EdgeReference.{face_between, most_aga
 ghost use Rattle.wall_contacts.specs.PlacedRows.{PointRows};
 ghost use Rattle.wall_contacts.specs.Reference.{wall_reference, face_reference};
 
+use crate::edge_separation::Rows;
 use collision::manifolds::contact_id;
+use contact_definitions::axis::Corner;
 use contact_definitions::b2_collide_edge::B2referenceFace;
 use contact_definitions::b2_collision::{B2clipVertex, B2contactFeatureType};
 use floats::b2_math;
 use floats::b2_math::B2vec2;
 use shape_ranges::places;
 
-// The point at place i of two rows.
-fn row_point(xs: &[f32; 8], ys: &[f32; 8], i: usize) -> B2vec2
-    requires { (i < 8) × (length xs.now ≡ 8) × (length ys.now ≡ 8) }
-    ensures { (point : ℕ → B2vec2) (n : ℕ) → i < n → PointRows point n xs.now ys.now
+// The point at place i of the rows.
+fn row_point(rows: &Rows, i: usize) -> B2vec2
+    requires { i < 8 }
+    ensures { (point : ℕ → B2vec2) (n : ℕ) → i < n → PointRows point n rows.now.xs rows.now.ys
         → result ≡ point i }
 {
-    B2vec2 { x: xs[i], y: ys[i] }
+    B2vec2 {
+        x: rows.xs[i],
+        y: rows.ys[i],
+    }
 }
 
-// A corner of the outline and its place.
-#[derive(Clone, Copy)]
-struct Corner {
-    index: usize,
-    v: B2vec2,
-}
-
-// The edge of the outline whose normal is most against n: its first corner.
-fn most_against(
-    n: B2vec2,
-    nxs: &[f32; 8],
-    nys: &[f32; 8],
-    xs: &[f32; 8],
-    ys: &[f32; 8],
-    count: usize,
-) -> Corner
-    requires { (0 < count) × (count ≤ 8) × (length nxs.now ≡ 8) × (length nys.now ≡ 8)
-        × (length xs.now ≡ 8) × (length ys.now ≡ 8) }
+// The edge of the outline whose normal is most against n: its first corner. b2_find_incident_edge asks the same of the
+// outline's own normals; here they stand in rows, and the corner is kept with them.
+fn most_against(n: B2vec2, normals: &Rows, corners: &Rows, count: usize) -> Corner
+    requires { (0 < count) × (count ≤ 8) }
     ensures { (result.index < count)
-        × ((corner : ℕ → B2vec2) → PointRows corner count xs.now ys.now
+        × ((corner : ℕ → B2vec2) → PointRows corner count corners.now.xs corners.now.ys
         → result.v ≡ corner result.index)
         × ((xf : B2Transform) (poly : B2polygonShape) → poly.m_count ≡ count
-        → PointRows (placed_normal xf poly) count nxs.now nys.now
+        → PointRows (placed_normal xf poly) count normals.now.xs normals.now.ys
         → result.index ≡ most_against xf poly n) }
 {
     let mut index = 0usize;
-    let mut best = b2_math::b2_dot(n, row_point(nxs, nys, 0));
-    let mut v = row_point(xs, ys, 0);
-    let mut i = 1usize;
-    while i < count {
-        let value = b2_math::b2_dot(n, row_point(nxs, nys, i));
+    let mut best = b2_math::b2_dot(n, row_point(normals, 0));
+    let mut v = row_point(corners, 0);
+    for i in 1..count {
+        let value = b2_math::b2_dot(n, row_point(normals, i));
         if value < best {
             best = value;
             index = i;
-            v = row_point(xs, ys, i);
+            v = row_point(corners, i);
         }
-        i += 1;
     }
     Corner { index, v }
 }
@@ -125,28 +114,25 @@ fn face_between(
 
 // The wall from v1 along edge1 to v2 is the reference, with one of its normals.
 pub fn reference_a(
-    xs: &[f32; 8],
-    ys: &[f32; 8],
-    nxs: &[f32; 8],
-    nys: &[f32; 8],
+    corners: &Rows,
+    normals: &Rows,
     count: usize,
     v1: B2vec2,
     v2: B2vec2,
     edge1: B2vec2,
     normal: B2vec2,
 ) -> Reference
-    requires { (0 < count) × (count ≤ 8) × (length nxs.now ≡ 8) × (length nys.now ≡ 8)
-        × (length xs.now ≡ 8) × (length ys.now ≡ 8) }
+    requires { (0 < count) × (count ≤ 8) }
     ensures { (xf : B2Transform) (poly : B2polygonShape) → poly.m_count ≡ count
-        → PointRows (placed_corner xf poly) count xs.now ys.now
-        → PointRows (placed_normal xf poly) count nxs.now nys.now
+        → PointRows (placed_corner xf poly) count corners.now.xs corners.now.ys
+        → PointRows (placed_normal xf poly) count normals.now.xs normals.now.ys
         → result ≡ wall_reference xf poly v1 v2 edge1 normal }
 {
-    let c = most_against(normal, nxs, nys, xs, ys, count);
+    let c = most_against(normal, normals, corners, count);
     let i1 = c.index;
     let i2 = places::after(i1, count);
     let w1 = c.v;
-    let w2 = row_point(xs, ys, i2);
+    let w2 = row_point(corners, i2);
     Reference {
         face: face_between(0, 1, v1, v2, normal, b2_math::b2_neg(edge1), edge1),
         a: clip_vertex(
@@ -171,10 +157,8 @@ pub fn reference_a(
 
 // Face i1 of the outline is the reference, with the outline's own normal and corner there.
 pub fn reference_b(
-    xs: &[f32; 8],
-    ys: &[f32; 8],
-    nxs: &[f32; 8],
-    nys: &[f32; 8],
+    corners: &Rows,
+    normals: &Rows,
     count: usize,
     v1: B2vec2,
     v2: B2vec2,
@@ -182,17 +166,16 @@ pub fn reference_b(
     local_normal: B2vec2,
     local_point: B2vec2,
 ) -> Reference
-    requires { (i1 < count) × (count ≤ 8) × (length nxs.now ≡ 8) × (length nys.now ≡ 8)
-        × (length xs.now ≡ 8) × (length ys.now ≡ 8) }
+    requires { (i1 < count) × (count ≤ 8) }
     ensures { (xf : B2Transform) (poly : B2polygonShape) → poly.m_count ≡ count
-        → PointRows (placed_corner xf poly) count xs.now ys.now
-        → PointRows (placed_normal xf poly) count nxs.now nys.now
+        → PointRows (placed_corner xf poly) count corners.now.xs corners.now.ys
+        → PointRows (placed_normal xf poly) count normals.now.xs normals.now.ys
         → result ≡ face_reference xf poly v1 v2 i1 local_normal local_point }
 {
     let i2 = places::after(i1, count);
-    let w1 = row_point(xs, ys, i1);
-    let w2 = row_point(xs, ys, i2);
-    let normal = row_point(nxs, nys, i1);
+    let w1 = row_point(corners, i1);
+    let w2 = row_point(corners, i2);
+    let normal = row_point(normals, i1);
     let side1 = B2vec2 {
         x: normal.y,
         y: -normal.x,

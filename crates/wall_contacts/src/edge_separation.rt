@@ -1,7 +1,7 @@
 // b2_compute_edge_separation and b2_compute_polygon_separation, over the outline in the wall's frame as rows of one
 // coordinate. Rows are filled to 4 or 8 places, so that the compiler takes four at a time; places past the outline's
 // count are filled and never read.
-ghost use Rattle.std.specs.Prelude.{◌≡◌, [], ◌∷◌, ◌≤◌, ℕ, length, Float};
+ghost use Rattle.std.specs.Prelude.{◌≡◌, [], ◌∷◌, ◌≤◌, ℕ, Float};
 ghost use Rattle.std.specs.Float.Ieee.{neg};
 ghost use Rattle.rounding.specs.Literals.{zero32};
 ghost use Rattle.floats.specs.B2Math.{b2_mul_transform_by_vec2, b2_sub, b2_neg, b2_dot, b2_mul_rot_by_vec2};
@@ -20,44 +20,47 @@ use floats::b2_common::B2_MAX_FLOAT;
 use floats::b2_math;
 use floats::b2_math::{B2Rot, B2Transform, B2vec2};
 
+// Points, or normals, of an outline in the wall's frame: a row for each coordinate.
+#[derive(Clone, Copy)]
+pub struct Rows {
+    pub xs: [f32; 8],
+    pub ys: [f32; 8],
+}
+
 // The first n corners, carried by xf.
-pub fn place_rows(xf: B2Transform, vs: [B2vec2; 8], n: usize, xs: &mut [f32; 8], ys: &mut [f32; 8])
-    requires { (n ≤ 8) × (length xs.old ≡ 8) × (length ys.old ≡ 8) }
-    ensures { PointRows (λ i. b2_mul_transform_by_vec2 xf (point_at vs i)) n xs.new
-        ys.new }
+pub fn place_rows(xf: B2Transform, vs: [B2vec2; 8], n: usize, corners: &mut Rows)
+    requires { n ≤ 8 }
+    ensures { PointRows (λ i. b2_mul_transform_by_vec2 xf (point_at vs i)) n corners.new.xs corners.new.ys }
 {
-    let mut i = 0usize;
-    while i < n {
+    for i in 0..n {
         let v = b2_math::b2_mul_transform_by_vec2(xf, vs[i]);
-        xs[i] = v.x;
-        ys[i] = v.y;
-        i += 1;
+        corners.xs[i] = v.x;
+        corners.ys[i] = v.y;
     }
 }
 
 // The distances of n corners from the wall's line through v1, in front of it and behind it.
 fn side_rows(
-    xs: &[f32; 8],
-    ys: &[f32; 8],
+    corners: &Rows,
     n: usize,
     v1: B2vec2,
     n1: B2vec2,
     front: &mut [f32; 8],
     back: &mut [f32; 8],
 )
-    requires { (n ≤ 8) × (length xs.now ≡ 8) × (length ys.now ≡ 8) × (length front.old ≡ 8)
-        × (length back.old ≡ 8) }
-    ensures { (length front.new ≡ 8) × (length back.new ≡ 8)
-        × ((corner : ℕ → B2vec2) → PointRows corner n xs.now ys.now
+    requires { n ≤ 8 }
+    ensures { (corner : ℕ → B2vec2) → PointRows corner n corners.now.xs corners.now.ys
         → Row (λ i. b2_dot n1 (b2_sub (corner i) v1)) n front.new
-        × Row (λ i. b2_dot (b2_neg n1) (b2_sub (corner i) v1)) n back.new) }
+        × Row (λ i. b2_dot (b2_neg n1) (b2_sub (corner i) v1)) n back.new }
 {
-    let mut i = 0usize;
-    while i < n {
-        let d = b2_math::b2_sub(B2vec2 { x: xs[i], y: ys[i] }, v1);
+    for i in 0..n {
+        let v = B2vec2 {
+            x: corners.xs[i],
+            y: corners.ys[i],
+        };
+        let d = b2_math::b2_sub(v, v1);
         front[i] = b2_math::b2_dot(n1, d);
         back[i] = b2_math::b2_dot(b2_math::b2_neg(n1), d);
-        i += 1;
     }
 }
 
@@ -69,17 +72,15 @@ struct Least {
 }
 
 fn least_of(f: &[f32; 8], b: &[f32; 8], count: usize) -> Least
-    requires { (count ≤ 8) × (length f.now ≡ 8) × (length b.now ≡ 8) }
+    requires { count ≤ 8 }
     ensures { (ahead behind : ℕ → Float) → Row ahead count f.now → Row behind count b.now
         → (result.front ≡ least ahead count) × (result.back ≡ least behind count) }
 {
     let mut front: f32 = B2_MAX_FLOAT;
     let mut back: f32 = B2_MAX_FLOAT;
-    let mut i = 0usize;
-    while i < count {
+    for i in 0..count {
         front = b2_math::b2_min(f[i], front);
         back = b2_math::b2_min(b[i], back);
-        i += 1;
     }
     Least { front, back }
 }
@@ -106,21 +107,20 @@ fn farther_side(l: Least, normal1: B2vec2) -> Axis
 
 // The rows hold the outline's corners in the wall's frame; n places of them are filled.
 pub fn b2_compute_edge_separation(
-    xs: &[f32; 8],
-    ys: &[f32; 8],
+    corners: &Rows,
     n: usize,
     count: usize,
     v1: B2vec2,
     normal1: B2vec2,
 ) -> Axis
-    requires { (count ≤ n) × (n ≤ 8) × (length xs.now ≡ 8) × (length ys.now ≡ 8) }
+    requires { (count ≤ n) × (n ≤ 8) }
     ensures { (xf : B2Transform) (poly : B2polygonShape) → poly.m_count ≡ count
-        → PointRows (placed_corner xf poly) n xs.now ys.now
+        → PointRows (placed_corner xf poly) n corners.now.xs corners.now.ys
         → result ≡ b2_compute_edge_separation xf poly v1 normal1 }
 {
     let mut front = [0.0f32; 8];
     let mut back = [0.0f32; 8];
-    side_rows(xs, ys, n, v1, normal1, &mut front, &mut back);
+    side_rows(corners, n, v1, normal1, &mut front, &mut back);
     farther_side(least_of(&front, &back, count), normal1)
 }
 
@@ -135,65 +135,56 @@ fn face_distance(n: B2vec2, v: B2vec2, v1: B2vec2, v2: B2vec2) -> f32
     )
 }
 
-// The first n normals, turned by q, and how far each face keeps the wall from v1 to v2 off. The rows xs and ys hold
+// The first n normals, turned by q, and how far each face keeps the wall from v1 to v2 off. The rows hold
 // the corners.
 pub fn normal_rows(
     q: B2Rot,
     ns: [B2vec2; 8],
-    xs: &[f32; 8],
-    ys: &[f32; 8],
+    corners: &Rows,
     n: usize,
     v1: B2vec2,
     v2: B2vec2,
-    nxs: &mut [f32; 8],
-    nys: &mut [f32; 8],
+    normals: &mut Rows,
     faces: &mut [f32; 8],
 )
-    requires { (n ≤ 8) × (length xs.now ≡ 8) × (length ys.now ≡ 8)
-        × (length nxs.old ≡ 8) × (length nys.old ≡ 8) × (length faces.old ≡ 8) }
-    ensures { PointRows (λ i. b2_mul_rot_by_vec2 q (point_at ns i)) n nxs.new nys.new
-        × (length faces.new ≡ 8)
-        × ((corner : ℕ → B2vec2) → PointRows corner n xs.now ys.now
+    requires { n ≤ 8 }
+    ensures { PointRows (λ i. b2_mul_rot_by_vec2 q (point_at ns i)) n normals.new.xs normals.new.ys
+        × ((corner : ℕ → B2vec2) → PointRows corner n corners.now.xs corners.now.ys
         → Row (λ i. face_distance (b2_mul_rot_by_vec2 q (point_at ns i)) (corner i) v1 v2) n faces.new) }
 {
-    let mut i = 0usize;
-    while i < n {
+    for i in 0..n {
         let m = b2_math::b2_mul_rot_by_vec2(q, ns[i]);
-        nxs[i] = m.x;
-        nys[i] = m.y;
-        faces[i] = face_distance(m, B2vec2 { x: xs[i], y: ys[i] }, v1, v2);
-        i += 1;
+        normals.xs[i] = m.x;
+        normals.ys[i] = m.y;
+        let v = B2vec2 {
+            x: corners.xs[i],
+            y: corners.ys[i],
+        };
+        faces[i] = face_distance(m, v, v1, v2);
     }
 }
 
 // The rows hold the outline's normals in the wall's frame and how far each face keeps the wall off. The scan keeps the
 // normal too, so that it is compiled to a branch.
-pub fn b2_compute_polygon_separation(
-    faces: &[f32; 8],
-    nxs: &[f32; 8],
-    nys: &[f32; 8],
-    count: usize,
-) -> Axis
-    requires { (count ≤ 8) × (length faces.now ≡ 8) × (length nxs.now ≡ 8) × (length nys.now ≡ 8) }
+pub fn b2_compute_polygon_separation(faces: &[f32; 8], normals: &Rows, count: usize) -> Axis
+    requires { count ≤ 8 }
     ensures { (xf : B2Transform) (poly : B2polygonShape) (v1 v2 : B2vec2) → poly.m_count ≡ count
         → Row (λ i. face_distance (placed_normal xf poly i) (placed_corner xf poly i) v1 v2) count faces.now
-        → PointRows (placed_normal xf poly) count nxs.now nys.now
+        → PointRows (placed_normal xf poly) count normals.now.xs normals.now.ys
         → result ≡ b2_compute_polygon_separation xf poly v1 v2 }
 {
     let mut separation: f32 = -B2_MAX_FLOAT;
     let mut x: f32 = 0.0;
     let mut y: f32 = 0.0;
     let mut place = 0usize;
-    let mut i = 0usize;
-    while i < count {
+    for i in 0..count {
         let s = faces[i];
         if s > separation {
             separation = s;
-            x = -nxs[i];
-            y = -nys[i];
+            x = -normals.xs[i];
+            y = -normals.ys[i];
             place = i;
         }
-        i += 1;
     }
     Axis::FaceB(separation, x, y, place)
 }

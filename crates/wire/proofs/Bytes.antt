@@ -1,17 +1,29 @@
 -- Writing words: the words written so far grow by one. Assumes nothing.
 use Prim.Native.Nat.{ℕ, ◌+◌, ◌-◌, ◌*◌, ◌≤◌, ◌<◌}
-use mathlib.Core.Path.{◌≡◌, refl, sym, ◌∙◌, ap, subst}
+use mathlib.Core.Path.{◌≡◌, refl, sym, ◌∙◌, ap, ap₂, subst}
 use mathlib.Core.List.{List, [], ◌∷◌, ◌++◌}
+use mathlib.Core.Bool.{Bool, true, false}
 use native.Mathlib.Omega.{arith}
 use native.Mathlib.Numerals.{add-one}
 use lib.ListN.{length, take, get_or}
 use lib.Seq.{take-suc, take-length, length-take-le}
 use borrow.Author.Tests.{le-leb, lt-leb}
 use borrow.Rule.Slice.PartMut.{put_mid, mid_of}
+use mir.Val.{bool_byte}
+use Rattle.std.specs.Prelude.{Result, Ok, Err}
+use Rattle.std.specs.Result.{result_unwrap_or}
+use Rattle.shape_definitions.specs.declared.refusal.Refusal.{Refusal}
+use Rattle.shape_definitions.specs.Refusal.{refusal_number, made_or}
 use Rattle.algebra.specs.Buffer.{over}
 use Rattle.algebra.proofs.Buffer.{over_next}
 use Rattle.lines.specs.Fields.{number_bytes}
+use Rattle.wire.specs.Answers.{flag}
 use Rattle.wire.specs.Words.{bytes_of, written, written_count, Written}
+
+-- a flag is the byte of a bool
+pub flag_is : (b : Bool) → bool_byte b ≡ flag b
+flag_is false = refl
+flag_is true = refl
 
 bytes_append : (ws : List ℕ) (w : ℕ) → bytes_of (ws ++ (w ∷ [])) ≡ bytes_of ws ++ number_bytes w
 unfolding bytes_of
@@ -67,3 +79,18 @@ nothing_written ws out none =
 pub written_as : (ws answer out : List ℕ) (r : ℕ) (after : List ℕ) → ws ≡ answer → Written ws out r after
     → Written answer out r after
 written_as ws answer out r after same h = subst (λ (l : List ℕ). Written l out r after) same h
+
+-- what a call made, or where it is refused what was given
+pub made_is : {T : Type 0} (given : T) (answer : Result T Refusal)
+    → result_unwrap_or answer given ≡ made_or given answer
+made_is given (Ok x) = refl
+made_is given (Err why) = refl
+
+-- words of the refusal and of what a call made, or where it is refused of what was given
+pub made_written : {T : Type 0} (words_of : T → List ℕ) (given made : T) (answer : Result T Refusal)
+    (refusal : ℕ) (rest out : List ℕ) (r : ℕ) (after : List ℕ) → refusal ≡ refusal_number answer
+    → made ≡ result_unwrap_or answer given → rest ≡ words_of made → Written (refusal ∷ rest) out r after
+    → Written (refusal_number answer ∷ words_of (made_or given answer)) out r after
+made_written words_of given made answer refusal rest out r after refusal_is is rest_is =
+    written_as _ _ out r after
+    (ap₂ ◌∷◌ refusal_is (rest_is ∙ ap words_of (is ∙ made_is given answer)))

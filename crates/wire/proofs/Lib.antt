@@ -1,4 +1,5 @@
 pub mod Bytes
+pub mod Numbers
 pub mod Requests
 pub mod Rows
 pub mod TwoPoints

@@ -10,10 +10,10 @@ use Rattle.contact_definitions.specs.declared.b2_collision.B2manifold.{B2manifol
 use Rattle.contact_definitions.specs.declared.b2_collision.B2clipVertex.{B2clipVertex}
 use Rattle.contact_definitions.specs.declared.b2_collision.B2worldManifold.{B2worldManifold}
 use Rattle.contact_definitions.specs.declared.b2_collision.PointStates.{PointStates}
-use Rattle.contact_definitions.specs.declared.b2_collision.ManifoldAnswer.{ManifoldAnswer}
-use Rattle.contact_definitions.specs.declared.b2_collision.ClipAnswer.{ClipAnswer}
-use Rattle.contact_definitions.specs.declared.b2_collision.WorldAnswer.{WorldAnswer}
-use Rattle.contact_definitions.specs.declared.b2_collision.PointStatesAnswer.{PointStatesAnswer}
+use Rattle.contact_definitions.specs.Answers.{ManifoldAnswer}
+use Rattle.contact_definitions.specs.Answers.{ClipAnswer}
+use Rattle.contact_definitions.specs.Answers.{WorldAnswer}
+use Rattle.contact_definitions.specs.Answers.{PointStatesAnswer}
 use Rattle.contact_definitions.specs.Manifold.{kind_number, manifold_point, default_id}
 use Rattle.contact_definitions.specs.PointStates.{state_number}
 use Rattle.wire.specs.Answers.{bits, low_word}

@@ -1,21 +1,27 @@
 // Answers of the calls that make shapes, as words: the refusal, and the outline or the wall after the call.
 ghost use Rattle.std.specs.Prelude.{◌≡◌, ◌∷◌, ◌++◌, ◌+◌, ◌≤◌, length, take};
+ghost use Rattle.shape_definitions.specs.Refusal.{refusal_number, made_or};
 ghost use Rattle.wire.specs.Words.{Written};
-ghost use Rattle.wire.specs.Answers.{low_word, flag, points_words, polygon_words, edge_words};
+ghost use Rattle.wire.specs.Answers.{low_word, points_words, polygon_words, edge_words};
 
 use crate::words;
 use floats::b2_math::B2vec2;
 use floats::bits;
-use lines::fields;
-use shape_definitions::b2_edge_shape::EdgeAnswer;
-use shape_definitions::b2_polygon_shape::PolygonAnswer;
+use shape_definitions::b2_edge_shape::B2edgeShape;
+use shape_definitions::b2_polygon_shape::B2polygonShape;
+use shape_definitions::refusal::Refusal;
 
-pub fn flag(b: bool) -> u32
-    ensures { result ≡ flag b }
+// The number of a refusal, 0 where there is none.
+pub fn refusal_word<T: Copy>(answer: Result<T, Refusal>) -> u32
+    ensures { result ≡ refusal_number answer }
 {
-    if b { 1 } else { 0 }
+    match answer {
+        Ok(_) => 0,
+        Err(why) => u32::from(u8::from(why)),
+    }
 }
 
+// The rest by 2^32: `as` may lose no bits.
 pub fn low_word(n: usize) -> u32
     ensures { result ≡ low_word n }
 {
@@ -28,24 +34,25 @@ fn with_points(old: [u32; 37], i: usize, ps: [B2vec2; 8]) -> [u32; 37]
     ensures { (take (i + 16) result ≡ take i old ++ points_words ps) × (length result ≡ 37) }
 {
     let mut all = old;
-    let mut k = 0usize;
-    while k < 8 {
-        let at = i + 2 * k;
-        all[at] = bits::f32_to_bits(ps[k].x);
-        all[at + 1] = bits::f32_to_bits(ps[k].y);
-        k += 1;
+    for (k, p) in ps.iter().enumerate() {
+        all[i + 2 * k] = bits::f32_to_bits(p.x);
+        all[i + 2 * k + 1] = bits::f32_to_bits(p.y);
     }
     all
 }
 
-// The refusal and the outline.
-pub fn put_polygon(out: &mut [u8], answer: PolygonAnswer) -> u32
-    ensures { Written (answer.refusal ∷ polygon_words answer.shape)
+// The refusal and the outline: what was given, where the call is refused.
+pub fn put_polygon(
+    out: &mut [u8],
+    given: B2polygonShape,
+    answer: Result<B2polygonShape, Refusal>,
+) -> u32
+    ensures { Written (refusal_number answer ∷ polygon_words (made_or given answer))
         out.old result out.new }
 {
-    let s = answer.shape;
+    let s = answer.unwrap_or(given);
     let mut head = [0u32; 37];
-    head[0] = fields::wide(answer.refusal);
+    head[0] = refusal_word(answer);
     head[1] = bits::f32_to_bits(s.m_radius);
     head[2] = bits::f32_to_bits(s.m_centroid.x);
     head[3] = bits::f32_to_bits(s.m_centroid.y);
@@ -58,14 +65,15 @@ pub fn put_polygon(out: &mut [u8], answer: PolygonAnswer) -> u32
 }
 
 // The refusal and the wall.
-pub fn put_edge(out: &mut [u8], answer: EdgeAnswer) -> u32
-    ensures { Written (answer.refusal ∷ edge_words answer.shape) out.old result out.new }
+pub fn put_edge(out: &mut [u8], given: B2edgeShape, answer: Result<B2edgeShape, Refusal>) -> u32
+    ensures { Written (refusal_number answer ∷ edge_words (made_or given answer))
+        out.old result out.new }
 {
-    let s = answer.shape;
+    let s = answer.unwrap_or(given);
     let whole = [
-        fields::wide(answer.refusal),
+        refusal_word(answer),
         bits::f32_to_bits(s.m_radius),
-        flag(s.m_one_sided),
+        u32::from(s.m_one_sided),
         bits::f32_to_bits(s.m_vertex0.x),
         bits::f32_to_bits(s.m_vertex0.y),
         bits::f32_to_bits(s.m_vertex1.x),

@@ -1,48 +1,31 @@
 // Answers of the contact calls, as words: the refusal, and the manifold, the clip points, the world manifold or the
 // point states after the call.
 ghost use Rattle.std.specs.Prelude.{◌≡◌};
-ghost use Rattle.contact_definitions.specs.Manifold.{kind_number};
-ghost use Rattle.contact_definitions.specs.PointStates.{state_number};
+ghost use Rattle.contact_definitions.specs.Answers.{manifold_answered, clip_answered, world_answered, states_answered};
 ghost use Rattle.wire.specs.Words.{Written};
 ghost use Rattle.wire.specs.ContactAnswers.{id_word, manifold_answer_words};
 ghost use Rattle.wire.specs.ContactAnswers.{clip_answer_words, world_answer_words, states_answer_words};
 
 use crate::{answers, words};
 use contact_definitions::b2_collision::{
-    B2contactId, B2manifoldType, B2pointState, ClipAnswer, ManifoldAnswer, PointStatesAnswer,
-    WorldAnswer,
+    B2clipVertex, B2contactId, B2manifold, B2worldManifold, Clip, PointStates,
 };
 use floats::bits;
-use lines::fields;
+use shape_definitions::refusal::Refusal;
 
 fn id_word(id: B2contactId) -> u32
     ensures { result ≡ id_word id }
 {
     let cf = id.cf;
-    let index_a = fields::wide(cf.index_a);
-    let index_b = fields::wide(cf.index_b);
-    let type_a = fields::wide(cf.type_a);
-    let type_b = fields::wide(cf.type_b);
-    index_a * 16777216 + index_b * 65536 + type_a * 256 + type_b
+    u32::from_be_bytes([cf.index_a, cf.index_b, cf.type_a, cf.type_b])
 }
 
-fn kind_word(kind: B2manifoldType) -> u32
-    ensures { result ≡ kind_number kind }
+// The refusal and the manifold: what was given, where the call is refused, here and below.
+pub fn put_manifold(out: &mut [u8], given: B2manifold, answer: Result<B2manifold, Refusal>) -> u32
+    ensures { Written (manifold_answer_words (manifold_answered given answer))
+        out.old result out.new }
 {
-    match kind {
-        B2manifoldType::ECircles => 0,
-        B2manifoldType::EFaceA => 1,
-        B2manifoldType::EFaceB => 2,
-    }
-}
-
-// The refusal and the manifold.
-pub fn put_manifold(out: &mut [u8], answer: ManifoldAnswer) -> u32
-    ensures { Written (manifold_answer_words answer) out.old result out.new }
-{
-    let refusal = answer.refusal;
-    let m = answer.manifold;
-    let kind = m.manifold_type;
+    let m = answer.unwrap_or(given);
     let count = m.point_count;
     let n = m.local_normal;
     let q = m.local_point;
@@ -51,8 +34,8 @@ pub fn put_manifold(out: &mut [u8], answer: ManifoldAnswer) -> u32
     let id0 = first.id;
     let id1 = second.id;
     let whole = [
-        fields::wide(refusal),
-        kind_word(kind),
+        answers::refusal_word(answer),
+        u32::from(u8::from(m.manifold_type)),
         answers::low_word(count),
         bits::f32_to_bits(n.x),
         bits::f32_to_bits(n.y),
@@ -73,17 +56,20 @@ pub fn put_manifold(out: &mut [u8], answer: ManifoldAnswer) -> u32
 }
 
 // The refusal, the number of points, and both output places.
-pub fn put_clip(out: &mut [u8], answer: ClipAnswer) -> u32
-    ensures { Written (clip_answer_words answer) out.old result out.new }
+pub fn put_clip(out: &mut [u8], given: [B2clipVertex; 2], answer: Result<Clip, Refusal>) -> u32
+    ensures { Written (clip_answer_words (clip_answered given answer)) out.old result out.new }
 {
-    let refusal = answer.refusal;
-    let count = answer.count;
-    let first = answer.points[0];
-    let second = answer.points[1];
+    let left = answer.unwrap_or(Clip {
+        out: given,
+        count: 0,
+    });
+    let count = left.count;
+    let first = left.out[0];
+    let second = left.out[1];
     let id0 = first.id;
     let id1 = second.id;
     let whole = [
-        fields::wide(refusal),
+        answers::refusal_word(answer),
         answers::low_word(count),
         bits::f32_to_bits(first.v.x),
         bits::f32_to_bits(first.v.y),
@@ -96,18 +82,21 @@ pub fn put_clip(out: &mut [u8], answer: ClipAnswer) -> u32
 }
 
 // The refusal and the world manifold.
-pub fn put_world(out: &mut [u8], answer: WorldAnswer) -> u32
-    ensures { Written (world_answer_words answer) out.old result out.new }
+pub fn put_world(
+    out: &mut [u8],
+    given: B2worldManifold,
+    answer: Result<B2worldManifold, Refusal>,
+) -> u32
+    ensures { Written (world_answer_words (world_answered given answer)) out.old result out.new }
 {
-    let refusal = answer.refusal;
-    let w = answer.world;
+    let w = answer.unwrap_or(given);
     let n = w.normal;
     let p0 = w.points[0];
     let p1 = w.points[1];
     let s0 = w.separations[0];
     let s1 = w.separations[1];
     let whole = [
-        fields::wide(refusal),
+        answers::refusal_word(answer),
         bits::f32_to_bits(n.x),
         bits::f32_to_bits(n.y),
         bits::f32_to_bits(p0.x),
@@ -120,33 +109,17 @@ pub fn put_world(out: &mut [u8], answer: WorldAnswer) -> u32
     words::put_words(out, &whole)
 }
 
-fn state_word(state: B2pointState) -> u32
-    ensures { result ≡ state_number state }
-{
-    match state {
-        B2pointState::B2NullState => 0,
-        B2pointState::B2AddState => 1,
-        B2pointState::B2PersistState => 2,
-        B2pointState::B2RemoveState => 3,
-    }
-}
-
 // The refusal and the four states.
-pub fn put_states(out: &mut [u8], answer: PointStatesAnswer) -> u32
-    ensures { Written (states_answer_words answer) out.old result out.new }
+pub fn put_states(out: &mut [u8], given: PointStates, answer: Result<PointStates, Refusal>) -> u32
+    ensures { Written (states_answer_words (states_answered given answer)) out.old result out.new }
 {
-    let refusal = answer.refusal;
-    let states = answer.states;
-    let old0 = states.old0;
-    let old1 = states.old1;
-    let new0 = states.new0;
-    let new1 = states.new1;
+    let s = answer.unwrap_or(given);
     let whole = [
-        fields::wide(refusal),
-        state_word(old0),
-        state_word(old1),
-        state_word(new0),
-        state_word(new1),
+        answers::refusal_word(answer),
+        u32::from(u8::from(s.old0)),
+        u32::from(u8::from(s.old1)),
+        u32::from(u8::from(s.new0)),
+        u32::from(u8::from(s.new1)),
     ];
     words::put_words(out, &whole)
 }

@@ -1,5 +1,5 @@
 // What contact requests hold: circles, placements, manifolds, clip vertices, world manifolds and point states.
-ghost use Rattle.std.specs.Prelude.{◌≡◌, ◌+◌, ◌*◌, ◌≤◌, length};
+ghost use Rattle.std.specs.Prelude.{◌≡◌, ◌+◌, ◌*◌, ◌≤◌, length, cond};
 ghost use Rattle.wire.specs.ContactRecords.{circle_at, transform_at, id_at, manifold_point_at};
 ghost use Rattle.wire.specs.ContactRecords.{kind_of, manifold_at, kind_known};
 ghost use Rattle.wire.specs.ContactRecords.{clip_vertex_at, clip_vertices_at, world_manifold_at};
@@ -68,14 +68,11 @@ fn manifold_point(input: &[u8], i: usize) -> B2manifoldPoint
     }
 }
 
+// The last kind, where the word is none: `known_manifold` turns such a word away, and `known_states` a state's.
 fn kind(w: u32) -> B2manifoldType
     ensures { result ≡ kind_of w }
 {
-    match w {
-        0 => B2manifoldType::ECircles,
-        1 => B2manifoldType::EFaceA,
-        _ => B2manifoldType::EFaceB,
-    }
+    B2manifoldType::try_from(w).unwrap_or(B2manifoldType::EFaceB)
 }
 
 pub fn manifold(input: &[u8], i: usize) -> B2manifold
@@ -103,7 +100,19 @@ pub fn kind_known(input: &[u8], i: usize) -> bool
     requires { 4 * i + 4 ≤ length input.now }
     ensures { result ≡ kind_known input.now i }
 {
-    words::word(input, i) < 3
+    B2manifoldType::try_from(words::word(input, i)).is_ok()
+}
+
+// The manifold, where the word of its kind is one.
+pub fn known_manifold(input: &[u8], i: usize) -> Option<B2manifold>
+    requires { 4 * i + 64 ≤ length input.now }
+    ensures { result ≡ cond (kind_known input.now i) (Some (manifold_at input.now i)) None }
+{
+    if kind_known(input, i) {
+        Some(manifold(input, i))
+    } else {
+        None
+    }
 }
 
 // ---- clip vertices
@@ -148,12 +157,7 @@ pub fn world_manifold(input: &[u8], i: usize) -> B2worldManifold
 fn state(w: u32) -> B2pointState
     ensures { result ≡ state_of w }
 {
-    match w {
-        0 => B2pointState::B2NullState,
-        1 => B2pointState::B2AddState,
-        2 => B2pointState::B2PersistState,
-        _ => B2pointState::B2RemoveState,
-    }
+    B2pointState::try_from(w).unwrap_or(B2pointState::B2RemoveState)
 }
 
 pub fn states(input: &[u8], i: usize) -> PointStates
@@ -176,7 +180,7 @@ fn state_known(input: &[u8], i: usize) -> bool
     requires { 4 * i + 4 ≤ length input.now }
     ensures { result ≡ state_known input.now i }
 {
-    words::word(input, i) < 4
+    B2pointState::try_from(words::word(input, i)).is_ok()
 }
 
 // Whether each of four words is a state.
@@ -189,4 +193,16 @@ pub fn states_known(input: &[u8], i: usize) -> bool
     let new0 = state_known(input, i + 2);
     let new1 = state_known(input, i + 3);
     old0 & old1 & new0 & new1
+}
+
+// The four states, where each word is one.
+pub fn known_states(input: &[u8], i: usize) -> Option<PointStates>
+    requires { 4 * i + 16 ≤ length input.now }
+    ensures { result ≡ cond (states_known input.now i) (Some (states_at input.now i)) None }
+{
+    if states_known(input, i) {
+        Some(states(input, i))
+    } else {
+        None
+    }
 }

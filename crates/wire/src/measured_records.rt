@@ -11,8 +11,8 @@ fn span(input: &[u8], i: usize) -> Span
     requires { 4 * i + 8 ≤ length input.now }
     ensures { result ≡ span_at input.now i }
 {
-    let lowest = words::signed(words::word(input, i));
-    let highest = words::signed(words::word(input, i + 1));
+    let lowest = words::word(input, i).cast_signed();
+    let highest = words::word(input, i + 1).cast_signed();
     Span { lowest, highest }
 }
 
@@ -37,6 +37,7 @@ pub fn measured_box(input: &[u8], i: usize) -> MeasuredBox
     MeasuredBox { x, y, hx, hy }
 }
 
+// Two writers, as C has two records of answers.
 pub fn put_circles_answer(out: &mut [u8], answer: CirclesAnswer) -> u32
     ensures { Written (circles_answer_words answer) out.old result out.new }
 {
@@ -49,18 +50,18 @@ pub fn put_circles_answer(out: &mut [u8], answer: CirclesAnswer) -> u32
     let whole = [
         answer.refusal,
         answer.verdict,
-        words::unsigned(ta.x),
-        words::unsigned(ta.y),
-        words::unsigned(ta.radius),
-        words::unsigned(tb.x),
-        words::unsigned(tb.y),
-        words::unsigned(tb.radius),
-        words::unsigned(sa.x),
-        words::unsigned(sa.y),
-        words::unsigned(sa.radius),
-        words::unsigned(sb.x),
-        words::unsigned(sb.y),
-        words::unsigned(sb.radius),
+        ta.x.cast_unsigned(),
+        ta.y.cast_unsigned(),
+        ta.radius.cast_unsigned(),
+        tb.x.cast_unsigned(),
+        tb.y.cast_unsigned(),
+        tb.radius.cast_unsigned(),
+        sa.x.cast_unsigned(),
+        sa.y.cast_unsigned(),
+        sa.radius.cast_unsigned(),
+        sb.x.cast_unsigned(),
+        sb.y.cast_unsigned(),
+        sb.radius.cast_unsigned(),
     ];
     words::put_words(out, &whole)
 }
@@ -77,22 +78,22 @@ pub fn put_boxes_answer(out: &mut [u8], answer: BoxesAnswer) -> u32
     let whole = [
         answer.refusal,
         answer.verdict,
-        words::unsigned(ta.x),
-        words::unsigned(ta.y),
-        words::unsigned(ta.hx),
-        words::unsigned(ta.hy),
-        words::unsigned(tb.x),
-        words::unsigned(tb.y),
-        words::unsigned(tb.hx),
-        words::unsigned(tb.hy),
-        words::unsigned(sa.x),
-        words::unsigned(sa.y),
-        words::unsigned(sa.hx),
-        words::unsigned(sa.hy),
-        words::unsigned(sb.x),
-        words::unsigned(sb.y),
-        words::unsigned(sb.hx),
-        words::unsigned(sb.hy),
+        ta.x.cast_unsigned(),
+        ta.y.cast_unsigned(),
+        ta.hx.cast_unsigned(),
+        ta.hy.cast_unsigned(),
+        tb.x.cast_unsigned(),
+        tb.y.cast_unsigned(),
+        tb.hx.cast_unsigned(),
+        tb.hy.cast_unsigned(),
+        sa.x.cast_unsigned(),
+        sa.y.cast_unsigned(),
+        sa.hx.cast_unsigned(),
+        sa.hy.cast_unsigned(),
+        sb.x.cast_unsigned(),
+        sb.y.cast_unsigned(),
+        sb.hx.cast_unsigned(),
+        sb.hy.cast_unsigned(),
     ];
     words::put_words(out, &whole)
 }

@@ -1,5 +1,5 @@
 // Numbers, points, outlines and walls of a request, read at word i.
-ghost use Rattle.std.specs.Prelude.{◌≡◌, ◌+◌, ◌*◌, ◌≤◌, length, take};
+ghost use Rattle.std.specs.Prelude.{◌≡◌, ◌+◌, ◌*◌, ◌≤◌, length, take, cond};
 ghost use Rattle.wire.specs.Records.{float_at, vector_at, points_at, rotation_at};
 ghost use Rattle.wire.specs.Records.{polygon_at, edge_at, edge_known};
 
@@ -82,4 +82,16 @@ pub fn edge_known(input: &[u8], i: usize) -> bool
     ensures { result ≡ edge_known input.now i }
 {
     words::word(input, i + 1) < 2
+}
+
+// The wall, where the word of its flag is one.
+pub fn known_edge(input: &[u8], i: usize) -> Option<B2edgeShape>
+    requires { 4 * i + 40 ≤ length input.now }
+    ensures { result ≡ cond (edge_known input.now i) (Some (edge_at input.now i)) None }
+{
+    if edge_known(input, i) {
+        Some(edge(input, i))
+    } else {
+        None
+    }
 }

@@ -10,8 +10,7 @@ unfolding b2_collide_circles
 returns-then-shapes-placed c =
     let args = c.args in
     made_in_range _ _ _ _ _ _ _ c.circles_in_range-shapes.ensures c.placements_in_range-placed.ensures _
-    (circles_manifold (with_count args.m 0) args.a args.xfa args.b args.xfb) _ refl c.if-shapes-placed.true
-    c.accepted.ensures c.circles_manifold.ensures
+    (circles_manifold (with_count args.m 0) args.a args.xfa args.b args.xfb) refl c.if-shapes-placed.true c.circles_manifold.ensures
 
 pub returns : goal.returns
 unfolding b2_collide_circles

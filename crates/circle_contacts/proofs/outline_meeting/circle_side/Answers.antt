@@ -1,16 +1,11 @@
 -- The first four faces side by side (proofs/FirstFour), then a face at a time (proofs/FarthestSide). Assumes nothing.
 use mathlib.Core.Path.{refl, sym, subst}
 use Prim.Native.Nat.{◌+◌}
-use borrow.Author.Rules.{rules}
 use Rattle.contact_definitions.specs.declared.axis.Best.{Best}
 use Rattle.circle_contacts.proofs.FarthestSide.{SoFar, outside_at, side_taken, side_left, side_found}
-use Rattle.circle_contacts.proofs.FirstFour.{last_below_eight, one_outside, four_known}
+use Rattle.circle_contacts.proofs.FirstFour.{one_outside, four_known}
 use Rattle.circle_contacts.proofs.outline_meeting.circle_side.Goals as goal
 use Rattle.circle_contacts.proofs.outline_meeting.circle_side.Goals.{then-s-separation, else-s-separation}
-
-pub out_of_face-s3-requires : goal.out_of_face-s3-requires
-out_of_face-s3-requires c =
-    last_below_eight _ _ c.requires.1 c.last_of_four-last.ensures
 
 pub returns-then-some_above : goal.returns-then-some_above
 returns-then-some_above c =
@@ -22,13 +17,7 @@ returns-then-some_above c =
       s1_is = c.out_of_face-s1.ensures;
       s2_is = c.out_of_face-s2.ensures;
       s3_is = c.out_of_face-s3.ensures;
-    }) _ _ c.some_above.ensures c.if-some_above.true
-    c.beyond.ensures
-
-pub overflow_add-i : goal.overflow_add-i
-overflow_add-i c =
-    let small = last_below_eight _ _ c.requires.1 c.last_of_four-last.ensures in
-    search rules
+    }) _ c.some_above.ensures c.if-some_above.true
 
 pub loop-i-init : goal.loop-i-init
 loop-i-init c =
@@ -48,8 +37,7 @@ loop-i-init c =
 
 pub returns-then-s-radius : goal.returns-then-s-radius
 returns-then-s-radius c =
-    outside_at _ _ _ _ _ _ _ _ c.loop-i-test.true c.out_of_face-s.ensures c.if-s-radius.true
-    c.beyond-then-s-radius.ensures
+    outside_at _ _ _ _ _ _ _ c.loop-i-test.true c.out_of_face-s.ensures c.if-s-radius.true
 
 pub loop-i-preserved : goal.loop-i-preserved
 loop-i-preserved c =

@@ -20,7 +20,7 @@ returns c =
     simp (
       le-ltb _ _ c.if-count1-gt-B2_MAX_MANIFOLD_POINTS.false,
       le-ltb _ _ c.if-count2-gt-B2_MAX_MANIFOLD_POINTS.false,
-      c.states_of_ids-states.ensures,
+      c.states_of_ids.ensures,
       c.counted_ids.ensures,
       c.counted_ids-2.ensures,
       ids_of_two m1 c.well_formed.1.0.1.1.0.1.0.1

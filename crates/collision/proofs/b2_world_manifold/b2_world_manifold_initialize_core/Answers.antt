@@ -44,5 +44,5 @@ returns c =
       c.if-not-numbers_in_range.false,
       sym c.placements_in_range.ensures,
       c.if-not-placements_in_range.false,
-      c.world_of_kind-world.ensures,
+      c.world_of_kind.ensures,
     )

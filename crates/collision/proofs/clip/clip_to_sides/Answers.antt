@@ -1,5 +1,5 @@
 -- By what the first clip leaves. Assumes nothing.
-use Rattle.collision.proofs.Clips.{none_after, clipped_again}
+use Rattle.collision.proofs.Clips.{none_after}
 use Rattle.collision.proofs.clip.clip_to_sides.Goals as goal
 
 pub returns-then-first-lt2 : goal.returns-then-first-lt2
@@ -10,13 +10,3 @@ returns-then-first-lt2 c =
     let ends_two = good.0.1.0.1 in
     none_after args.ends ends_two args.normal1 args.offset1 args.index1 args.normal2 args.offset2
     args.index2 _ clip_ends.ensures c.if-first-lt2.true
-
-pub returns : goal.returns
-returns c =
-    let if1 = c.if-first-lt2 in
-    let clip_ends = c.clip_ends-first in
-    let args = c.args in
-    let good = c.well_formed in
-    let ends_two = good.0.1.0.1 in
-    clipped_again args.ends ends_two args.normal1 args.offset1 args.index1 args.normal2 args.offset2
-    args.index2 _ clip_ends.ensures if1.false _ c.clip_ends.ensures

@@ -10,5 +10,5 @@ returns-then-not-edge_and_head_in_range c =
 pub returns : goal.returns
 returns c =
     let args = c.args in
-    by_wall_holds args.a args.b _ c.edge_and_head_in_range.ensures _ c.points_by_edge.ensures
+    by_wall_holds args.a args.b _ c.edge_and_head_in_range.ensures _ c.outline_points_in_range.ensures
     c.if-not-edge_and_head_in_range.false

@@ -6,10 +6,10 @@ use Rattle.floats.specs.Ranges.{point_in_range, normal_in_range}
 use Rattle.collision.proofs.PairTests.{first_decide, all_decide}
 use Rattle.collision.proofs.pair_ranges.points_of_both.Goals as goal
 
-pub returns-then-greater_count-le4 : goal.returns-then-greater_count-le4
+pub returns-then-max-le4 : goal.returns-then-max-le4
 unfolding point_in_range normal_in_range
-returns-then-greater_count-le4 c =
-    let greater = c.greater_count.ensures in
+returns-then-max-le4 c =
+    let greater = c.max.ensures in
     let args = c.args in
     let first = (and-eq-true_iff _ _).0 (sym (ap₂ ◌&&◌ (ap₂ ◌&&◌ c.four_within-v1.ensures c.four_within-n1.ensures)
     (ap₂ ◌&&◌ c.four_within-v2.ensures c.four_within-n2.ensures)) ∙ c.if-v1-n1.true) in
@@ -28,6 +28,3 @@ returns-then-w1-m1 c =
     c.well_formed.1.0.1.0.1 last.0)
     (all_decide args.vb args.nb args.cb first.1 c.well_formed.1.1.1.0.1.0.1
     c.well_formed.1.1.1.1.0.1.0.1 last.1)
-
-pub returns : goal.returns
-returns c = ap₂ ◌&&◌ c.points_in_range-a_in.ensures c.points_in_range-b_in.ensures

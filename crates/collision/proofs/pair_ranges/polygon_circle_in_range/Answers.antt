@@ -10,4 +10,4 @@ returns-then-not-radii-centres c =
 pub returns : goal.returns
 returns c =
     with_circle_holds c.args.a c.args.b _ _ c.radii_in_range-radii.ensures
-    c.four_in_range-centres.ensures _ c.points_by_circle.ensures c.if-not-radii-centres.false
+    c.four_in_range-centres.ensures _ c.outline_points_in_range.ensures c.if-not-radii-centres.false

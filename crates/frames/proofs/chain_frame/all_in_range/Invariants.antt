@@ -10,6 +10,3 @@ abbrev pub invariant-loop-i : goal.invariant-loop-i
 invariant-loop-i l =
     (l.i ≤ l.n) × (l.n ≤ 10) × (length l.points ≡ 10)
     × (all_points point_in_range (drop l.i (take l.n l.points)) ≡ all_points point_in_range (take l.n l.points))
-
-abbrev pub decreases-loop-i : goal.decreases-loop-i
-decreases-loop-i l = l.n - l.i

@@ -1,28 +1,22 @@
 -- The chain, or its refusal. Assumes nothing.
-use mathlib.Core.Path.{◌∙◌}
-use Rattle.frames.proofs.BodyFrames.{with_pair}
+use mathlib.Core.Path.{refl}
+use Rattle.std.proofs.lemmas.Result.{err_from_is_err_and}
+use Rattle.shape_definitions.proofs.Numbers.{no_acceptance}
 use Rattle.frames.proofs.ChainFrames.{few_points, chain_taken, chain_refused}
 use Rattle.frames.proofs.chain_frame.chain_frame.Goals as goal
 
-pub chain_refusal-number-requires : goal.chain_refusal-number-requires
-chain_refusal-number-requires c =
-    let pre = c.requires in
-    few_points _ _ c.chain_read-chain.ensures pre.0
+pub check_chain-requires : goal.check_chain-requires
+check_chain-requires c = few_points _ _ c.chain_read-chain.ensures c.requires.0
 
-pub returns-then-number-eq-ACCEPTED : goal.returns-then-number-eq-ACCEPTED
-returns-then-number-eq-ACCEPTED c =
-    let chain_body = c.chain_body in
-    let if1 = c.if-number-eq-ACCEPTED in
-    let chain_refusal = c.chain_refusal-number in
-    let chain_read = c.chain_read-chain in
-    λ pair. with_pair pair c.defined.ensures
-    ∙ rw chain_body.ensures
-    (chain_taken _ _ chain_read.ensures _ pair _ (chain_refusal.ensures _ chain_read.ensures) if1.true)
+pub returns-in_err-check_chain : goal.returns-in_err-check_chain
+returns-in_err-check_chain c =
+    let gone = err_from_is_err_and c.from_residual.result c.from_residual.ensures.1 in
+    λ body pair. rw (gone.1, gone.2)
+    (chain_refused _ _ c.chain_read-chain.ensures body pair _
+    (c.in_err-check_chain.ensures _ c.chain_read-chain.ensures) (no_acceptance _))
 
 pub returns : goal.returns
 returns c =
-    let if1 = c.if-number-eq-ACCEPTED in
-    let chain_refusal = c.chain_refusal-number in
-    let chain_read = c.chain_read-chain in
-    λ pair. with_pair pair c.refused.ensures
-    ∙ chain_refused _ _ chain_read.ensures _ pair _ (chain_refusal.ensures _ chain_read.ensures) if1.false
+    λ body pair. rw c.chain_body.ensures
+    (chain_taken _ _ c.chain_read-chain.ensures body pair _
+    (c.in_ok-check_chain.ensures _ c.chain_read-chain.ensures) refl)

@@ -4,6 +4,4 @@ use Rattle.frames.proofs.chain_frame.chain_read.Goals as goal
 
 pub returns : goal.returns
 unfolding chain_at
-returns c =
-    let byte = c.byte-count in
-    simp (c.chain_points-points.ensures, byte.ensures)
+returns c = simp (c.points-points.ensures.2, c.byte-count.ensures)

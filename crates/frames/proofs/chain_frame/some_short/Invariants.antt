@@ -12,6 +12,3 @@ abbrev pub invariant-loop-i : goal.invariant-loop-i
 invariant-loop-i l =
     (l.i ≤ l.n) × (l.n ≤ 7) × (length l.points ≡ 10)
     × ((chain : Chain) → chain.points ≡ l.points → some_below (λ (k : ℕ). not (long_piece chain k)) l.i ≡ false)
-
-abbrev pub decreases-loop-i : goal.decreases-loop-i
-decreases-loop-i l = l.n - l.i

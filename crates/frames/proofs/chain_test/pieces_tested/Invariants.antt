@@ -1,11 +1,6 @@
 -- The first piece, and after j turns j further ones. Assumes nothing.
-use Prim.Native.Nat.{◌-◌}
 use Rattle.frames.proofs.ChainTests.{SoFar}
 use Rattle.frames.proofs.chain_test.pieces_tested.Given as goal
 
 abbrev pub invariant-loop-j : goal.invariant-loop-j
-invariant-loop-j l =
-    SoFar l.ida l.idb l.a l.b l.pair l.further l.number l.kepts l.more l.j
-
-abbrev pub decreases-loop-j : goal.decreases-loop-j
-decreases-loop-j l = l.further - l.j
+invariant-loop-j l = SoFar l.ida l.idb l.a l.b l.pair l.further l.kepts l.more l.j

@@ -1,20 +1,16 @@
 -- Some length, and that one. Assumes nothing.
-use borrow.Author.Tests.{eq-eqb, ne_eqb}
+use mathlib.Core.Path.{refl}
+use native.Mathlib.Omega.{arith}
+use borrow.Author.Tests.{ne_eqb}
 use Rattle.record_definitions.specs.Frame.{well_formed}
 use Rattle.frames.proofs.frame.well_formed.Goals as goal
 
-pub returns-then-size-eq0 : goal.returns-then-size-eq0
+pub returns-in-Some : goal.returns-in-Some
 unfolding well_formed
-returns-then-size-eq0 c =
-    let frame_length = c.frame_length-size in
-    let byte2 = c.byte-2 in
-    let byte = c.byte in
-    rw (← byte.ensures, ← byte2.ensures, ← frame_length.ensures) (simp (eq-eqb _ _ c.if-size-eq0.true))
+returns-in-Some c =
+    rw (← c.byte.ensures, ← c.byte-2.ensures, ← c.in-Some.ensures.length)
+    (simp (ne_eqb c.in-Some.size 0 (λ none. omega (arith, c.in-Some.ensures.some))))
 
-pub returns : goal.returns
+pub returns-in-None : goal.returns-in-None
 unfolding well_formed
-returns c =
-    let frame_length = c.frame_length-size in
-    let byte2 = c.byte-2 in
-    let byte = c.byte in
-    rw (← byte.ensures, ← byte2.ensures, ← frame_length.ensures) (simp (ne_eqb _ _ c.if-size-eq0.false))
+returns-in-None c = rw (← c.byte.ensures, ← c.byte-2.ensures, ← c.in-None.ensures.length) refl

@@ -1,31 +1,32 @@
 -- Refused at once, or answered as the test is. Assumes nothing.
-use mathlib.Core.Path.{◌∙◌}
+use mathlib.Core.Path.{refl, ◌∙◌}
 use native.Mathlib.Omega.{arith}
+use Rattle.std.proofs.lemmas.Result.{err_from_is_err_and}
+use Rattle.shape_definitions.proofs.Numbers.{no_acceptance}
 use Rattle.frames.proofs.TestFrames.{test_refused, test_run, alone_refused, alone_answered, kept_read}
 use Rattle.frames.proofs.test_frame.test_frame.Goals as goal
 
-pub returns-then-number-ne-ACCEPTED : goal.returns-then-number-ne-ACCEPTED
-returns-then-number-ne-ACCEPTED c =
-    let test_refusal = c.test_refusal-number in
+pub returns-in_err-check_test : goal.returns-in_err-check_test
+returns-in_err-check_test c =
     let args = c.args in
-    test_refused _ _ args.a args.b args.pair _ test_refusal.ensures c.if-number-ne-ACCEPTED.true
+    let gone = err_from_is_err_and c.from_residual.result c.from_residual.ensures.1 in
+    rw (gone.1, gone.2) (test_refused _ _ args.a args.b args.pair _ c.in_err-check_test.ensures (no_acceptance _))
 
-pub returns-then-number-ne-ACCEPTED-2 : goal.returns-then-number-ne-ACCEPTED-2
-returns-then-number-ne-ACCEPTED-2 c =
-    let tested = c.tested-t in
-    let test_refusal = c.test_refusal-number in
+pub returns-in_err-made : goal.returns-in_err-made
+returns-in_err-made c =
     let args = c.args in
     let seven = c.well_formed.1.1.1.1.0.1.1.0.1.0.1 in
-    alone_refused args.ida args.idb args.a args.b args.pair _ (kept_read args.pair _ seven)
-    c.requires _ tested.ensures c.if-number-ne-ACCEPTED-2.true
-    ∙ test_run _ _ args.a args.b args.pair _ test_refusal.ensures c.if-number-ne-ACCEPTED.false
+    let gone = err_from_is_err_and c.from_residual-in_err-made.result c.from_residual-in_err-made.ensures.1 in
+    rw (gone.1, gone.2)
+    (alone_refused args.ida args.idb args.a args.b args.pair _ (kept_read args.pair _ seven) c.requires _ refl _
+    c.in_err-made.ensures (no_acceptance _)
+    ∙ test_run _ _ args.a args.b args.pair c.in_ok-check_test.ensures)
 
 pub returns : goal.returns
 returns c =
-    let tested = c.tested-t in
-    let test_refusal = c.test_refusal-number in
     let args = c.args in
     let seven = c.well_formed.1.1.1.1.0.1.1.0.1.0.1 in
-    alone_answered args.ida args.idb args.a args.b args.pair _ (kept_read args.pair _ seven)
-    c.requires _ tested.ensures c.if-number-ne-ACCEPTED-2.false (omega (arith, seven))
-    ∙ test_run _ _ args.a args.b args.pair _ test_refusal.ensures c.if-number-ne-ACCEPTED.false
+    let made = c.in_ok-made.ensures in
+    alone_answered args.ida args.idb args.a args.b args.pair _ (kept_read args.pair _ seven) c.requires _ refl _ _
+    made.0 made.1 made.2 (omega (arith, seven))
+    ∙ test_run _ _ args.a args.b args.pair c.in_ok-check_test.ensures

@@ -8,6 +8,3 @@ use Rattle.frames.proofs.world.forget.Given as goal
 abbrev pub invariant-loop-j : goal.invariant-loop-j
 invariant-loop-j l =
     (l.j ≤ 8) × (l.id < 8) × (l.fresh ≡ fresh_pair) × (length l.ps ≡ 64) × (l.ps ≡ forget_below l.id l.initial.ps l.j)
-
-abbrev pub decreases-loop-j : goal.decreases-loop-j
-decreases-loop-j l = 8 - l.j

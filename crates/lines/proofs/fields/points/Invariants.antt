@@ -1,10 +1,8 @@
 -- The first k points are read. Assumes nothing.
-use Prim.Native.Nat.{◌-◌}
+use Rattle.rounding.specs.Literals.{zero32}
+use Rattle.floats.specs.B2Math.{vec2}
 use Rattle.lines.proofs.Points.{PointsSoFar}
 use Rattle.lines.proofs.fields.points.Given as goal
 
 abbrev pub invariant-loop-k : goal.invariant-loop-k
-invariant-loop-k l = PointsSoFar l.bytes l.at l.n l.ps l.k
-
-abbrev pub decreases-loop-k : goal.decreases-loop-k
-decreases-loop-k l = l.n - l.k
+invariant-loop-k g l = PointsSoFar l.bytes l.at l.n g.row.N (vec2 zero32 zero32) l.ps l.k

@@ -1,7 +1,7 @@
 -- The loop: the bytes so far, and what the rest of the line says, make what the whole line says. Assumes nothing.
 use native.Mathlib.Omega.{arith}
-use Rattle.lines.proofs.Reading.{read_none_yet, byte_read}
-use Rattle.lines.proofs.Reading.{overlong, odd, other_character, only_digits}
+use Rattle.lines.proofs.Reading.{byte_read}
+use Rattle.lines.proofs.Reading.{overlong, odd, all_read}
 use Rattle.lines.proofs.hex.unhex.Goals as goal
 
 pub returns-then-line-gt-LINE_LIMIT : goal.returns-then-line-gt-LINE_LIMIT
@@ -12,20 +12,11 @@ returns-then-line-eq1 c =
     let if1' = c.if-line-gt-LINE_LIMIT in
     odd _ _ if1'.false c.if-line-eq1.true
 
-pub loop-i-init : goal.loop-i-init
-loop-i-init c =
-    let if1' = c.if-line-gt-LINE_LIMIT in
-    let pre' = c.requires in
-    read_none_yet _ _ _ (omega arith) if1'.false pre'
-
 pub loop-i-preserved : goal.loop-i-preserved
 loop-i-preserved c =
     let nibble' = c.nibble-high in
     let loop' = c.loop-i in
     byte_read _ _ _ _ _ _ _ _ (omega arith) nibble'.ensures c.nibble-low.ensures loop'.invariant
 
-pub returns-then-digits : goal.returns-then-digits
-returns-then-digits c = only_digits _ _ _ _ _ _ c.loop-i-test.false c.loop-i.invariant c.if-digits.true
-
-pub returns-else-digits : goal.returns-else-digits
-returns-else-digits c = other_character _ _ _ _ _ _ c.loop-i-test.false c.loop-i.invariant c.if-digits.false
+pub returns : goal.returns
+returns c = all_read _ _ _ _ _ _ c.loop-i-test.false c.loop-i.invariant _ c.then_some.ensures

@@ -4,20 +4,14 @@ use mathlib.Core.Bool.{◌||◌}
 use lib.Ieee.{binary32, add}
 use Rattle.contact_definitions.specs.Manifold.{with_count}
 use Rattle.contact_definitions.specs.B2CollidePolygon.{polygons_manifold, b2_collide_polygons}
-use Rattle.collision.proofs.Refused.{made_in_range, not_in_range, count_refused, count_taken, both_counted_well}
+use Rattle.collision.proofs.Refused.{made_in_range, not_in_range, count_refused, count_taken}
 use Rattle.outline_contacts.proofs.b2_collide_polygon.b2_collide_polygons.Goals as goal
 
 pub returns-then-wrong_a-wrong_b : goal.returns-then-wrong_a-wrong_b
 unfolding b2_collide_polygons
 returns-then-wrong_a-wrong_b c =
-    count_refused _ _ _ _ (sym (ap₂ ◌||◌ c.miscounted-wrong_a.ensures c.miscounted-wrong_b.ensures)
+    count_refused _ _ _ (sym (ap₂ ◌||◌ c.miscounted-wrong_a.ensures c.miscounted-wrong_b.ensures)
     ∙ c.if-wrong_a-wrong_b.true)
-    c.refused.ensures
-
-pub polygons_manifold-requires : goal.polygons_manifold-requires
-polygons_manifold-requires c =
-    both_counted_well _ _ (sym (ap₂ ◌||◌ c.miscounted-wrong_a.ensures c.miscounted-wrong_b.ensures)
-    ∙ c.if-wrong_a-wrong_b.false)
 
 pub returns-then-shapes-placed : goal.returns-then-shapes-placed
 unfolding b2_collide_polygons
@@ -27,8 +21,7 @@ returns-then-shapes-placed c =
     ∙ c.if-wrong_a-wrong_b.false)
     (made_in_range _ _ _ _ _ _ _ c.polygons_in_range-shapes.ensures c.placements_in_range-placed.ensures _
     (polygons_manifold (with_count args.m 0) (add binary32 args.a.m_radius args.b.m_radius) args.a
-    args.xfa args.b args.xfb) _ refl c.if-shapes-placed.true c.accepted.ensures
-    c.polygons_manifold.ensures)
+    args.xfa args.b args.xfb) refl c.if-shapes-placed.true c.polygons_manifold.ensures)
 
 pub returns : goal.returns
 unfolding b2_collide_polygons

@@ -1,7 +1,6 @@
 -- By the axis. Assumes nothing.
-use mathlib.Core.Path.{◌∙◌, subst}
+use mathlib.Core.Path.{◌∙◌}
 use lib.Ieee.{binary32, add}
-use Rattle.outline_contacts.specs.Outlines.{Placed}
 use Rattle.outline_contacts.proofs.Axes.{when_apart, on_face_of_a, on_face_of_b}
 use Rattle.outline_contacts.proofs.b2_collide_polygon.polygons_manifold.Goals as goal
 use Rattle.outline_contacts.proofs.b2_collide_polygon.polygons_manifold.Goals.{in-FaceA, in-FaceB}
@@ -12,24 +11,6 @@ returns-in-Apart c =
     let args = c.args in
     when_apart args.m (add binary32 args.pa.m_radius args.pb.m_radius) args.pa args.xa args.pb
     args.xb _ polygons_axis.ensures.0 _ c.in-Apart.is _ c.no_points.ensures
-
-pub face_of-f-requires : goal.face_of-f-requires
-face_of-f-requires c =
-    let polygons_axis = c.polygons_axis-axis in
-    let args = c.args in
-    let pre = c.requires in
-    let placed = subst (Placed args.pa.m_normals args.pa.m_count args.pb.m_normals
-    args.pb.m_count) c.in-FaceA.is polygons_axis.ensures.1 in
-    (placed.0, pre.1, pre.2, pre.3)
-
-pub face_of-f-requires-in-FaceB : goal.face_of-f-requires-in-FaceB
-face_of-f-requires-in-FaceB c =
-    let polygons_axis = c.polygons_axis-axis in
-    let args = c.args in
-    let pre = c.requires in
-    let placed = subst (Placed args.pa.m_normals args.pa.m_count args.pb.m_normals
-    args.pb.m_count) c.in-FaceB.is polygons_axis.ensures.1 in
-    (placed.0, pre.3, pre.0, pre.1)
 
 pub returns : goal.returns
 returns c =

@@ -15,14 +15,7 @@ use Rattle.outline_contacts.proofs.faces.b2_find_incident_edge.Goals.{then-dot-m
 
 pub loop-i-init : goal.loop-i-init
 unfolding first_least
-loop-i-init c = (
-  omega arith,
-  omega arith,
-  omega arith,
-  c.well_formed.1.0.1.0.1,
-  c.well_formed.1.1.0.1.0.1,
-  scan_starts is_less (valued (λ k. b2_dot c.args.n (point_at c.args.ns k))) _ c.args.count,
-)
+loop-i-init c = (omega arith, scan_starts is_less (valued (λ k. b2_dot c.args.n (point_at c.args.ns k))) _ c.args.count)
 
 pub loop-i-preserved : goal.loop-i-preserved
 loop-i-preserved c =
@@ -32,26 +25,18 @@ loop-i-preserved c =
     let i = loop.i in
     let inv = loop.invariant in
     let best : Best = record { place = loop.index; value = loop.min_dot } in
-    let within : i < length args.ns = omega (arith, inv.3) in
+    let within : i < length args.ns = omega arith in
     let value_is = dot_is args.n args.ns i in
     elim c.if-dot-min_dot.branch [
       | then-dot-min_dot w ↦ rw (w.index-is, w.min_dot-is) (
         omega arith,
-        omega arith,
-        omega arith,
-        inv.3,
-        inv.4,
-        replaced_by is_less (valued f) best _ i args.count inv.5 _ (omega arith)
+        replaced_by is_less (valued f) best _ i args.count inv.1 _ (omega arith)
             (ap (λ (x : Float). lt x loop.min_dot) (sym (value_is _ within)) ∙ w.if-dot-min_dot.true)
             (ap (λ (x : Float). record { place = i; value = x }) (value_is _ within)),
       )
       | else-dot-min_dot w ↦ rw (w.index-is, w.min_dot-is) (
-        omega arith,
-        omega arith,
-        omega arith,
-        inv.3,
-        inv.4,
-        kept_over is_less (valued f) best _ i args.count inv.5 (omega arith)
+        inv.0,
+        kept_over is_less (valued f) best _ i args.count inv.1 (omega arith)
             (ap (λ (x : Float). lt x loop.min_dot) (sym (value_is _ within)) ∙ w.if-dot-min_dot.false),
       )
     ]
@@ -63,7 +48,7 @@ returns c =
     let f : ℕ → Float = λ k. b2_dot args.n (point_at args.ns k) in
     let inv = loop.invariant in
     let best : Best = record { place = loop.index; value = loop.min_dot } in (
-      omega arith,
-      corner_is args.vs loop.index loop.min_dot _ _ (omega (arith, inv.4))
-          (scanned_all is_less (valued f) best _ loop.i args.count inv.5 (omega arith)),
+      inv.0,
+      corner_is args.vs loop.index loop.min_dot _ _ (omega arith)
+          (scanned_all is_less (valued f) best _ loop.i args.count inv.1 (omega arith)),
     )

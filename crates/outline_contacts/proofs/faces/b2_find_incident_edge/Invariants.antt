@@ -1,8 +1,7 @@
 -- What the scan keeps from here is what it keeps of all places. Assumes nothing.
 use mathlib.Core.Path.{◌≡◌}
 use mathlib.Core.List.{map}
-use Prim.Native.Nat.{◌<◌, ◌≤◌, ◌-◌}
-use lib.ListN.{length}
+use Prim.Native.Nat.{◌<◌, ◌-◌}
 use Rattle.algebra.specs.Loops.{places, scan}
 use Rattle.floats.specs.B2Math.{b2_dot}
 use Rattle.shape_definitions.specs.Outline.{point_at}
@@ -11,10 +10,7 @@ use Rattle.outline_contacts.proofs.faces.b2_find_incident_edge.Given as goal
 
 abbrev pub invariant-loop-i : goal.invariant-loop-i
 invariant-loop-i l =
-    (l.i ≤ l.count) × (l.count ≤ 8) × (l.index < l.count) × (length l.ns ≡ 8) × (length l.vs ≡ 8)
+    (l.index < l.count)
     × (scan is_less (record { place = l.index; value = l.min_dot })
     (map (valued (λ k. b2_dot l.n (point_at l.ns k))) (places l.i (l.count - l.i)))
     ≡ first_least (λ k. b2_dot l.n (point_at l.ns k)) l.count)
-
-abbrev pub decreases-loop-i : goal.decreases-loop-i
-decreases-loop-i l = l.count - l.i

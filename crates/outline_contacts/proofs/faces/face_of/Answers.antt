@@ -3,9 +3,6 @@ use native.Mathlib.Omega.{arith}
 use Rattle.outline_contacts.proofs.Gathered.{face_is}
 use Rattle.outline_contacts.proofs.faces.face_of.Goals as goal
 
-pub after-i2-requires : goal.after-i2-requires
-after-i2-requires c = (c.b2_find_incident_edge-c.ensures.0, omega arith)
-
 pub returns : goal.returns
 returns c =
     let after2 = c.after-iv2 in

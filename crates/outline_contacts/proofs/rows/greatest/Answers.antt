@@ -11,40 +11,24 @@ use Rattle.outline_contacts.proofs.rows.greatest.Goals.{then-x-value, else-x-val
 
 pub loop-i-init : goal.loop-i-init
 unfolding first_greatest
-loop-i-init c = (
-  omega arith,
-  omega arith,
-  omega arith,
-  c.requires.2,
-  c.well_formed.1.0.1.0.1,
-  scan_starts is_greater (valued (at c.args.s.now)) _ c.args.count,
-)
+loop-i-init c = (omega arith, scan_starts is_greater (valued (at c.args.s.now)) _ c.args.count)
 
 pub loop-i-preserved : goal.loop-i-preserved
 loop-i-preserved c =
     let loop = c.loop-i in
-    let args = c.args in
-    let s = args.s.now in
-    let count = args.count in
+    let s = c.args.s.now in
+    let count = c.args.count in
     let i = loop.i in
     let inv = loop.invariant in
     let best : Best = record { place = loop.place; value = loop.value } in
     elim c.if-x-value.branch [
       | then-x-value w ↦ rw (w.place-is, w.value-is) (
         omega arith,
-        omega arith,
-        omega arith,
-        inv.3,
-        inv.4,
-        replaced_by is_greater (valued (at s)) best _ i count inv.5 (valued (at s) i) (omega arith) w.if-x-value.true refl,
+        replaced_by is_greater (valued (at s)) best _ i count inv.1 (valued (at s) i) (omega arith) w.if-x-value.true refl,
       )
       | else-x-value w ↦ rw (w.place-is, w.value-is) (
-        omega arith,
-        omega arith,
-        omega arith,
-        inv.3,
-        inv.4,
-        kept_over is_greater (valued (at s)) best _ i count inv.5 (omega arith) w.if-x-value.false,
+        inv.0,
+        kept_over is_greater (valued (at s)) best _ i count inv.1 (omega arith) w.if-x-value.false,
       )
     ]
 
@@ -56,7 +40,7 @@ returns c =
     let place = loop.place in
     let inv = loop.invariant in
     let best : Best = record { place = place; value = loop.value } in (
-      omega arith,
-      faced_is args.ns place loop.value _ _ (omega (arith, inv.4))
-          (scanned_all is_greater (valued (at s)) best _ loop.i args.count inv.5 (omega arith)),
+      inv.0,
+      faced_is args.ns place loop.value _ _ (omega arith)
+          (scanned_all is_greater (valued (at s)) best _ loop.i args.count inv.1 (omega arith)),
     )

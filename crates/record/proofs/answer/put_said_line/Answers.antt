@@ -2,11 +2,11 @@
 use Rattle.record.proofs.Lines.{put_next, said_alone_put}
 use Rattle.record.proofs.answer.put_said_line.Goals as goal
 
-pub returns-then-further-eq0 : goal.returns-then-further-eq0
-returns-then-further-eq0 c =
+pub returns-then-said-eq0 : goal.returns-then-said-eq0
+returns-then-said-eq0 c =
     let put_answer_line' = c.put_answer_line-first in
     let args' = c.args in
-    said_alone_put args'.said _ _ _ c.if-further-eq0.true put_answer_line'.ensures.put
+    said_alone_put args'.said _ _ _ c.if-said-eq0.true put_answer_line'.ensures.put
 
 pub returns : goal.returns
 returns c =

@@ -13,15 +13,5 @@ bounds-out-2 c = simp length-set (omega arith)
 
 pub returns : goal.returns
 returns c =
-    let state_number3' = c.state_number-3 in
-    let state_number2' = c.state_number-2 in
-    let state_number' = c.state_number in
-    let args' = c.args in
-    let pre' = c.requires in
-    rw (
-      c.state_number-4.ensures,
-      state_number3'.ensures,
-      state_number2'.ensures,
-      state_number'.ensures,
-    )
-    (over_stores (_ ∷ _ ∷ _ ∷ _ ∷ []) args'.out.now (pre'))
+    rw (c.from-4.ensures, c.from-3.ensures, c.from-2.ensures, c.from.ensures)
+    (over_stores (_ ∷ _ ∷ _ ∷ _ ∷ []) c.args.out.now c.requires)

@@ -12,7 +12,7 @@ loop-i-init c =
     let args' = c.args in
     let good' = c.well_formed in
     let size : length args'.touches ≡ most_further = good'.1.0.1.0.1 in
-    no_line_yet args'.touches args'.out.now c.few-last.result (omega arith) (omega arith) c.requires
+    no_line_yet args'.touches args'.out.now c.min-last.result (omega arith) (omega arith) c.requires
 
 pub loop-i-preserved : goal.loop-i-preserved
 loop-i-preserved c =
@@ -25,11 +25,11 @@ loop-i-preserved c =
 pub returns : goal.returns
 returns c =
     let loop' = c.loop-i in
-    let few' = c.few-last in
+    let last' = c.min-last in
     let args' = c.args in
     let good' = c.well_formed in
     let size : length args'.touches ≡ most_further = good'.1.0.1.0.1 in
-    let same = row_held args'.touches most_further args'.n few'.result size few'.ensures in
+    let same = row_held args'.touches most_further args'.n last'.result size last'.ensures in
     record {
       put = lines_put args'.touches _ _ _ _ loop'.i args'.n c.loop-i-test.false same loop'.invariant;
       upper_bound = omega arith;

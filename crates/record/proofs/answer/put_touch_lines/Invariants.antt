@@ -1,10 +1,6 @@
 -- The loop: the lines of the first i results stand at the front. Assumes nothing.
-use Prim.Native.Nat.{◌-◌}
 use Rattle.record.proofs.Lines.{LinesSoFar}
 use Rattle.record.proofs.answer.put_touch_lines.Given as goal
 
 abbrev pub invariant-loop-i : goal.invariant-loop-i
 invariant-loop-i l = LinesSoFar l.touches l.initial.out l.last l.out l.at l.i
-
-abbrev pub decreases-loop-i : goal.decreases-loop-i
-decreases-loop-i l = l.last - l.i

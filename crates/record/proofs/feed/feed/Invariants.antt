@@ -1,11 +1,8 @@
--- The loop of `feed`: what it knows (`SoFar`), that this holds before the first turn and gives the contract at the end.
--- Assumes nothing.
+-- The loop of `feed`: what it knows (`SoFar`). Assumes nothing.
 use Prim.Native.Nat.{◌-◌}
 use lib.ListN.{length, take}
 use Rattle.record_definitions.specs.Server.{reply_line}
 use Rattle.record_definitions.proofs.Feeding.{SoFar}
-use Rattle.record_definitions.specs.Server.{reply_line}
-use Rattle.record_definitions.specs.Server.{reply_line}
 use Rattle.record.proofs.feed.feed.Given as goal
 
 abbrev pub invariant-loop-i : goal.invariant-loop-i

@@ -5,13 +5,13 @@ use Rattle.shape_definitions.specs.Edge.{b2_set_one_sided}
 use Rattle.algebra.proofs.Booleans.{chosen, unchosen}
 use Rattle.shapes.proofs.b2_edge_shape.b2_set_one_sided.Goals as goal
 
-pub returns-then-in0-in1 : goal.returns-then-in0-in1
+pub returns-then-not-in0-in1 : goal.returns-then-not-in0-in1
 unfolding b2_set_one_sided
-returns-then-in0-in1 c =
+returns-then-not-in0-in1 c =
     let args = c.args in
-    chosen (point_in_range args.v0 && point_in_range args.v1 && point_in_range args.v2
+    unchosen (point_in_range args.v0 && point_in_range args.v1 && point_in_range args.v2
     && point_in_range args.v3) _ _ _
-    c.if-in0-in1.true
+    c.if-not-in0-in1.true
     (simp (
       c.point_in_range-in3.ensures,
       c.point_in_range-in2.ensures,
@@ -23,9 +23,9 @@ pub returns : goal.returns
 unfolding b2_set_one_sided
 returns c =
     let args = c.args in
-    unchosen (point_in_range args.v0 && point_in_range args.v1 && point_in_range args.v2
+    chosen (point_in_range args.v0 && point_in_range args.v1 && point_in_range args.v2
     && point_in_range args.v3) _ _ _
-    c.if-in0-in1.false
+    c.if-not-in0-in1.false
     (simp (
       c.point_in_range-in3.ensures,
       c.point_in_range-in2.ensures,

@@ -5,16 +5,16 @@ use Rattle.shape_definitions.specs.Edge.{b2_set_two_sided}
 use Rattle.algebra.proofs.Booleans.{chosen, unchosen}
 use Rattle.shapes.proofs.b2_edge_shape.b2_set_two_sided.Goals as goal
 
-pub returns-then-in1-in2 : goal.returns-then-in1-in2
+pub returns-then-not-in1-in2 : goal.returns-then-not-in1-in2
 unfolding b2_set_two_sided
-returns-then-in1-in2 c =
+returns-then-not-in1-in2 c =
     let args = c.args in
-    chosen (point_in_range args.v1 && point_in_range args.v2) _ _ _ c.if-in1-in2.true
+    unchosen (point_in_range args.v1 && point_in_range args.v2) _ _ _ c.if-not-in1-in2.true
     (simp (c.point_in_range-in2.ensures, c.point_in_range-in1.ensures))
 
 pub returns : goal.returns
 unfolding b2_set_two_sided
 returns c =
     let args = c.args in
-    unchosen (point_in_range args.v1 && point_in_range args.v2) _ _ _ c.if-in1-in2.false
+    chosen (point_in_range args.v1 && point_in_range args.v2) _ _ _ c.if-not-in1-in2.false
     (simp (c.point_in_range-in2.ensures, c.point_in_range-in1.ensures))

@@ -14,8 +14,7 @@ unfolding b2_polygon_shape_set_as_box
 returns-then-not-hx_in-hy_in c =
     let args = c.args in
     let both = c.coordinate_in_range-hx_in.result && c.coordinate_in_range-hy_in.result in
-    c.refused.ensures
-    ∙ unchosen (coordinate_in_range args.hx && coordinate_in_range args.hy) both _ _ c.if-not-hx_in-hy_in.true
+    unchosen (coordinate_in_range args.hx && coordinate_in_range args.hy) both _ _ c.if-not-hx_in-hy_in.true
     (simp (c.coordinate_in_range-hy_in.ensures, c.coordinate_in_range-hx_in.ensures))
 
 pub returns : goal.returns
@@ -23,8 +22,8 @@ unfolding b2_polygon_shape_set_as_box
 returns c =
     let args = c.args in
     let both = c.coordinate_in_range-hx_in.result && c.coordinate_in_range-hy_in.result in
-    simp (c.put_four-ns.ensures, c.put_four-vs.ensures)
-    (chosen (coordinate_in_range args.hx && coordinate_in_range args.hy) both
+    c.box_with.ensures
+    ∙ chosen (coordinate_in_range args.hx && coordinate_in_range args.hy) both
     (box_with args.old origin (box_corners args.hx args.hy) box_normals)
     (refused shape_out_of_range args.old) c.if-not-hx_in-hy_in.false
-    (simp (c.coordinate_in_range-hy_in.ensures, c.coordinate_in_range-hx_in.ensures)))
+    (simp (c.coordinate_in_range-hy_in.ensures, c.coordinate_in_range-hx_in.ensures))

@@ -1,7 +1,7 @@
 -- The shape numbers are in range, or not; then sine and cosine. Assumes nothing.
-use mathlib.Core.Path.{◌≡◌, ◌∙◌, ap}
+use mathlib.Core.Path.{◌≡◌, ◌∙◌, ap, ap₂}
 use mathlib.Core.Bool.{Bool, false, not, ◌&&◌}
-use mathlib.Core.List.{map}
+use mathlib.Core.List.{[], ◌∷◌, map}
 use lib.Ieee.{Float}
 use Rattle.floats.specs.declared.b2_math.B2vec2.{B2vec2}
 use Rattle.floats.specs.declared.b2_math.B2Rot.{B2Rot}
@@ -11,6 +11,7 @@ use Rattle.shape_definitions.specs.declared.b2_polygon_shape.B2polygonShape.{B2p
 use Rattle.shape_definitions.specs.Refusal.{shape_out_of_range, placement_out_of_range}
 use Rattle.shape_definitions.specs.Polygon.{refused}
 use Rattle.shape_definitions.specs.Boxes.{box_corners, box_normals, box_with, b2_polygon_shape_set_as_box_angle}
+use Rattle.std.proofs.Common.{rules}
 use Rattle.algebra.proofs.Booleans.{chosen, unchosen}
 use Rattle.shapes.proofs.b2_polygon_shape.b2_polygon_shape_set_as_box_angle.Goals as goal
 
@@ -31,8 +32,7 @@ pub returns-then-not-hx_in-hy_in : goal.returns-then-not-hx_in-hy_in
 unfolding b2_polygon_shape_set_as_box_angle
 returns-then-not-hx_in-hy_in c =
     let args = c.args in
-    c.refused.ensures
-    ∙ chosen (not (coordinate_in_range args.hx && coordinate_in_range args.hy && point_in_range args.center)) _
+    chosen (not (coordinate_in_range args.hx && coordinate_in_range args.hy && point_in_range args.center)) _
     _ _ (ap not c.if-not-hx_in-hy_in.true)
     (simp (
       c.point_in_range-center_in.ensures,
@@ -44,8 +44,7 @@ pub returns-then-not-rotation_in_range : goal.returns-then-not-rotation_in_range
 unfolding b2_polygon_shape_set_as_box_angle
 returns-then-not-rotation_in_range c =
     let args = c.args in
-    c.refused-then-not-rotation_in_range.ensures
-    ∙ chosen (not (rotation_in_range args.q)) _ _ _ (ap not c.if-not-rotation_in_range.true) (simp c.rotation_in_range.ensures)
+    chosen (not (rotation_in_range args.q)) _ _ _ (ap not c.if-not-rotation_in_range.true) (simp c.rotation_in_range.ensures)
     ∙ unchosen (not (coordinate_in_range args.hx && coordinate_in_range args.hy
     && point_in_range args.center)) _ _ _
     (ap not c.if-not-hx_in-hy_in.false)
@@ -55,26 +54,25 @@ returns-then-not-rotation_in_range c =
       c.coordinate_in_range-hx_in.ensures,
     ))
 
+-- four points, each of them f of another
+four : (f : B2vec2 → B2vec2) (p q r s a b c d : B2vec2) → a ≡ f p → b ≡ f q → c ≡ f r → d ≡ f s
+    → a ∷ b ∷ c ∷ d ∷ [] ≡ map f (p ∷ q ∷ r ∷ s ∷ [])
+four f p q r s a b c d a_is b_is c_is d_is = simp (a_is, b_is, c_is, d_is)
+
 pub returns : goal.returns
 unfolding b2_polygon_shape_set_as_box_angle
 returns c =
     let args = c.args in
-    simp (
-      c.put_four-ns.ensures,
-      c.b2_mul_rot_by_vec2-4.ensures,
-      c.b2_mul_rot_by_vec2-3.ensures,
-      c.b2_mul_rot_by_vec2-2.ensures,
-      c.b2_mul_rot_by_vec2.ensures,
-      c.put_four-vs.ensures,
-      c.b2_mul_transform_by_vec2-4.ensures,
-      c.b2_mul_transform_by_vec2-3.ensures,
-      c.b2_mul_transform_by_vec2-2.ensures,
-      c.b2_mul_transform_by_vec2.ensures,
-    )
-    (box_built args.old args.hx args.hy args.center args.q _ _ (ap not c.if-not-hx_in-hy_in.false)
+    c.box_with.ensures
+    ∙ ap₂ (box_with args.old args.center)
+    (four (b2_mul_transform_by_vec2 (record { p = args.center; q = args.q })) _ _ _ _ _ _ _ _
+    (search rules) (search rules) (search rules) (search rules))
+    (four (b2_mul_rot_by_vec2 args.q) _ _ _ _ _ _ _ _
+    (search rules) (search rules) (search rules) (search rules))
+    ∙ box_built args.old args.hx args.hy args.center args.q _ _ (ap not c.if-not-hx_in-hy_in.false)
     (simp (
       c.point_in_range-center_in.ensures,
       c.coordinate_in_range-hy_in.ensures,
       c.coordinate_in_range-hx_in.ensures,
     ))
-    (ap not c.if-not-rotation_in_range.false) (simp c.rotation_in_range.ensures))
+    (ap not c.if-not-rotation_in_range.false) (simp c.rotation_in_range.ensures)

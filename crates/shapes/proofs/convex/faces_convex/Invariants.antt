@@ -2,13 +2,10 @@
 use mathlib.Core.Path.{◌≡◌}
 use mathlib.Core.Bool.{true}
 use mathlib.Core.List.{zip_with}
-use Prim.Native.Nat.{◌≤◌, ◌-◌}
+use Prim.Native.Nat.{◌≤◌}
 use Rattle.floats.specs.B2Math.{vec2}
 use Rattle.shape_definitions.specs.Validate.{faces_convex}
 use Rattle.shapes.proofs.convex.faces_convex.Given as goal
 
 abbrev pub invariant-loop-i : goal.invariant-loop-i
-invariant-loop-i l = (l.i ≤ l.count) × (l.count ≤ 8) × (faces_convex (zip_with vec2 l.xs l.ys) l.count l.i ≡ true)
-
-abbrev pub decreases-loop-i : goal.decreases-loop-i
-decreases-loop-i l = l.count - l.i
+invariant-loop-i l = (l.i ≤ l.count) × (l.count ≤ 8) × (faces_convex (zip_with vec2 l.corners.xs l.corners.ys) l.count l.i ≡ true)

@@ -2,7 +2,7 @@
 -- f * 2^(g - 277), f being the significand and g the exponent and 127. Assumes nothing.
 use Rattle.std.proofs.Common.{◌≡◌, ℕ, ◌+◌, ◌-◌, ◌*◌, ◌/◌, ◌%◌, ◌^◌, ◌<◌, ◌≤◌, sym, ap, ◌∙◌, subst, arith}
 use Rattle.sqrt.specs.Root.{NearestRoot, DigitsOf}
-use Rattle.sqrt.proofs.RootPattern.{widened, widened_bounds}
+use Rattle.sqrt.proofs.RootPattern.{widened}
 use Rattle.sqrt.proofs.RootDigits.{significand, scale, normal_digits_of}
 use Rattle.sqrt.proofs.digits.normal_digits.Goals as goal
 
@@ -29,11 +29,6 @@ number_widened b =
     ap (λ (x : ℕ). (x + 2 ^ 23) * 2 ^ 23 * (last_digits b / 2 ^ 23 + 1)) digits
     ∙ ap (λ (x : ℕ). significand b * 2 ^ 23 * (x + 1)) parity
 
-bounds : (b n : ℕ) → n ≡ number (last_digits b) → (2 ^ 46 ≤ n) × (n < 2 ^ 48)
-bounds b n n_is =
-    subst (λ (m : ℕ). (2 ^ 46 ≤ m) × (m < 2 ^ 48)) (sym (n_is ∙ number_widened b))
-    (widened_bounds (significand b) (scale b) (omega arith) (omega arith))
-
 -- k is the exponent that the code gives its result
 found : (b n k r : ℕ) → 2 ^ 23 ≤ b → b < 255 * 2 ^ 23 → n ≡ number (last_digits b) → k ≡ scale b / 2 - 1
     → NearestRoot n r → DigitsOf b n r k
@@ -44,15 +39,10 @@ found b n k r b_low b_high n_is k_is r_nearest =
     subst (λ (e : ℕ). DigitsOf b n r e) (sym k_is)
     (subst (λ (m : ℕ). DigitsOf b m r (scale b / 2 - 1)) same (normal_digits_of b r b_low b_high nearest))
 
-pub nearest_root-requires : goal.nearest_root-requires
-nearest_root-requires c =
-    let n_bounds = bounds c.args.b c.radicand-n.result c.radicand-n.ensures in
-    (omega arith, n_bounds.1, c.candidate.ensures)
-
 pub returns : goal.returns
 returns c =
-    found c.args.b c.radicand-n.result _ c.nearest_root.result (omega arith)
+    found c.args.b c.of-radicand.result.n _ c.nearest_root.result (omega arith)
     (omega arith)
-    c.radicand-n.ensures
+    c.of-radicand.ensures
     (omega arith)
     c.nearest_root.ensures

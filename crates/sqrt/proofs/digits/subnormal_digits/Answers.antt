@@ -1,12 +1,9 @@
 -- `subnormal_digits` meets its contract. The loop's invariant: f * 2^g stays b * 2^128, and g is from 105 to 128. Its
 -- measure is what f lacks. Assumes nothing.
-use Rattle.std.proofs.Common.{◌<◌, refl, ◌∙◌, arith, lit≤}
-use Rattle.sqrt.proofs.RootPattern.{doubled_scale, scale_above_105, widened_bounds}
+use Rattle.std.proofs.Common.{◌<◌, ◌∙◌, arith}
+use Rattle.sqrt.proofs.RootPattern.{doubled_scale, scale_above_105}
 use Rattle.sqrt.proofs.RootDigits.{subnormal_digits_of}
 use Rattle.sqrt.proofs.digits.subnormal_digits.Goals as goal
-
-pub loop-f-init : goal.loop-f-init
-loop-f-init c = (omega arith, omega arith, omega arith, refl, lit≤ tt)
 
 pub loop-f-preserved : goal.loop-f-preserved
 loop-f-preserved c =
@@ -15,14 +12,6 @@ loop-f-preserved c =
     let same = c.loop-f.invariant.3 in
     let g_high : 105 < g = scale_above_105 c.args.b f g (omega arith) (omega arith) same in
     (omega arith, omega arith, omega arith, same ∙ doubled_scale f g (omega arith), omega arith)
-
-pub overflow_mul-n-2 : goal.overflow_mul-n-2
-overflow_mul-n-2 c = omega (arith, (widened_bounds c.loop-f.f c.loop-f.g (omega arith) (omega arith)).1)
-
-pub bisected_root-requires : goal.bisected_root-requires
-bisected_root-requires c =
-    let n_bounds = widened_bounds c.loop-f.f c.loop-f.g (omega arith) (omega arith) in
-    (omega arith, n_bounds.1)
 
 pub returns : goal.returns
 returns c =

@@ -11,22 +11,13 @@ use Rattle.sqrt.proofs.root.root_by_steps.Goals.{then-x+then-b-ge-LEADING+else-b
 is_f32 : (x : Float) → fits binary32 x ≡ true → T (fits binary32 x)
 is_f32 x is = subst T (sym is) tt
 
-pub float_to_bits-b : goal.float_to_bits-b
-float_to_bits-b c = not_nan _ c.if-x.true
-
 pub overflow_cast-b : goal.overflow_cast-b
 overflow_cast-b c = omega (arith, to_bits-lt binary32 c.args.x (is_f32 _ c.well_formed.0.1))
-
-pub exact_or_rounded-requires : goal.exact_or_rounded-requires
-exact_or_rounded-requires c = c.normal_digits.ensures.found
 
 pub returns-then-b-lt-INFINITE : goal.returns-then-b-lt-INFINITE
 returns-then-b-lt-INFINITE c =
     steps_by_pattern c.args.x _ (is_f32 _ c.well_formed.0.1)
     (c.exact_or_rounded.ensures ∙ sym c.normal_digits.ensures.steps)
-
-pub exact_or_rounded-requires-then-b-gt0 : goal.exact_or_rounded-requires-then-b-gt0
-exact_or_rounded-requires-then-b-gt0 c = c.subnormal_digits.ensures.found
 
 pub returns-then-b-gt0 : goal.returns-then-b-gt0
 returns-then-b-gt0 c =

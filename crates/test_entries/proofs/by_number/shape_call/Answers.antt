@@ -1,4 +1,5 @@
 -- `shape_call` answers what the entry of its number answers, and nothing under another number. Assumes nothing.
+use native.Mathlib.Omega.{arith}
 use Rattle.test_entries.specs.ByNumber.{shape_answer}
 use Rattle.test_entries.proofs.UnderNumber.{under_number, no_shape}
 use Rattle.test_entries.proofs.by_number.shape_call.Goals as goal
@@ -35,6 +36,5 @@ returns-in-6 c =
 
 pub returns-in_default : goal.returns-in_default
 returns-in_default c =
-    let rest = c.in_default.in_default-own.rest in
-    no_shape _ _ _ rest.0.0.0.0.0.1 rest.0.0.0.0.1 rest.0.0.0.1 rest.0.0.1 rest.0.1
-    rest.1
+    no_shape _ _ _ (λ is. omega arith) (λ is. omega arith) (λ is. omega arith) (λ is. omega arith)
+    (λ is. omega arith) (λ is. omega arith)

@@ -16,7 +16,11 @@ pub returns-then-number-gt-LARGEST_TURN : goal.returns-then-number-gt-LARGEST_TU
 unfolding heading_answer
 returns-then-number-gt-LARGEST_TURN c =
     answered 2 _ _ _ _ true c.if-input-ne8.false refl _ _ _ refl
-    (simp (lt-ltb _ _ (rw c.word-number.ensures at c.if-number-gt-LARGEST_TURN.true)))
+    (simp (
+      c.from-then-number-gt-LARGEST_TURN.ensures,
+      c.from.ensures,
+      lt-ltb _ _ (rw c.word-number.ensures at c.if-number-gt-LARGEST_TURN.true),
+    ))
     c.put_words.ensures
 
 pub slice_bounds-heading-end : goal.slice_bounds-heading-end

@@ -1,6 +1,7 @@
 -- Entry 16 answers the words of normalising, or nothing to a request of another length. Assumes nothing.
-use mathlib.Core.Path.{refl}
+use mathlib.Core.Path.{refl, ◌∙◌}
 use mathlib.Core.Bool.{true}
+use Rattle.wire.proofs.Bytes.{flag_is}
 use Rattle.wire.proofs.Requests.{other_length, answered}
 use Rattle.test_entries.specs.Numbers.{normalize_answer}
 use Rattle.test_entries.proofs.numbers.normalize.Goals as goal
@@ -14,7 +15,7 @@ unfolding normalize_answer
 returns c =
     answered 3 _ _ _ _ true c.if-input-ne12.false refl _ _ _ refl
     (simp (
-      c.flag.ensures,
+      c.from.ensures ∙ flag_is c.b2_normalize-n.result.had_length,
       c.f32_to_bits-3.ensures,
       c.f32_to_bits-2.ensures,
       c.f32_to_bits.ensures,

@@ -1,5 +1,6 @@
 -- Entry 1 answers the outline of the request's points, or nothing where their number is not the request's length.
 -- Assumes nothing.
+use native.Mathlib.Omega.{arith}
 use Rattle.test_entries.proofs.SetEntry.{set_short, set_malformed, set_answered}
 use Rattle.test_entries.proofs.outlines.set.Goals as goal
 
@@ -12,5 +13,5 @@ returns-then-input-n c = set_malformed _ _ _ c.word-n.ensures c.if-input-n.true
 pub returns : goal.returns
 returns c =
     set_answered _ _ _ c.word-n.ensures _ _ _ _ _ _ c.if-input-n.false c.polygon-old.ensures
-    c.points-points.ensures.0 c.at_most_eight.ensures.2 c.b2_polygon_shape_set_core-answer.ensures
+    c.points-points.ensures.0 (λ few. omega arith) c.b2_polygon_shape_set_core-answer.ensures
     c.put_polygon.ensures

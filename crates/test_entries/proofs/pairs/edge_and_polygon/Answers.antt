@@ -1,31 +1,25 @@
--- Entry 11 answers the manifold of a wall and an outline, or nothing to another length, kind or flag. Assumes nothing.
-use mathlib.Core.Path.{ap₂}
-use mathlib.Core.Bool.{◌&&◌}
-use Rattle.wire.proofs.Requests.{other_length, unknown, answered}
-use Rattle.test_entries.specs.Pairs.{edge_and_polygon_answer}
+-- Entry 11 answers the manifold of a wall and an outline, or nothing to another length, or to another kind or flag.
+-- Assumes nothing.
+use mathlib.Core.Path.{ap}
+use mathlib.Core.Bool.{Bool, ◌&&◌}
+use Rattle.std.proofs.Math.Bool.{and-true}
+use Rattle.wire.specs.ContactRecords.{kind_known}
+use Rattle.contact_definitions.specs.B2CollideEdge.{b2_collide_edge_and_polygon}
+use Rattle.wire.specs.ContactAnswers.{manifold_answer_words}
+use Rattle.wire.proofs.Requests.{unread, read}
+use Rattle.test_entries.specs.Pairs.{edge_and_polygon_answer, pair_at}
 use Rattle.test_entries.proofs.pairs.edge_and_polygon.Goals as goal
 
-pub returns-then-input-ne284 : goal.returns-then-input-ne284
-unfolding edge_and_polygon_answer
-returns-then-input-ne284 c = other_length 71 _ _ _ _ c.if-input-ne284.true
-
-pub returns-then-not-kind-flag : goal.returns-then-not-kind-flag
-unfolding edge_and_polygon_answer
-returns-then-not-kind-flag c =
-    unknown 71 _ _ _ _ _ c.if-input-ne284.false (ap₂ ◌&&◌ c.kind_known-kind.ensures c.edge_known-flag.ensures)
-    c.if-not-kind-flag.true
+pub returns-in_default : goal.returns-in_default
+unfolding edge_and_polygon_answer pair_at
+returns-in_default c =
+    unread _ 71 _ _ _
+    (ap (λ (b : Bool). kind_known c.args.input.now 1 && b) (and-true _))
+    _ _ c.in_default.ensures
 
 pub returns : goal.returns
-unfolding edge_and_polygon_answer
+unfolding edge_and_polygon_answer pair_at
 returns c =
-    answered 71 _ _ _ _ _ c.if-input-ne284.false (ap₂ ◌&&◌ c.kind_known-kind.ensures c.edge_known-flag.ensures)
-    _ _ _ c.if-not-kind-flag.false
-    (simp (
-      c.b2_collide_edge_and_polygon-answer.ensures,
-      c.manifold-old.ensures,
-      c.edge-a.ensures,
-      c.transform-xfa.ensures,
-      c.polygon-b.ensures,
-      c.transform-xfb.ensures,
-    ))
-    c.put_manifold.ensures
+    read _ 71 _ _ _ (ap (λ (b : Bool). kind_known c.args.input.now 1 && b) (and-true _))
+    (λ p. manifold_answer_words (b2_collide_edge_and_polygon p.old p.a p.xfa p.b p.xfb)) _ _ _ _ _ c.in-Some.ensures
+    (ap manifold_answer_words c.b2_collide_edge_and_polygon-answer.ensures) c.put_manifold.ensures

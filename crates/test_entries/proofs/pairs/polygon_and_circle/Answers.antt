@@ -1,27 +1,20 @@
--- Entry 8 answers the manifold of an outline and a circle, or nothing to another length or kind. Assumes nothing.
-use Rattle.wire.proofs.Requests.{other_length, unknown, answered}
-use Rattle.test_entries.specs.Pairs.{polygon_and_circle_answer}
+-- Entry 8 answers the manifold of an outline and a circle, or nothing to another length, or to another kind.
+-- Assumes nothing.
+use mathlib.Core.Path.{ap}
+use Rattle.std.proofs.Math.Bool.{and-true}
+use Rattle.contact_definitions.specs.B2CollideCircle.{b2_collide_polygon_and_circle}
+use Rattle.wire.specs.ContactAnswers.{manifold_answer_words}
+use Rattle.wire.proofs.Requests.{unread, read}
+use Rattle.test_entries.specs.Pairs.{polygon_and_circle_answer, pair_at}
 use Rattle.test_entries.proofs.pairs.polygon_and_circle.Goals as goal
 
-pub returns-then-input-ne256 : goal.returns-then-input-ne256
-unfolding polygon_and_circle_answer
-returns-then-input-ne256 c = other_length 64 _ _ _ _ c.if-input-ne256.true
-
-pub returns-then-not-kind_known : goal.returns-then-not-kind_known
-unfolding polygon_and_circle_answer
-returns-then-not-kind_known c =
-    unknown 64 _ _ _ _ _ c.if-input-ne256.false c.kind_known.ensures c.if-not-kind_known.true
+pub returns-in_default : goal.returns-in_default
+unfolding polygon_and_circle_answer pair_at
+returns-in_default c = unread _ 64 _ _ _ (and-true _) _ _ c.in_default.ensures
 
 pub returns : goal.returns
-unfolding polygon_and_circle_answer
+unfolding polygon_and_circle_answer pair_at
 returns c =
-    answered 64 _ _ _ _ _ c.if-input-ne256.false c.kind_known.ensures _ _ _ c.if-not-kind_known.false
-    (simp (
-      c.b2_collide_polygon_and_circle-answer.ensures,
-      c.manifold-old.ensures,
-      c.polygon-a.ensures,
-      c.transform-xfa.ensures,
-      c.circle-b.ensures,
-      c.transform-xfb.ensures,
-    ))
-    c.put_manifold.ensures
+    read _ 64 _ _ _ (and-true _)
+    (λ p. manifold_answer_words (b2_collide_polygon_and_circle p.old p.a p.xfa p.b p.xfb)) _ _ _ _ _ c.in-Some.ensures
+    (ap manifold_answer_words c.b2_collide_polygon_and_circle-answer.ensures) c.put_manifold.ensures

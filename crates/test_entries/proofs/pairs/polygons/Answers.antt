@@ -1,27 +1,19 @@
--- Entry 9 answers the manifold of two outlines, or nothing to another length or kind. Assumes nothing.
-use Rattle.wire.proofs.Requests.{other_length, unknown, answered}
-use Rattle.test_entries.specs.Pairs.{polygons_answer}
+-- Entry 9 answers the manifold of two outlines, or nothing to another length, or to another kind. Assumes nothing.
+use mathlib.Core.Path.{ap}
+use Rattle.std.proofs.Math.Bool.{and-true}
+use Rattle.contact_definitions.specs.B2CollidePolygon.{b2_collide_polygons}
+use Rattle.wire.specs.ContactAnswers.{manifold_answer_words}
+use Rattle.wire.proofs.Requests.{unread, read}
+use Rattle.test_entries.specs.Pairs.{polygons_answer, pair_at}
 use Rattle.test_entries.proofs.pairs.polygons.Goals as goal
 
-pub returns-then-input-ne388 : goal.returns-then-input-ne388
-unfolding polygons_answer
-returns-then-input-ne388 c = other_length 97 _ _ _ _ c.if-input-ne388.true
-
-pub returns-then-not-kind_known : goal.returns-then-not-kind_known
-unfolding polygons_answer
-returns-then-not-kind_known c =
-    unknown 97 _ _ _ _ _ c.if-input-ne388.false c.kind_known.ensures c.if-not-kind_known.true
+pub returns-in_default : goal.returns-in_default
+unfolding polygons_answer pair_at
+returns-in_default c = unread _ 97 _ _ _ (and-true _) _ _ c.in_default.ensures
 
 pub returns : goal.returns
-unfolding polygons_answer
+unfolding polygons_answer pair_at
 returns c =
-    answered 97 _ _ _ _ _ c.if-input-ne388.false c.kind_known.ensures _ _ _ c.if-not-kind_known.false
-    (simp (
-      c.b2_collide_polygons-answer.ensures,
-      c.manifold-old.ensures,
-      c.polygon-a.ensures,
-      c.transform-xfa.ensures,
-      c.polygon-b.ensures,
-      c.transform-xfb.ensures,
-    ))
-    c.put_manifold.ensures
+    read _ 97 _ _ _ (and-true _)
+    (λ p. manifold_answer_words (b2_collide_polygons p.old p.a p.xfa p.b p.xfb)) _ _ _ _ _ c.in-Some.ensures
+    (ap manifold_answer_words c.b2_collide_polygons-answer.ensures) c.put_manifold.ensures

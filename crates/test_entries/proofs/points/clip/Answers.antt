@@ -1,6 +1,7 @@
 -- Entry 12 answers what is left of a segment, or nothing to a request of another length. Assumes nothing.
-use mathlib.Core.Path.{refl}
+use mathlib.Core.Path.{refl, ap, ◌∙◌}
 use mathlib.Core.Bool.{true}
+use Rattle.wire.specs.ContactAnswers.{clip_answer_words}
 use Rattle.wire.proofs.Requests.{other_length, answered}
 use Rattle.test_entries.specs.Points.{clip_answer}
 use Rattle.test_entries.proofs.points.clip.Goals as goal
@@ -13,8 +14,7 @@ pub returns : goal.returns
 unfolding clip_answer
 returns c =
     answered 17 _ _ _ _ true c.if-input-ne68.false refl _ _ _ refl
-    (simp (
-      c.b2_clip_segment_to_line-answer.ensures,
+    (ap clip_answer_words c.b2_clip_segment_to_line-answer.ensures ∙ simp (
       c.clip_vertices-old.ensures,
       c.clip_vertices-ends.ensures,
       c.vector-normal.ensures,

@@ -1,7 +1,8 @@
 -- Entry 14 answers the point states of two manifolds, or nothing to another length, state or kind. Assumes nothing.
-use mathlib.Core.Path.{ap₂}
-use mathlib.Core.Bool.{◌&&◌}
-use Rattle.wire.proofs.Requests.{other_length, unknown, answered}
+use mathlib.Core.Path.{refl, sym, ap, ◌∙◌}
+use mathlib.Core.Bool.{true, false}
+use Rattle.wire.specs.ContactAnswers.{states_answer_words}
+use Rattle.wire.proofs.Requests.{other_length, unknown, answered, not_known, is_known}
 use Rattle.test_entries.specs.Points.{point_states_answer}
 use Rattle.test_entries.proofs.points.states.Goals as goal
 
@@ -9,23 +10,36 @@ pub returns-then-input-ne148 : goal.returns-then-input-ne148
 unfolding point_states_answer
 returns-then-input-ne148 c = other_length 37 _ _ _ _ c.if-input-ne148.true
 
-pub returns-then-not-states-kind1 : goal.returns-then-not-states-kind1
+pub returns-in_default : goal.returns-in_default
 unfolding point_states_answer
-returns-then-not-states-kind1 c =
-    unknown 37 _ _ _ _ _ c.if-input-ne148.false
-    (ap₂ ◌&&◌ (ap₂ ◌&&◌ c.states_known-states.ensures c.kind_known-kind1.ensures)
-    c.kind_known-kind2.ensures) c.if-not-states-kind1.true
+returns-in_default c =
+    unknown 37 _ _ _ _ false c.if-input-ne148.false (sym (simp (not_known _ _ c.in_default.ensures))) refl
+
+pub returns-in_default-known_manifold : goal.returns-in_default-known_manifold
+unfolding point_states_answer
+returns-in_default-known_manifold c =
+    let given = is_known _ _ c.in-Some.given c.in-Some.ensures in
+    unknown 37 _ _ _ _ false c.if-input-ne148.false
+    (sym (simp (given.0, not_known _ _ c.in_default-known_manifold.ensures))) refl
+
+pub returns-in_default-known_manifold-2 : goal.returns-in_default-known_manifold-2
+unfolding point_states_answer
+returns-in_default-known_manifold-2 c =
+    let given = is_known _ _ c.in-Some.given c.in-Some.ensures in
+    let m1 = is_known _ _ c.in-Some-known_manifold.m1 c.in-Some-known_manifold.ensures in
+    unknown 37 _ _ _ _ false c.if-input-ne148.false
+    (sym (simp (given.0, m1.0, not_known _ _ c.in_default-known_manifold-2.ensures))) refl
 
 pub returns : goal.returns
 unfolding point_states_answer
 returns c =
-    answered 37 _ _ _ _ _ c.if-input-ne148.false
-    (ap₂ ◌&&◌ (ap₂ ◌&&◌ c.states_known-states.ensures c.kind_known-kind1.ensures)
-    c.kind_known-kind2.ensures) _ _ _ c.if-not-states-kind1.false
-    (simp (
-      c.b2_get_point_states-answer.ensures,
-      c.states-given.ensures,
-      c.manifold-m1.ensures,
-      c.manifold-m2.ensures,
+    let given = is_known _ _ c.in-Some.given c.in-Some.ensures in
+    let m1 = is_known _ _ c.in-Some-known_manifold.m1 c.in-Some-known_manifold.ensures in
+    let m2 = is_known _ _ c.in-Some-known_manifold-2.m2 c.in-Some-known_manifold-2.ensures in
+    answered 37 _ _ _ _ true c.if-input-ne148.false (sym (simp (given.0, m1.0, m2.0))) _ _ _ refl
+    (ap states_answer_words c.b2_get_point_states-answer.ensures ∙ simp (
+      given.1,
+      m1.1,
+      m2.1,
     ))
     c.put_states.ensures

@@ -1,5 +1,8 @@
 -- Entry 13 answers the world points, or nothing to another length or kind. Assumes nothing.
-use Rattle.wire.proofs.Requests.{other_length, unknown, answered}
+use mathlib.Core.Path.{refl, sym, ap, ◌∙◌}
+use mathlib.Core.Bool.{true, false}
+use Rattle.wire.specs.ContactAnswers.{world_answer_words}
+use Rattle.wire.proofs.Requests.{other_length, unknown, answered, not_known, is_known}
 use Rattle.test_entries.specs.Points.{world_points_answer}
 use Rattle.test_entries.proofs.points.world_points.Goals as goal
 
@@ -7,19 +10,19 @@ pub returns-then-input-ne140 : goal.returns-then-input-ne140
 unfolding world_points_answer
 returns-then-input-ne140 c = other_length 35 _ _ _ _ c.if-input-ne140.true
 
-pub returns-then-not-kind_known : goal.returns-then-not-kind_known
+pub returns-in_default : goal.returns-in_default
 unfolding world_points_answer
-returns-then-not-kind_known c =
-    unknown 35 _ _ _ _ _ c.if-input-ne140.false c.kind_known.ensures c.if-not-kind_known.true
+returns-in_default c =
+    unknown 35 _ _ _ _ false c.if-input-ne140.false (sym (not_known _ _ c.in_default.ensures)) refl
 
 pub returns : goal.returns
 unfolding world_points_answer
 returns c =
-    answered 35 _ _ _ _ _ c.if-input-ne140.false c.kind_known.ensures _ _ _ c.if-not-kind_known.false
-    (simp (
-      c.b2_world_manifold_initialize_core-answer.ensures,
+    let m = is_known _ _ c.in-Some.m c.in-Some.ensures in
+    answered 35 _ _ _ _ true c.if-input-ne140.false (sym m.0) _ _ _ refl
+    (ap world_answer_words c.b2_world_manifold_initialize_core-answer.ensures ∙ simp (
       c.world_manifold-old.ensures,
-      c.manifold-m.ensures,
+      m.1,
       c.transform-xfa.ensures,
       c.float-radius_a.ensures,
       c.transform-xfb.ensures,

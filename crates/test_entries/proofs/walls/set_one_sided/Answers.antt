@@ -1,24 +1,26 @@
 -- Entry 5 answers a wall that is met from one side, or nothing to another length or flag. Assumes nothing.
-use Rattle.wire.proofs.Requests.{other_length, unknown, answered}
-use Rattle.test_entries.specs.Walls.{one_sided_answer}
+use mathlib.Core.Path.{refl, sym, ap, ◌∙◌}
+use mathlib.Core.Bool.{true, false}
+use Rattle.wire.proofs.Requests.{other_length, unknown, answered, not_known, is_known}
+use Rattle.test_entries.specs.Walls.{one_sided_answer, wall_words}
 use Rattle.test_entries.proofs.walls.set_one_sided.Goals as goal
 
 pub returns-then-input-ne76 : goal.returns-then-input-ne76
 unfolding one_sided_answer
 returns-then-input-ne76 c = other_length 19 _ _ _ _ c.if-input-ne76.true
 
-pub returns-then-not-edge_known : goal.returns-then-not-edge_known
+pub returns-in_default : goal.returns-in_default
 unfolding one_sided_answer
-returns-then-not-edge_known c =
-    unknown 19 _ _ _ _ _ c.if-input-ne76.false c.edge_known.ensures c.if-not-edge_known.true
+returns-in_default c =
+    unknown 19 _ _ _ _ false c.if-input-ne76.false (sym (not_known _ _ c.in_default.ensures)) refl
 
 pub returns : goal.returns
 unfolding one_sided_answer
 returns c =
-    answered 19 _ _ _ _ _ c.if-input-ne76.false c.edge_known.ensures _ _ _ c.if-not-edge_known.false
-    (simp (
-      c.b2_set_one_sided-answer.ensures,
-      c.edge-old.ensures,
+    let old = is_known _ _ c.in-Some.old c.in-Some.ensures in
+    answered 19 _ _ _ _ true c.if-input-ne76.false (sym old.0) _ _ _ refl
+    (ap wall_words c.b2_set_one_sided-answer.ensures ∙ simp (
+      old.1,
       c.vector-v0.ensures,
       c.vector-v1.ensures,
       c.vector-v2.ensures,

@@ -1,15 +1,11 @@
 -- Behind the wall, kept off by its own sides, or by the axis found with the outline's faces. Assumes nothing.
-use mathlib.Core.Path.{refl, sym, ◌∙◌, ap}
+use mathlib.Core.Path.{refl, ◌∙◌, ap}
 use Rattle.floats.specs.B2Math.{b2_normalize, unit_or_same}
-use Rattle.floats.specs.Unit.{unit_scale}
 use Rattle.contact_definitions.specs.Manifold.{with_count}
 use Rattle.contact_definitions.specs.EdgeAxis.{right_of}
 use Rattle.wall_contacts.proofs.AxisFound.{corners_placed, apart_found}
 use Rattle.wall_contacts.proofs.Manifolds.{on_found, none_behind, in_front}
 use Rattle.wall_contacts.proofs.b2_collide_edge.edge_polygon_manifold.Goals as goal
-
-pub scaled-edge1-requires : goal.scaled-edge1-requires
-scaled-edge1-requires c = c.requires.2 ∙ ap unit_scale (sym c.b2_sub.ensures)
 
 pub returns-then-centroid_behind : goal.returns-then-centroid_behind
 returns-then-centroid_behind c =

@@ -7,10 +7,10 @@ use Rattle.wall_contacts.specs.EdgeCircle.{face_touch}
 use Rattle.wall_contacts.proofs.Regions.{foot_is}
 use Rattle.wall_contacts.proofs.edge_circle.face_touch.Goals as goal
 
-pub returns-then-farther : goal.returns-then-farther
+pub returns-then-farther_than : goal.returns-then-farther_than
 unfolding face_touch
-returns-then-farther c =
-    let farther' = c.farther in
+returns-then-farther_than c =
+    let farther' = c.farther_than in
     let b2_scale3' = c.b2_scale-p in
     let b2_add' = c.b2_add in
     let b2_scale2' = c.b2_scale-then-den in
@@ -22,14 +22,14 @@ returns-then-farther c =
     b2_scale2'.ensures b2_add'.ensures b2_scale3'.ensures in
     let test = farther'.ensures ∙ ap (farther args'.radius args'.q) foot in
     let long = sym (ap (lt zero32) b2_dot'.ensures) ∙ if1'.true in
-    simp (long, sym test ∙ c.if-farther.true)
+    simp (long, sym test ∙ c.if-farther_than.true)
 
 pub returns-then-den : goal.returns-then-den
 unfolding face_touch
 returns-then-den c =
     let facing' = c.facing in
-    let if2' = c.if-farther in
-    let farther' = c.farther in
+    let if2' = c.if-farther_than in
+    let farther' = c.farther_than in
     let b2_scale3' = c.b2_scale-p in
     let b2_add' = c.b2_add in
     let b2_scale2' = c.b2_scale-then-den in

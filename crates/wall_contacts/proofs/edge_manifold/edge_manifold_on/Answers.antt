@@ -10,7 +10,6 @@ use Rattle.contact_definitions.specs.Manifold.{with_count}
 use Rattle.wall_contacts.specs.Reference.{reference_manifold}
 use Rattle.wall_contacts.specs.AxisParts.{place_below}
 use Rattle.wall_contacts.proofs.References.{on_wall, on_face_read}
-use borrow.Author.Rules.{rules}
 use Rattle.floats.specs.declared.b2_math.B2vec2.{B2vec2}
 use Rattle.floats.specs.declared.b2_math.B2Transform.{B2Transform}
 use Rattle.shape_definitions.specs.declared.b2_polygon_shape.B2polygonShape.{B2polygonShape}
@@ -23,47 +22,6 @@ made m xf radius f = reference_manifold f m xf radius
 
 abbrev on : B2manifold → B2edgeShape → B2vec2 → B2Transform → B2polygonShape → Float → Axis → B2manifold
 on m edge edge1 xf polygon radius axis = edge_manifold_on axis (with_count m 0) edge edge1 xf polygon radius
-
-pub returns-in-Apart : goal.returns-in-Apart
-returns-in-Apart c =
-    let args' = c.args in
-    c.no_points.ensures ∙ ap (λ axis. edge_manifold_on axis (with_count args'.m 0) args'.edge args'.edge1
-    args'.xf args'.polygon args'.radius) (sym c.in-Apart.is)
-
-pub offset_bounds-nb-i : goal.offset_bounds-nb-i
-offset_bounds-nb-i c =
-    let args' = c.args in
-    let pre' = c.requires in
-    let below = subst (place_below args'.polygon.m_count) c.in-FaceB.is pre'.2 in
-    search rules
-
-pub bounds-nb-i : goal.bounds-nb-i
-bounds-nb-i c =
-    let args' = c.args in
-    let pre' = c.requires in
-    let below = subst (place_below args'.polygon.m_count) c.in-FaceB.is pre'.2 in
-    search rules
-
-pub offset_bounds-vb-i : goal.offset_bounds-vb-i
-offset_bounds-vb-i c =
-    let args' = c.args in
-    let pre' = c.requires in
-    let below = subst (place_below args'.polygon.m_count) c.in-FaceB.is pre'.2 in
-    search rules
-
-pub bounds-vb-i : goal.bounds-vb-i
-bounds-vb-i c =
-    let args' = c.args in
-    let pre' = c.requires in
-    let below = subst (place_below args'.polygon.m_count) c.in-FaceB.is pre'.2 in
-    search rules
-
-pub reference_b-f-requires : goal.reference_b-f-requires
-reference_b-f-requires c =
-    let args' = c.args in
-    let pre' = c.requires in
-    let below = subst (place_below args'.polygon.m_count) c.in-FaceB.is pre'.2 in
-    (below, pre'.1, pre'.4.x.size, pre'.4.y.size, pre'.3.x.size, pre'.3.y.size)
 
 pub returns : goal.returns
 returns c =

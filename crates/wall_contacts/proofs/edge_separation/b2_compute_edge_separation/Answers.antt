@@ -5,11 +5,6 @@ use Rattle.wall_contacts.proofs.EdgeSide.{edge_separation_from}
 use native.Mathlib.Omega.{arith}
 use Rattle.wall_contacts.proofs.edge_separation.b2_compute_edge_separation.Goals as goal
 
-pub least_of-requires : goal.least_of-requires
-least_of-requires c =
-    let side_rows' = c.side_rows in
-    (omega arith, side_rows'.ensures.0, side_rows'.ensures.1)
-
 pub returns : goal.returns
 returns c =
     let least_of' = c.least_of in
@@ -17,6 +12,6 @@ returns c =
     let args' = c.args in
     λ xf poly count_is rows.
     let count : args'.count ≤ args'.n = omega arith in
-    let distances = side_rows'.ensures.2 _ rows in
+    let distances = side_rows'.ensures _ rows in
     let least = least_of'.ensures _ _ (row_fewer count distances.0) (row_fewer count distances.1) in
     edge_separation_from xf poly _ _ _ _ _ _ count_is least.0 least.1 c.farther_side.ensures

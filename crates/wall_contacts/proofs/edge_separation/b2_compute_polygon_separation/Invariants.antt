@@ -1,7 +1,5 @@
 -- What the scan keeps from here is what it keeps of all faces. Assumes nothing.
 use mathlib.Core.Path.{◌≡◌}
-use Prim.Native.Nat.{◌≤◌, ◌-◌}
-use lib.ListN.{length}
 use Rattle.floats.specs.declared.b2_math.B2vec2.{B2vec2}
 use Rattle.floats.specs.declared.b2_math.B2Transform.{B2Transform}
 use Rattle.shape_definitions.specs.declared.b2_polygon_shape.B2polygonShape.{B2polygonShape}
@@ -14,11 +12,7 @@ use Rattle.wall_contacts.proofs.edge_separation.b2_compute_polygon_separation.Gi
 
 abbrev pub invariant-loop-i : goal.invariant-loop-i
 invariant-loop-i l =
-    (l.i ≤ l.count) × (l.count ≤ 8) × (length l.faces ≡ 8) × (length l.nxs ≡ 8) × (length l.nys ≡ 8)
-    × ((xf : B2Transform) (poly : B2polygonShape) (v1 v2 : B2vec2) → poly.m_count ≡ l.count
+    (xf : B2Transform) (poly : B2polygonShape) (v1 v2 : B2vec2) → poly.m_count ≡ l.count
     → Row (λ k. face_distance (placed_normal xf poly k) (placed_corner xf poly k) v1 v2) l.count l.faces
-    → PointRows (placed_normal xf poly) l.count l.nxs l.nys
-    → faces_from xf poly v1 v2 (FaceB l.separation l.x l.y l.place) l.i l.count ≡ b2_compute_polygon_separation xf poly v1 v2)
-
-abbrev pub decreases-loop-i : goal.decreases-loop-i
-decreases-loop-i l = l.count - l.i
+    → PointRows (placed_normal xf poly) l.count l.normals.xs l.normals.ys
+    → faces_from xf poly v1 v2 (FaceB l.separation l.x l.y l.place) l.i l.count ≡ b2_compute_polygon_separation xf poly v1 v2

@@ -9,21 +9,9 @@ returns-then-back-front c =
     let if1' = c.if-front in
     simp (if1'.true, if2'.true)
 
-pub returns-then-front : goal.returns-then-front
-unfolding b2_neg
-returns-then-front c =
-    let if1' = c.if-front in
-    simp (if1'.true, c.if-back-front.false)
-
 pub returns-then-back : goal.returns-then-back
 unfolding b2_neg
 returns-then-back c =
     let if3' = c.if-back in
     let if1' = c.if-front in
     simp (if1'.false, if3'.true)
-
-pub returns : goal.returns
-unfolding b2_neg
-returns c =
-    let if1' = c.if-front in
-    simp (if1'.false, c.if-back.false)

@@ -1,7 +1,5 @@
 -- The places below i are filled, whatever points the rows hold. Assumes nothing.
-use mathlib.Core.Path.{◌≡◌}
-use Prim.Native.Nat.{ℕ, ◌≤◌, ◌-◌}
-use lib.ListN.{length}
+use Prim.Native.Nat.{ℕ}
 use Rattle.floats.specs.declared.b2_math.B2vec2.{B2vec2}
 use Rattle.floats.specs.B2Math.{b2_mul_rot_by_vec2}
 use Rattle.shape_definitions.specs.Outline.{point_at}
@@ -10,10 +8,6 @@ use Rattle.wall_contacts.proofs.edge_separation.normal_rows.Given as goal
 
 abbrev pub invariant-loop-i : goal.invariant-loop-i
 invariant-loop-i l =
-    (l.i ≤ l.n) × (l.n ≤ 8) × (length l.ns ≡ 8) × (length l.xs ≡ 8) × (length l.ys ≡ 8) × (length l.faces ≡ 8)
-    × PointRows (λ k. b2_mul_rot_by_vec2 l.q (point_at l.ns k)) l.i l.nxs l.nys
-    × ((corner : ℕ → B2vec2) → PointRows corner l.n l.xs l.ys
+    PointRows (λ k. b2_mul_rot_by_vec2 l.q (point_at l.ns k)) l.i l.normals.xs l.normals.ys
+    × ((corner : ℕ → B2vec2) → PointRows corner l.n l.corners.xs l.corners.ys
     → Row (λ k. face_distance (b2_mul_rot_by_vec2 l.q (point_at l.ns k)) (corner k) l.v1 l.v2) l.i l.faces)
-
-abbrev pub decreases-loop-i : goal.decreases-loop-i
-decreases-loop-i l = l.n - l.i

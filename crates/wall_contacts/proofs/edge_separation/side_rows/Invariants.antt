@@ -1,7 +1,5 @@
 -- The places below i are filled, whatever points the rows hold. Assumes nothing.
-use mathlib.Core.Path.{◌≡◌}
-use Prim.Native.Nat.{ℕ, ◌≤◌, ◌-◌}
-use lib.ListN.{length}
+use Prim.Native.Nat.{ℕ}
 use Rattle.floats.specs.declared.b2_math.B2vec2.{B2vec2}
 use Rattle.floats.specs.B2Math.{b2_sub, b2_neg, b2_dot}
 use Rattle.wall_contacts.specs.PlacedRows.{Row, PointRows}
@@ -9,10 +7,6 @@ use Rattle.wall_contacts.proofs.edge_separation.side_rows.Given as goal
 
 abbrev pub invariant-loop-i : goal.invariant-loop-i
 invariant-loop-i l =
-    (l.i ≤ l.n) × (l.n ≤ 8) × (length l.xs ≡ 8) × (length l.ys ≡ 8) × (length l.front ≡ 8) × (length l.back ≡ 8)
-    × ((corner : ℕ → B2vec2) → PointRows corner l.n l.xs l.ys
+    (corner : ℕ → B2vec2) → PointRows corner l.n l.corners.xs l.corners.ys
     → Row (λ k. b2_dot l.n1 (b2_sub (corner k) l.v1)) l.i l.front
-    × Row (λ k. b2_dot (b2_neg l.n1) (b2_sub (corner k) l.v1)) l.i l.back)
-
-abbrev pub decreases-loop-i : goal.decreases-loop-i
-decreases-loop-i l = l.n - l.i
+    × Row (λ k. b2_dot (b2_neg l.n1) (b2_sub (corner k) l.v1)) l.i l.back

@@ -1,16 +1,7 @@
--- By the word. Assumes nothing.
-use borrow.Author.Tests.{eq-eqb, ne_eqb}
-use Rattle.wire.specs.ContactRecords.{kind_of}
+-- By its number. Assumes nothing.
+use mathlib.Core.Path.{◌∙◌}
+use Rattle.wire.proofs.Numbers.{kind_read}
 use Rattle.wire.proofs.contact_records.kind.Goals as goal
 
-pub returns-in-0 : goal.returns-in-0
-unfolding kind_of
-returns-in-0 c = simp (eq-eqb _ _ c.in-0.is)
-
-pub returns-in-1 : goal.returns-in-1
-unfolding kind_of
-returns-in-1 c = simp c.in-1.is
-
-pub returns-in_default : goal.returns-in_default
-unfolding kind_of
-returns-in_default c = simp (ne_eqb _ _ c.in_default.in_default-own.rest.0.1, ne_eqb _ _ c.in_default.in_default-own.rest.1)
+pub returns : goal.returns
+returns c = c.unwrap_or.ensures ∙ kind_read c.args.w c.try_from.result c.try_from.ensures

@@ -1,9 +1,0 @@
--- i is a place of the order, and every case is below 1024. Assumes nothing.
-use Rattle.std.proofs.Common.{◌≡◌, ◌<◌, ◌≤◌, ◌-◌, ◌*◌, ◌^◌, length}
-use Rattle.bench_calls.proofs.world_passes.pass_world_points.Given as goal
-
-abbrev pub invariant-loop-i : goal.invariant-loop-i
-invariant-loop-i l = (l.i ≤ length l.order) × (length l.order < 2 ^ 64) × (length l.order * 4 < 2 ^ 63) × (length l.all ≡ 1024)
-
-abbrev pub decreases-loop-i : goal.decreases-loop-i
-decreases-loop-i l = length l.order - l.i

@@ -1,7 +1,0 @@
--- Both placements. Assumes nothing.
-use mathlib.Core.Path.{ap₂}
-use mathlib.Core.Bool.{◌&&◌}
-use Rattle.collision.proofs.pair_ranges.placements_in_range.Goals as goal
-
-pub returns : goal.returns
-returns c = ap₂ ◌&&◌ c.transform_in_range-a_in.ensures c.transform_in_range-b_in.ensures

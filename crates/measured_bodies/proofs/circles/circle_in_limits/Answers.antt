@@ -1,9 +1,0 @@
--- Its three spans. Assumes nothing.
-use mathlib.Core.Bool.{◌&&◌}
-use Rattle.measured_definitions.specs.MeasuredCircles.{circle_in_limits}
-use Rattle.measured_bodies.proofs.circles.circle_in_limits.Goals as goal
-
-pub returns : goal.returns
-unfolding circle_in_limits
-returns c =
-    λ i. (c.in_limits.ensures i && c.in_limits-2.ensures i) && c.in_limits-3.ensures i
