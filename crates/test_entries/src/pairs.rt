@@ -14,6 +14,7 @@ use floats::b2_math::B2Transform;
 use shape_definitions::b2_circle_shape::B2circleShape;
 use shape_definitions::b2_edge_shape::B2edgeShape;
 use shape_definitions::b2_polygon_shape::B2polygonShape;
+use wire::answers::Answered;
 use wire::{contact_answers, contact_records, records};
 
 // A shape in a request, read at a word: the wall, only where the word of its flag is one.
@@ -120,7 +121,7 @@ pub fn circles(input: &[u8], out: &mut [u8]) -> u32
         return 0;
     };
     let answer = b2_collide_circle::b2_collide_circles(p.old, p.a, p.xfa, p.b, p.xfb);
-    contact_answers::put_manifold(out, p.old, answer)
+    contact_answers::put_manifold(out, Answered::of(p.old, answer))
 }
 
 // 8, a manifold, an outline A, placement A, a circle B, placement B.
@@ -131,7 +132,7 @@ pub fn polygon_and_circle(input: &[u8], out: &mut [u8]) -> u32
         return 0;
     };
     let answer = b2_collide_circle::b2_collide_polygon_and_circle(p.old, p.a, p.xfa, p.b, p.xfb);
-    contact_answers::put_manifold(out, p.old, answer)
+    contact_answers::put_manifold(out, Answered::of(p.old, answer))
 }
 
 // 9, a manifold, outline A, placement A, outline B, placement B.
@@ -142,7 +143,7 @@ pub fn polygons(input: &[u8], out: &mut [u8]) -> u32
         return 0;
     };
     let answer = b2_collide_polygon::b2_collide_polygons(p.old, p.a, p.xfa, p.b, p.xfb);
-    contact_answers::put_manifold(out, p.old, answer)
+    contact_answers::put_manifold(out, Answered::of(p.old, answer))
 }
 
 // 10, a manifold, a wall A, placement A, a circle B, placement B.
@@ -153,7 +154,7 @@ pub fn edge_and_circle(input: &[u8], out: &mut [u8]) -> u32
         return 0;
     };
     let answer = b2_collide_edge::b2_collide_edge_and_circle(p.old, p.a, p.xfa, p.b, p.xfb);
-    contact_answers::put_manifold(out, p.old, answer)
+    contact_answers::put_manifold(out, Answered::of(p.old, answer))
 }
 
 // 11, a manifold, a wall A, placement A, an outline B, placement B.
@@ -164,5 +165,5 @@ pub fn edge_and_polygon(input: &[u8], out: &mut [u8]) -> u32
         return 0;
     };
     let answer = b2_collide_edge::b2_collide_edge_and_polygon(p.old, p.a, p.xfa, p.b, p.xfb);
-    contact_answers::put_manifold(out, p.old, answer)
+    contact_answers::put_manifold(out, Answered::of(p.old, answer))
 }

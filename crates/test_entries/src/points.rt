@@ -2,7 +2,9 @@
 ghost use Rattle.wire.specs.Words.{Written};
 ghost use Rattle.test_entries.specs.Points.{clip_answer, world_points_answer, point_states_answer};
 
+use contact_definitions::b2_collision::Clip;
 use contacts::b2_collision;
+use wire::answers::Answered;
 use wire::{contact_answers, contact_records, records, words};
 
 // 12, two clip vertices (the output places), two clip vertices, normal, offset, index: the number of points, and the
@@ -19,7 +21,8 @@ pub fn clip(input: &[u8], out: &mut [u8]) -> u32
     let offset = records::float(input, 15);
     let index = words::word(input, 16) as usize;
     let answer = b2_collision::b2_clip_segment_to_line(old, ends, normal, offset, index);
-    contact_answers::put_clip(out, old, answer)
+    let given = Clip { out: old, count: 0 };
+    contact_answers::put_clip(out, Answered::of(given, answer))
 }
 
 // 13, a world manifold, a manifold, placement A, radius A, placement B, radius B: the world points.
@@ -40,7 +43,7 @@ pub fn world_points(input: &[u8], out: &mut [u8]) -> u32
     let answer = b2_collision::b2_world_manifold_initialize_core(
         old, m, xfa, radius_a, xfb, radius_b,
     );
-    contact_answers::put_world(out, old, answer)
+    contact_answers::put_world(out, Answered::of(old, answer))
 }
 
 // 14, four states, the old manifold, the new manifold: the states of both manifolds' points.
@@ -60,5 +63,5 @@ pub fn states(input: &[u8], out: &mut [u8]) -> u32
         return 0;
     };
     let answer = b2_collision::b2_get_point_states(given, m1, m2);
-    contact_answers::put_states(out, given, answer)
+    contact_answers::put_states(out, Answered::of(given, answer))
 }

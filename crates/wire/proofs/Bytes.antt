@@ -17,6 +17,7 @@ use Rattle.shape_definitions.specs.Refusal.{refusal_number, made_or}
 use Rattle.algebra.specs.Buffer.{over}
 use Rattle.algebra.proofs.Buffer.{over_next}
 use Rattle.lines.specs.Fields.{number_bytes}
+use Rattle.wire.specs.declared.answers.Answered.{Answered}
 use Rattle.wire.specs.Answers.{flag}
 use Rattle.wire.specs.Words.{bytes_of, written, written_count, Written}
 
@@ -86,11 +87,8 @@ pub made_is : {T : Type 0} (given : T) (answer : Result T Refusal)
 made_is given (Ok x) = refl
 made_is given (Err why) = refl
 
--- words of the refusal and of what a call made, or where it is refused of what was given
-pub made_written : {T : Type 0} (words_of : T → List ℕ) (given made : T) (answer : Result T Refusal)
-    (refusal : ℕ) (rest out : List ℕ) (r : ℕ) (after : List ℕ) → refusal ≡ refusal_number answer
-    → made ≡ result_unwrap_or answer given → rest ≡ words_of made → Written (refusal ∷ rest) out r after
-    → Written (refusal_number answer ∷ words_of (made_or given answer)) out r after
-made_written words_of given made answer refusal rest out r after refusal_is is rest_is =
-    written_as _ _ out r after
-    (ap₂ ◌∷◌ refusal_is (rest_is ∙ ap words_of (is ∙ made_is given answer)))
+-- the words of a call's answer, as `Answered::of` makes it
+pub answered_words : {T : Type 0} (words_of : T → List ℕ) (given : T) (answer : Result T Refusal) (a : Answered T)
+    → (a.refusal ≡ refusal_number answer) × (a.after ≡ made_or given answer)
+    → a.refusal ∷ words_of a.after ≡ refusal_number answer ∷ words_of (made_or given answer)
+answered_words words_of given answer a is = ap₂ ◌∷◌ is.0 (ap words_of is.1)

@@ -21,6 +21,32 @@ pub fn refusal_word<T: Copy>(answer: Result<T, Refusal>) -> u32
     }
 }
 
+// What a call answers, as the wire has it: the number of its refusal, 0 for accepted, and the record after the call.
+// Any byte is written as it is, one that is the number of no refusal too, and any record beside it.
+#[derive(Clone, Copy)]
+pub struct Answered<T> {
+    pub refusal: u8,
+    pub after: T,
+}
+
+impl<T: Copy> Answered<T> {
+    // What was made; or what was given, where the call is refused.
+    pub fn of(given: T, answer: Result<T, Refusal>) -> Answered<T>
+        ensures { (result.refusal ≡ refusal_number answer) × (result.after ≡ made_or given answer) }
+    {
+        match answer {
+            Ok(made) => Answered {
+                refusal: 0,
+                after: made,
+            },
+            Err(why) => Answered {
+                refusal: u8::from(why),
+                after: given,
+            },
+        }
+    }
+}
+
 // The rest by 2^32: `as` may lose no bits.
 pub fn low_word(n: usize) -> u32
     ensures { result ≡ low_word n }
@@ -41,18 +67,13 @@ fn with_points(old: [u32; 37], i: usize, ps: [B2vec2; 8]) -> [u32; 37]
     all
 }
 
-// The refusal and the outline: what was given, where the call is refused.
-pub fn put_polygon(
-    out: &mut [u8],
-    given: B2polygonShape,
-    answer: Result<B2polygonShape, Refusal>,
-) -> u32
-    ensures { Written (refusal_number answer ∷ polygon_words (made_or given answer))
-        out.old result out.new }
+// The refusal and the outline.
+pub fn put_polygon(out: &mut [u8], answer: Answered<B2polygonShape>) -> u32
+    ensures { Written (answer.refusal ∷ polygon_words answer.after) out.old result out.new }
 {
-    let s = answer.unwrap_or(given);
+    let s = answer.after;
     let mut head = [0u32; 37];
-    head[0] = refusal_word(answer);
+    head[0] = u32::from(answer.refusal);
     head[1] = bits::f32_to_bits(s.m_radius);
     head[2] = bits::f32_to_bits(s.m_centroid.x);
     head[3] = bits::f32_to_bits(s.m_centroid.y);
@@ -65,13 +86,12 @@ pub fn put_polygon(
 }
 
 // The refusal and the wall.
-pub fn put_edge(out: &mut [u8], given: B2edgeShape, answer: Result<B2edgeShape, Refusal>) -> u32
-    ensures { Written (refusal_number answer ∷ edge_words (made_or given answer))
-        out.old result out.new }
+pub fn put_edge(out: &mut [u8], answer: Answered<B2edgeShape>) -> u32
+    ensures { Written (answer.refusal ∷ edge_words answer.after) out.old result out.new }
 {
-    let s = answer.unwrap_or(given);
+    let s = answer.after;
     let whole = [
-        refusal_word(answer),
+        u32::from(answer.refusal),
         bits::f32_to_bits(s.m_radius),
         u32::from(s.m_one_sided),
         bits::f32_to_bits(s.m_vertex0.x),

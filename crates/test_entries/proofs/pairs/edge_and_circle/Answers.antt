@@ -1,11 +1,12 @@
 -- Entry 10 answers the manifold of a wall and a circle, or nothing to another length, or to another kind or flag.
 -- Assumes nothing.
-use mathlib.Core.Path.{ap}
+use mathlib.Core.Path.{ap, ◌∙◌}
 use mathlib.Core.Bool.{Bool, ◌&&◌}
 use Rattle.std.proofs.Math.Bool.{and-true}
 use Rattle.wire.specs.ContactRecords.{kind_known}
 use Rattle.contact_definitions.specs.B2CollideEdge.{b2_collide_edge_and_circle}
-use Rattle.wire.specs.ContactAnswers.{manifold_answer_words}
+use Rattle.wire.specs.ContactAnswers.{manifold_words, manifold_answer_words}
+use Rattle.wire.proofs.Bytes.{answered_words}
 use Rattle.wire.proofs.Requests.{unread, read}
 use Rattle.test_entries.specs.Pairs.{edge_and_circle_answer, pair_at}
 use Rattle.test_entries.proofs.pairs.edge_and_circle.Goals as goal
@@ -22,4 +23,6 @@ unfolding edge_and_circle_answer pair_at
 returns c =
     read _ 38 _ _ _ (ap (λ (b : Bool). kind_known c.args.input.now 1 && b) (and-true _))
     (λ p. manifold_answer_words (b2_collide_edge_and_circle p.old p.a p.xfa p.b p.xfb)) _ _ _ _ _ c.in-Some.ensures
-    (ap manifold_answer_words c.b2_collide_edge_and_circle-answer.ensures) c.put_manifold.ensures
+    (answered_words manifold_words _ _ _ c.of.ensures
+    ∙ ap manifold_answer_words c.b2_collide_edge_and_circle-answer.ensures)
+    c.put_manifold.ensures

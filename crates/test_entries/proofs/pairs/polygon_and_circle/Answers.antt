@@ -1,9 +1,10 @@
 -- Entry 8 answers the manifold of an outline and a circle, or nothing to another length, or to another kind.
 -- Assumes nothing.
-use mathlib.Core.Path.{ap}
+use mathlib.Core.Path.{ap, ◌∙◌}
 use Rattle.std.proofs.Math.Bool.{and-true}
 use Rattle.contact_definitions.specs.B2CollideCircle.{b2_collide_polygon_and_circle}
-use Rattle.wire.specs.ContactAnswers.{manifold_answer_words}
+use Rattle.wire.specs.ContactAnswers.{manifold_words, manifold_answer_words}
+use Rattle.wire.proofs.Bytes.{answered_words}
 use Rattle.wire.proofs.Requests.{unread, read}
 use Rattle.test_entries.specs.Pairs.{polygon_and_circle_answer, pair_at}
 use Rattle.test_entries.proofs.pairs.polygon_and_circle.Goals as goal
@@ -17,4 +18,6 @@ unfolding polygon_and_circle_answer pair_at
 returns c =
     read _ 64 _ _ _ (and-true _)
     (λ p. manifold_answer_words (b2_collide_polygon_and_circle p.old p.a p.xfa p.b p.xfb)) _ _ _ _ _ c.in-Some.ensures
-    (ap manifold_answer_words c.b2_collide_polygon_and_circle-answer.ensures) c.put_manifold.ensures
+    (answered_words manifold_words _ _ _ c.of.ensures
+    ∙ ap manifold_answer_words c.b2_collide_polygon_and_circle-answer.ensures)
+    c.put_manifold.ensures

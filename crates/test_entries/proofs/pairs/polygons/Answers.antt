@@ -1,8 +1,9 @@
 -- Entry 9 answers the manifold of two outlines, or nothing to another length, or to another kind. Assumes nothing.
-use mathlib.Core.Path.{ap}
+use mathlib.Core.Path.{ap, ◌∙◌}
 use Rattle.std.proofs.Math.Bool.{and-true}
 use Rattle.contact_definitions.specs.B2CollidePolygon.{b2_collide_polygons}
-use Rattle.wire.specs.ContactAnswers.{manifold_answer_words}
+use Rattle.wire.specs.ContactAnswers.{manifold_words, manifold_answer_words}
+use Rattle.wire.proofs.Bytes.{answered_words}
 use Rattle.wire.proofs.Requests.{unread, read}
 use Rattle.test_entries.specs.Pairs.{polygons_answer, pair_at}
 use Rattle.test_entries.proofs.pairs.polygons.Goals as goal
@@ -16,4 +17,6 @@ unfolding polygons_answer pair_at
 returns c =
     read _ 97 _ _ _ (and-true _)
     (λ p. manifold_answer_words (b2_collide_polygons p.old p.a p.xfa p.b p.xfb)) _ _ _ _ _ c.in-Some.ensures
-    (ap manifold_answer_words c.b2_collide_polygons-answer.ensures) c.put_manifold.ensures
+    (answered_words manifold_words _ _ _ c.of.ensures
+    ∙ ap manifold_answer_words c.b2_collide_polygons-answer.ensures)
+    c.put_manifold.ensures

@@ -1,7 +1,8 @@
 -- Entry 14 answers the point states of two manifolds, or nothing to another length, state or kind. Assumes nothing.
 use mathlib.Core.Path.{refl, sym, ap, ◌∙◌}
 use mathlib.Core.Bool.{true, false}
-use Rattle.wire.specs.ContactAnswers.{states_answer_words}
+use Rattle.wire.specs.ContactAnswers.{states_words, states_answer_words}
+use Rattle.wire.proofs.Bytes.{answered_words}
 use Rattle.wire.proofs.Requests.{other_length, unknown, answered, not_known, is_known}
 use Rattle.test_entries.specs.Points.{point_states_answer}
 use Rattle.test_entries.proofs.points.states.Goals as goal
@@ -37,7 +38,8 @@ returns c =
     let m1 = is_known _ _ c.in-Some-known_manifold.m1 c.in-Some-known_manifold.ensures in
     let m2 = is_known _ _ c.in-Some-known_manifold-2.m2 c.in-Some-known_manifold-2.ensures in
     answered 37 _ _ _ _ true c.if-input-ne148.false (sym (simp (given.0, m1.0, m2.0))) _ _ _ refl
-    (ap states_answer_words c.b2_get_point_states-answer.ensures ∙ simp (
+    (answered_words states_words _ _ _ c.of.ensures
+    ∙ ap states_answer_words c.b2_get_point_states-answer.ensures ∙ simp (
       given.1,
       m1.1,
       m2.1,

@@ -1,7 +1,8 @@
 -- Entry 13 answers the world points, or nothing to another length or kind. Assumes nothing.
 use mathlib.Core.Path.{refl, sym, ap, ◌∙◌}
 use mathlib.Core.Bool.{true, false}
-use Rattle.wire.specs.ContactAnswers.{world_answer_words}
+use Rattle.wire.specs.ContactAnswers.{world_manifold_words, world_answer_words}
+use Rattle.wire.proofs.Bytes.{answered_words}
 use Rattle.wire.proofs.Requests.{other_length, unknown, answered, not_known, is_known}
 use Rattle.test_entries.specs.Points.{world_points_answer}
 use Rattle.test_entries.proofs.points.world_points.Goals as goal
@@ -20,7 +21,8 @@ unfolding world_points_answer
 returns c =
     let m = is_known _ _ c.in-Some.m c.in-Some.ensures in
     answered 35 _ _ _ _ true c.if-input-ne140.false (sym m.0) _ _ _ refl
-    (ap world_answer_words c.b2_world_manifold_initialize_core-answer.ensures ∙ simp (
+    (answered_words world_manifold_words _ _ _ c.of.ensures
+    ∙ ap world_answer_words c.b2_world_manifold_initialize_core-answer.ensures ∙ simp (
       c.world_manifold-old.ensures,
       m.1,
       c.transform-xfa.ensures,

@@ -1,6 +1,8 @@
 -- Entry 5 answers a wall that is met from one side, or nothing to another length or flag. Assumes nothing.
 use mathlib.Core.Path.{refl, sym, ap, ◌∙◌}
 use mathlib.Core.Bool.{true, false}
+use Rattle.wire.specs.Answers.{edge_words}
+use Rattle.wire.proofs.Bytes.{answered_words}
 use Rattle.wire.proofs.Requests.{other_length, unknown, answered, not_known, is_known}
 use Rattle.test_entries.specs.Walls.{one_sided_answer, wall_words}
 use Rattle.test_entries.proofs.walls.set_one_sided.Goals as goal
@@ -19,7 +21,8 @@ unfolding one_sided_answer
 returns c =
     let old = is_known _ _ c.in-Some.old c.in-Some.ensures in
     answered 19 _ _ _ _ true c.if-input-ne76.false (sym old.0) _ _ _ refl
-    (ap wall_words c.b2_set_one_sided-answer.ensures ∙ simp (
+    (answered_words edge_words _ _ _ c.of.ensures
+    ∙ ap wall_words c.b2_set_one_sided-answer.ensures ∙ simp (
       old.1,
       c.vector-v0.ensures,
       c.vector-v1.ensures,

@@ -1,17 +1,17 @@
 -- `put_edge` writes the refusal and the wall's ten words. Assumes nothing.
 use mathlib.Core.Path.{◌∙◌}
 use Rattle.wire.specs.Answers.{edge_words, points_words}
-use Rattle.wire.proofs.Bytes.{flag_is, made_written}
+use Rattle.wire.proofs.Bytes.{flag_is, written_as}
 use Rattle.wire.proofs.answers.put_edge.Goals as goal
 
 pub returns : goal.returns
 unfolding edge_words points_words
 returns c =
-    made_written edge_words c.args.given c.unwrap_or-s.result c.args.answer _ _ _ _ _ c.refusal_word.ensures
-    c.unwrap_or-s.ensures
+    written_as _ _ _ _ _
     (simp (
+      c.from.ensures,
       c.f32_to_bits.ensures,
-      c.from.ensures ∙ flag_is c.unwrap_or-s.result.m_one_sided,
+      c.from-2.ensures ∙ flag_is c.args.answer.after.m_one_sided,
       c.f32_to_bits-2.ensures,
       c.f32_to_bits-3.ensures,
       c.f32_to_bits-4.ensures,
