@@ -3,7 +3,7 @@
 use floats::b2_math::{B2Rot, B2vec2};
 use shape_definitions::b2_edge_shape::B2edgeShape;
 use shape_definitions::b2_polygon_shape::{B2polygonShape, PolygonAnswer};
-use shape_definitions::refusal::Refusal;
+use shape_definitions::refusal::{ACCEPTED, Refusal};
 use shapes::{b2_edge_shape, b2_polygon_shape};
 
 #[repr(C)]
@@ -21,7 +21,7 @@ pub struct Wall {
 // The number of the refusal, 0 where there is none.
 fn refusal_of<T: Copy>(answer: Result<T, Refusal>) -> u8 {
     match answer {
-        Ok(_) => 0,
+        Ok(_) => ACCEPTED,
         Err(why) => u8::from(why),
     }
 }

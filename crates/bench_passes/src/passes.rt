@@ -2,7 +2,7 @@
 ghost use Rattle.std.specs.Prelude.{◌<◌, ℕ};
 
 use crate::numbers::CASES;
-use shape_definitions::refusal::Refusal;
+use shape_definitions::refusal::{ACCEPTED, Refusal};
 
 // What the last call of a pass left, and what it was refused with.
 #[derive(Clone, Copy)]
@@ -16,7 +16,7 @@ impl<T: Copy> Left<T> {
     pub fn refusal(self) -> u8 {
         match self.refused {
             Some(why) => u8::from(why),
-            None => 0,
+            None => ACCEPTED,
         }
     }
 }

@@ -1,5 +1,5 @@
 // Contacts: the records of manifolds, clip vertices, world manifolds and point states, and what the axis search
-// answers. No functions: specs/ defines what each call gives.
+// answers. No functions but the numbers of kinds, states and feature types: specs/ defines what each call gives.
 
 #![tactic(auto)]
 

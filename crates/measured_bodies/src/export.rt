@@ -7,17 +7,18 @@ ghost use Rattle.measured_bodies.specs.Numbers.{numbers_of, pairs_of};
 
 use crate::{boxes, circles};
 use measured_definitions::{
-    BoxPair, BoxesAnswer, CirclePair, CirclesAnswer, MeasuredBox, MeasuredCircle, Verdict,
+    BoxPair, BoxesAnswer, CirclePair, CirclesAnswer, MeasuredBox, MeasuredCircle, NO_VERDICT,
+    Verdict,
 };
-use shape_definitions::refusal::Refusal;
+use shape_definitions::refusal::{ACCEPTED, Refusal};
 
-// The refusal and the verdict, each 0 where there is none.
+// The numbers of the refusal and of the verdict.
 fn numbers<P: Copy>(said: Result<Verdict<P>, Refusal>) -> (u32, u32)
     ensures { result ≡ numbers_of said }
 {
     match said {
-        Ok(verdict) => (0, verdict.into()),
-        Err(why) => (u8::from(why).into(), 0),
+        Ok(verdict) => (ACCEPTED.into(), verdict.into()),
+        Err(why) => (u8::from(why).into(), NO_VERDICT),
     }
 }
 

@@ -82,6 +82,9 @@ pub enum Verdict<P> {
     Either { touching: P, apart: P },
 }
 
+// The number of no verdict: the call was refused.
+pub const NO_VERDICT: u32 = 0;
+
 impl<P: Copy> From<Verdict<P>> for u32 {
     ghost from_gives = { λ verdict number. number ≡ verdict_number verdict };
 

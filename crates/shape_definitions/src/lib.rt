@@ -1,4 +1,5 @@
-// Circles, outlines and walls: their records, what each call answers (specs/), and the refusal numbers. No functions.
+// Circles, outlines and walls: their records, what each call answers (specs/), and the refusals. No functions but their
+// number.
 
 #![tactic(auto)]
 

@@ -3,6 +3,9 @@
 ghost use Rattle.std.specs.Prelude.{◌≡◌};
 ghost use Rattle.shape_definitions.specs.Refusal.{number_of};
 
+// The number of no refusal, where a record has one.
+pub const ACCEPTED: u8 = 0;
+
 #[derive(Clone, Copy, Debug, PartialEq, Eq)]
 pub enum Refusal {
     // Outline without 3 to 8 points.

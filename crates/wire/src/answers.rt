@@ -9,14 +9,14 @@ use floats::b2_math::B2vec2;
 use floats::bits;
 use shape_definitions::b2_edge_shape::B2edgeShape;
 use shape_definitions::b2_polygon_shape::B2polygonShape;
-use shape_definitions::refusal::Refusal;
+use shape_definitions::refusal::{ACCEPTED, Refusal};
 
 // The number of a refusal, 0 where there is none.
 pub fn refusal_word<T: Copy>(answer: Result<T, Refusal>) -> u32
     ensures { result ≡ refusal_number answer }
 {
     match answer {
-        Ok(_) => 0,
+        Ok(_) => u32::from(ACCEPTED),
         Err(why) => u32::from(u8::from(why)),
     }
 }
@@ -36,7 +36,7 @@ impl<T: Copy> Answered<T> {
     {
         match answer {
             Ok(made) => Answered {
-                refusal: 0,
+                refusal: ACCEPTED,
                 after: made,
             },
             Err(why) => Answered {
