@@ -95,7 +95,7 @@ module _ (ida idb : ℕ) (a b : Body) (pair : Pair) where
     more_places = refl;
     taken = alone_refusal (test 0) ∙ made.0;
     kept = over_store pair.pieces [] pair.pieces first.kept 0 refl refl (omega arith)
-        ∙ ap (λ (k : Kept). over (k ∷ []) pair.pieces) made.2;
+        ∙ ap (λ (k : Kept). over (k ∷ []) pair.pieces) made.1.1;
     results = ap (replicate most_further) blank_is;
   }
 
@@ -117,14 +117,14 @@ module _ (ida idb : ℕ) (a b : Body) (pair : Pair) where
       next_kept =
           let size : length (kepts_of (test 0 ∷ further j)) ≡ j + 1 =
           omega (arith, some_size ida idb a b pair (λ (s : TestAnswer). s.kept) 1 j) in
-          ap (set kepts (j + 1)) made_is.2
+          ap (set kepts (j + 1)) made_is.1.1
           ∙ over_store kepts (kepts_of (test 0 ∷ further j)) pair.pieces (test (j + 1)).kept (j + 1) so_far.kept size
           (omega (arith, so_far.seven, so_far.few))
           ∙ ap (λ (l : List Kept). over ((test 0).kept ∷ l) pair.pieces) (mapped (λ (s : TestAnswer). s.kept))
 
       next_results : set more j made.touch ≡ over (results_of (further (j + 1))) (replicate most_further blank_touch)
       next_results =
-          ap (set more j) made_is.1
+          ap (set more j) made_is.1.0
           ∙ over_store more (results_of (further j)) (replicate most_further blank_touch) (test (j + 1)).touch j
           so_far.results (some_size ida idb a b pair (λ (s : TestAnswer). s.touch) 1 j)
           (omega (arith, so_far.few))
@@ -161,7 +161,7 @@ module _ (ida idb : ℕ) (a b : Body) (pair : Pair) where
           omega (arith, so_far.within, some_size ida idb a b pair (λ (s : TestAnswer). s.touch) 1 j) in
           let taken = eq-eqb (first_refusal (test 0 ∷ further j)) accepted so_far.taken in
           subst (λ (k : ℕ). answered first.touch n more kepts ≡ test_answered a pair (test 0) (further k)) all
-          (ap₂ (λ (t : Touch) (k : ℕ). answered t k more kepts) made.1 size
+          (ap₂ (λ (t : Touch) (k : ℕ). answered t k more kepts) made.1.0 size
           ∙ ap₂ (answered (test 0).touch (length touches)) so_far.results so_far.kept
           ∙ simp taken)
 

@@ -15,6 +15,7 @@ use Rattle.frames.specs.declared.changes.BodyChange.TheVariants.{Defined, Moved}
 use Rattle.frames.specs.declared.changes.ChainMade.{ChainMade}
 use Rattle.frames.specs.declared.changes.TestMade.{TestMade}
 use Rattle.frames.specs.declared.test_frame.PieceMade.{PieceMade}
+use Rattle.frames.specs.declared.test_frame.PieceRefused.{PieceRefused}
 
 abbrev pub of_body : Body → Result BodyChange Refusal → Pair → Change
 of_body body (Ok (Defined new)) pair = defined new pair
@@ -31,8 +32,11 @@ abbrev pub of_chain_test : Result ChainMade Refusal → Body → Pair → Change
 of_chain_test (Ok made) body pair = record { said = made.said; body = body; pair = made.pair; forget = false }
 of_chain_test (Err why) body pair = refused (number_of why) body pair
 
--- what the test of a piece answers: the number of its refusal, or its result and what is kept of it
-abbrev pub AnsweredAs : Result PieceMade Refusal → TestAnswer → Type 0
-AnsweredAs (Ok made) answer =
-    (answer.refusal ≡ accepted) × (made.touch ≡ answer.touch) × (made.kept ≡ answer.kept)
-AnsweredAs (Err why) answer = answer.refusal ≡ number_of why
+-- the result of a test of a piece and what is kept of it, as an answer has them
+abbrev pub MadeAs : PieceMade → TestAnswer → Type 0
+MadeAs made answer = (made.touch ≡ answer.touch) × (made.kept ≡ answer.kept)
+
+-- what the test of a piece answers: 0 or the number of its refusal, and what it makes, on a refusal too
+abbrev pub AnsweredAs : Result PieceMade PieceRefused → TestAnswer → Type 0
+AnsweredAs (Ok made) answer = (answer.refusal ≡ accepted) × MadeAs made answer
+AnsweredAs (Err refused) answer = (answer.refusal ≡ number_of refused.why) × MadeAs refused.made answer

@@ -6,7 +6,7 @@ ghost use Rattle.record_definitions.specs.Frame as definitions;
 ghost use Rattle.frames.specs.Made.{of_chain_test, AnsweredAs};
 
 use crate::changes::ChainMade;
-use crate::test_frame::PieceMade;
+use crate::test_frame::{PieceMade, PieceRefused};
 use crate::{changes, pieces, test_frame};
 use record_definitions::frame::{Answer, Said};
 use record_definitions::world::{Body, Pair};
@@ -20,7 +20,7 @@ fn piece_tested(
     b: Body,
     pair: Pair,
     i: usize,
-) -> Result<PieceMade, Refusal>
+) -> Result<PieceMade, PieceRefused>
     requires { i < most_pieces }
     ensures { AnsweredAs result (results.piece_tested ida idb a b pair i) }
 {

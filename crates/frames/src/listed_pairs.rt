@@ -28,7 +28,7 @@ pub fn listed(a: u8, b: u8) -> bool
 }
 
 // Each test starts from this one.
-fn default_manifold() -> B2manifold
+pub(crate) fn default_manifold() -> B2manifold
     ensures { result ≡ manifolds.default_manifold }
 {
     let origin = B2vec2 { x: 0.0, y: 0.0 };

@@ -2,11 +2,12 @@
 ghost use Rattle.std.specs.Prelude.{◌≡◌};
 ghost use Rattle.shape_definitions.specs.Refusal.{refusal_number};
 ghost use Rattle.contact_definitions.specs.Answers.{world_answered};
-ghost use Rattle.contact_definitions.specs.WorldManifold.{default_world_manifold};
+ghost use Rattle.contact_definitions.specs.Manifold.{manifold_accepted};
+ghost use Rattle.contact_definitions.specs.WorldManifold.{default_world_manifold, world_accepted};
 ghost use Rattle.record_definitions.specs.World.{chain_kind};
 ghost use Rattle.record_definitions.specs.Touch as results;
 ghost use Rattle.record_definitions.specs.Frame as definitions;
-ghost use Rattle.frames.specs.Made.{of_test, AnsweredAs};
+ghost use Rattle.frames.specs.Made.{of_test, MadeAs, AnsweredAs};
 
 use crate::changes::TestMade;
 use crate::{ages, listed_pairs, test_result};
@@ -66,25 +67,66 @@ pub struct PieceMade {
     pub kept: Kept,
 }
 
-// The test of bodies a and b under the ids that the frame gives.
-pub fn tested(ida: u8, idb: u8, a: Body, b: Body, kept: Kept) -> Result<PieceMade, Refusal>
-    ensures { AnsweredAs result (results.tested ida idb a b kept) }
+// Why the test of a piece is refused, and what it makes all the same.
+#[derive(Clone, Copy)]
+pub struct PieceRefused {
+    pub why: Refusal,
+    pub made: PieceMade,
+}
+
+impl From<PieceRefused> for Refusal {
+    ghost from_gives = { λ piece why. why ≡ piece.why };
+
+    fn from(refused: PieceRefused) -> Refusal {
+        refused.why
+    }
+}
+
+// What a contact and its world points make: states, ages and touches, against what was kept. Inlined, as `refused` is:
+// a call would copy the manifold, and an accepted test would cost more.
+#[inline(always)]
+fn made_of(ida: u8, idb: u8, kept: Kept, m: B2manifold, w: B2worldManifold) -> PieceMade
+    ensures { MadeAs result (results.tested_as ida idb kept (manifold_accepted m) (world_accepted w)) }
 {
-    let m = listed_pairs::meet(a, b)?;
-    let w = world_points_of(a, b, m)?;
     let old = kept.ids;
     let new = b2_collision::counted_ids(m);
     let states = b2_collision::states_of_ids(old, new);
     let ages = ages::ages_of(kept, new);
     let touches = test_result::touches_after(kept.touches, old.count, m.point_count);
-    Ok(PieceMade {
+    PieceMade {
         touch: test_result::touch_of(ida, idb, ages::with_ages(m, ages), states, touches, w),
         kept: Kept {
             ids: new,
             ages,
             touches,
         },
-    })
+    }
+}
+
+// A refused test, with what the contact makes where it has no world points.
+#[inline(always)]
+fn refused(ida: u8, idb: u8, kept: Kept, m: B2manifold, why: Refusal) -> PieceRefused
+    ensures why { result.why ≡ why }
+    ensures made { MadeAs result.made
+        (results.tested_as ida idb kept (manifold_accepted m) (world_accepted default_world_manifold)) }
+{
+    let made = made_of(ida, idb, kept, m, default_world_manifold());
+    PieceRefused { why, made }
+}
+
+// The test of bodies a and b under the ids that the frame gives: refused by the contact, then by its world points.
+pub fn tested(ida: u8, idb: u8, a: Body, b: Body, kept: Kept) -> Result<PieceMade, PieceRefused>
+    ensures { AnsweredAs result (results.tested ida idb a b kept) }
+{
+    let m = match listed_pairs::meet(a, b) {
+        Ok(m) => m,
+        Err(why) => return Err(refused(ida, idb, kept, listed_pairs::default_manifold(), why)),
+    };
+    let w = match world_points_of(a, b, m) {
+        Ok(w) => w,
+        Err(why) => return Err(refused(ida, idb, kept, m, why)),
+    };
+    Ok(made_of(ida, idb, kept, m, w))
 }
 
 // A body without a shape, then the pair.

@@ -13,7 +13,7 @@ returns-in_err-first c =
     let gone = err_from_is_err_and c.from_residual.result c.from_residual.ensures.1 in
     rw (gone.1, gone.2)
     (first_refused args.ida args.idb args.a args.b args.pair _ (no_acceptance _) _
-    (further_is args.a _ c.requires c.further_pieces-further.ensures) c.in_err-first.ensures)
+    (further_is args.a _ c.requires c.further_pieces-further.ensures) c.in_err-first.ensures.0)
 
 pub loop-j-init : goal.loop-j-init
 loop-j-init c =
@@ -29,7 +29,7 @@ returns-in_err-made c =
     rw (gone.1, gone.2)
     (further_refused args.ida args.idb args.a args.b args.pair _ (no_acceptance _) _ c.loop-j.kepts c.loop-j.more _
     c.loop-j.invariant (further_is args.a _ c.requires c.further_pieces-further.ensures) c.loop-j-test.true
-    c.in_err-made.ensures)
+    c.in_err-made.ensures.0)
 
 pub loop-j-preserved : goal.loop-j-preserved
 loop-j-preserved c =

@@ -19,7 +19,7 @@ returns-in_err-made c =
     let gone = err_from_is_err_and c.from_residual-in_err-made.result c.from_residual-in_err-made.ensures.1 in
     rw (gone.1, gone.2)
     (alone_refused args.ida args.idb args.a args.b args.pair _ (kept_read args.pair _ seven) c.requires _ refl _
-    c.in_err-made.ensures (no_acceptance _)
+    c.in_err-made.ensures.0 (no_acceptance _)
     ∙ test_run _ _ args.a args.b args.pair c.in_ok-check_test.ensures)
 
 pub returns : goal.returns
@@ -28,5 +28,5 @@ returns c =
     let seven = c.well_formed.1.1.1.1.0.1.1.0.1.0.1 in
     let made = c.in_ok-made.ensures in
     alone_answered args.ida args.idb args.a args.b args.pair _ (kept_read args.pair _ seven) c.requires _ refl _ _
-    made.0 made.1 made.2 (omega (arith, seven))
+    made.0 made.1.0 made.1.1 (omega (arith, seven))
     ∙ test_run _ _ args.a args.b args.pair c.in_ok-check_test.ensures
